@@ -1,0 +1,15 @@
+-- Log entries (types.rs). Assumes nothing.
+use mathlib.Core.List.{List}
+use Prim.Native.Nat.{ℕ}
+use Rattle.units.specs.declared.Term.{Term}
+
+-- The contents of a log entry: nothing, or a client command's bytes.
+pub data Payload : Type 0 where
+  noop : Payload
+  command : List ℕ → Payload
+
+-- One entry of the log.
+pub record Entry : Type 0 where
+  -- the term in which the entry was made
+  pub term : Term
+  pub payload : Payload
