@@ -27,13 +27,13 @@ pub struct DrawnBelow {
     pub next: Rng,
 }
 
-// Two to the 32: what a number's halves of 32 bits are counted in.
+// Two to the 32: a number is its high half times this, plus its low half.
 const HALF: u64 = 0x1_0000_0000;
 
 // A product of 128 bits, in two parts of 64 bits.
-pub struct Wide {
-    pub high: u64,
-    pub low: u64,
+struct Wide {
+    high: u64,
+    low: u64,
 }
 
 // The product of two halves, which fits 64 bits.
