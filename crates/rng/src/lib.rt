@@ -27,13 +27,13 @@ pub struct DrawnBelow {
     pub next: Rng,
 }
 
-// Two to the 32: what a number's halves of 32 bits are counted in.
+// Two to the 32: a number is its high half times this, plus its low half.
 const HALF: u64 = 0x1_0000_0000;
 
 // A product of 128 bits, in two parts of 64 bits.
-pub struct Wide {
-    pub high: u64,
-    pub low: u64,
+struct Wide {
+    high: u64,
+    low: u64,
 }
 
 // The product of two halves, which fits 64 bits.
@@ -71,15 +71,6 @@ pub fn high_product(a: u64, b: u64) -> u64
     ensures { λ r. ⌜ r ≡ (a * b) / 2 ^ 64 ⌝ }
 {
     product(a, b).high
-}
-
-impl Rng {
-    // The generator of a seed.
-    pub fn new(seed: u64) -> Rng
-        ensures { λ r. ⌜ r ≡ new seed ⌝ }
-    {
-        Rng { state: seed }
-    }
 }
 
 // The next 64 random bits, and the generator after the draw.
@@ -123,5 +114,32 @@ pub fn drawn_below(g: Rng, bound: u64) -> DrawnBelow
     DrawnBelow {
         value: Bounded::Value(draw.value),
         next,
+    }
+}
+
+impl Rng {
+    // The generator of a seed.
+    pub fn new(seed: u64) -> Rng
+        ensures { λ r. ⌜ r ≡ new seed ⌝ }
+    {
+        Rng { state: seed }
+    }
+
+    // The next 64 random bits.
+    pub fn next_u64(&mut self) -> u64
+        ensures { λ r. ⌜ (r ≡ nextU64 (now (self .entry)) .value) × (now (self .exit) ≡ nextU64 (now (self .entry)) .next) ⌝ }
+    {
+        let draw = drawn_u64(*self);
+        *self = draw.next;
+        draw.value
+    }
+
+    // A number below a bound; no number, and the generator as it was, where the bound is zero.
+    pub fn below(&mut self, bound: u64) -> Bounded
+        ensures { λ r. ⌜ (r ≡ below (now (self .entry)) bound .value) × (now (self .exit) ≡ below (now (self .entry)) bound .next) ⌝ }
+    {
+        let draw = drawn_below(*self, bound);
+        *self = draw.next;
+        draw.value
     }
 }

@@ -21,7 +21,7 @@ pub enum Stream {
 }
 
 impl Stream {
-    // The number of a stream, by which its seed differs from the others.
+    // A stream's number, from which its seed is made.
     pub fn tag(self) -> u64
         ensures { λ r. ⌜ r ≡ tag self ⌝ }
     {
@@ -38,17 +38,17 @@ impl Stream {
     }
 }
 
-// The seed of a stream in a simulation of a seed.
+// The seed of a stream in a simulation seeded with `seed`.
 pub fn stream_seed(seed: u64, stream: Stream) -> u64
     ensures { λ r. ⌜ r ≡ streamSeed seed stream ⌝ }
 {
     let base = rng::drawn_u64(Rng::new(seed));
-    let tag = rng::wrapping_mul(stream.tag(), 0x9E37_79B9_7F4A_7C15);
-    let draw = rng::drawn_u64(Rng::new(base.value ^ tag));
+    let product = rng::wrapping_mul(stream.tag(), 0x9E37_79B9_7F4A_7C15);
+    let draw = rng::drawn_u64(Rng::new(base.value ^ product));
     draw.value
 }
 
-// The generator of a stream in a simulation of a seed.
+// The generator of a stream in a simulation seeded with `seed`.
 pub fn stream_rng(seed: u64, stream: Stream) -> Rng
     ensures { λ r. ⌜ r ≡ streamRng seed stream ⌝ }
 {
