@@ -1,0 +1,1 @@
+// Codes, spots and tables.
