@@ -5,3 +5,4 @@ pub mod Rows
 pub mod TableLaws
 pub mod Order
 pub mod Sorted
+pub mod RowLaws

@@ -1,2 +1,2 @@
-// Codes, spots and tables: how values lie in 64-bit words (specs/), and the moves of a table of rows of w words.
-pub mod rows;
+// How values lie in 64-bit words: codes, spots and tables (specs/), and the moves of a table that are the same for every row type.
+pub mod rows; // a table of n rows of w words: places, moves, order
