@@ -6,3 +6,4 @@ pub mod TableLaws
 pub mod Order
 pub mod Sorted
 pub mod RowLaws
+pub mod Spot
