@@ -7,3 +7,6 @@ pub mod Order
 pub mod Sorted
 pub mod RowLaws
 pub mod Spot
+pub mod SortedTables
+pub mod Keys
+pub mod KeyLaws

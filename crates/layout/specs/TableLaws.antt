@@ -11,7 +11,7 @@ use lib.Dec.{eqb, leb}
 use lib.ListN.{length, getD, set, take, drop, length-append, length-drop, length-set, length-replicate, replicate-append-replicate, List·getD-append}
 use lib.Seq.{sets, length-sets, take-all, drop-drop, getD-drop}
 use borrow.Author.Tests.{eqb-true, eq-eqb, leb-true, le-leb, not-true, not-false}
-use Rattle.laws.specs.Bools.{_and_, and-left, and-right, and-both, and-no, no-and, every, every-append, every-get, every-set}
+use Rattle.laws.specs.Bools.{_and_, and-left, and-right, and-both, true-and, no-and, every, every-append, every-get, every-set}
 use Rattle.laws.specs.Decides.{Decides, fails, false-true}
 use Rattle.words.specs.Words.{bytes, W, allz, Bytes}
 use Rattle.words.specs.Sets.{sets-at, part-at}
@@ -266,4 +266,40 @@ module _ {T : Type 0} (t : Table T) (n : ℕ) (b : List ℕ) (B : Bytes b) where
     no = λ y k. false-true (sym y ∙ e″ ∙ is-ruled k);
   }
 
-pub ruleset checks = (check-padding, check-rows, check-rule)
+-- what `padding` shows where it says yes
+pub padding-room : (w n : ℕ) (b : List ℕ) (p : Bool) → p ≡ padded w n b → not p ≡ false → 8 * (n * w) ≤ length b
+unfolding padded
+padding-room w n b p e f =
+    let l : n * w ≤ length b / 8 = leb-true _ _ (and-left _ _ (and-right _ _ (sym e ∙ not-false p f))) in
+    omega arith
+
+pub ruleset checks = (check-padding, check-rows, check-rule, padding-room)
+
+-- ---- the loop over the rows' own tests: those before row i say yes
+
+pub record Rowed {T : Type 0} (c : Code T) (n : ℕ) (ws : List ℕ) (i : ℕ) : Type 0 where
+  pub is : okN c n ws ≡ okN c (n - i) (drop (i * c .size) ws)
+  pub upto : i ≤ n
+
+module _ {T : Type 0} (c : Code T) (n : ℕ) (ws : List ℕ) where
+  pub rowed-start : Rowed c n ws 0
+  rowed-start =
+      let e : n - 0 ≡ n = omega arith in
+      record { is = sym (ap₂ (λ (m : ℕ) (k : ℕ). okN c m (drop k ws)) e (zero-mul (c .size))); upto = omega arith }
+
+  module _ (i : ℕ) (r : Rowed c n ws i) (h : i < n) where
+    row-split : okN c n ws ≡ (c .ok (drop (i * c .size) ws) and okN c (n - (i + 1)) (drop ((i + 1) * c .size) ws))
+    row-split =
+        let e : n - i ≡ suc (n - (i + 1)) = omega arith in
+        let s : i * c .size + c .size ≡ (i + 1) * c .size = sym (ap (λ (m : ℕ). m * c .size) (add-one i) ∙ suc-mul i (c .size)) in
+        r .is ∙ ap (λ (m : ℕ). okN c m (drop (i * c .size) ws)) e
+        ∙ ap (λ (l : List ℕ). c .ok (drop (i * c .size) ws) and okN c (n - (i + 1)) l) (drop-drop (c .size) (i * c .size) ws ∙ ap (λ (m : ℕ). drop m ws) s)
+
+    pub rowed-turn : c .ok (drop (i * c .size) ws) ≡ true → Rowed c n ws (i + 1)
+    rowed-turn t = record { is = row-split ∙ ap (λ (b : Bool). b and okN c (n - (i + 1)) (drop ((i + 1) * c .size) ws)) t ∙ true-and _; upto = omega arith }
+
+    pub rowed-fail : c .ok (drop (i * c .size) ws) ≡ false → false ≡ okN c n ws
+    rowed-fail t = sym (row-split ∙ no-and _ _ t)
+
+  pub rowed-done : (i : ℕ) → Rowed c n ws i → n ≤ i → true ≡ okN c n ws
+  rowed-done i r h = sym (r .is ∙ ap (λ (m : ℕ). okN c m (drop (i * c .size) ws)) (let e : n - i ≡ 0 = omega arith in e))
