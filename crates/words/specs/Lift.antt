@@ -84,6 +84,14 @@ sets-bytes ws r vs i h =
     ∙ ap (λ (l : List ℕ). l ++ r) (bytes-append p (vs ++ q) ∙ ap (λ (l : List ℕ). bytes p ++ l) (bytes-append vs q))
     ∙ append-assoc (bytes p) (bytes vs ++ bytes q) r ∙ ap (λ (l : List ℕ). bytes p ++ l) (append-assoc (bytes vs) (bytes q) r))
 
+-- the same of an area of whole words
+pub part-whole : (ws : List ℕ) (i n : ℕ) → i + n ≤ length ws → take (8 * n) (drop (8 * i) (bytes ws)) ≡ bytes (take n (drop i ws))
+part-whole ws i n h = ap (λ (l : List ℕ). take (8 * n) (drop (8 * i) l)) (sym (append-nil (bytes ws))) ∙ part-bytes ws [] i n h
+
+pub sets-whole : (ws vs : List ℕ) (i : ℕ) → i + length vs ≤ length ws → sets (bytes ws) (8 * i) (bytes vs) ≡ bytes (sets ws i vs)
+sets-whole ws vs i h =
+    ap (λ (l : List ℕ). sets l (8 * i) (bytes vs)) (sym (append-nil (bytes ws))) ∙ sets-bytes ws [] vs i h ∙ append-nil (bytes (sets ws i vs))
+
 -- one word that is written
 pub set-bytes : (ws r : List ℕ) (i v : ℕ) → i < length ws → sets (bytes ws ++ r) (8 * i) (bytesOf 8 v) ≡ bytes (set ws i v) ++ r
 set-bytes ws r i v h = ap (sets (bytes ws ++ r) (8 * i)) (sym (bytes-one v)) ∙ sets-bytes ws r (v ∷ []) i (omega arith)

@@ -4,21 +4,22 @@ use mathlib.Core.List.{List, [], _∷_, _++_}
 use Prim.Native.Nat.{ℕ, zero, suc, _+_, _*_, _/_, _%_, _^_, _≤_, _<_}
 use native.Mathlib.Nat.{pow-zero, pow-suc, mul-assoc, mul-comm, one-mul, add-zero, zero-add, suc-add, div-one, div-div-eq-div-mul}
 use native.Mathlib.Omega.{arith}
-use lib.ListN.{length, getD, take, drop, length-drop, List·getD-eq-default}
+use lib.ListN.{length, getD, take, drop, replicate, length-drop}
+use lib.Pow.{pow-pos}
 use lib.Seq.{take-add, drop-drop, length-take-le, drop-cons, getD-drop, sets}
 use mir.Syntax.{Width, w64}
-use mir.Val.{Fits}
+use mir.Val.{Fits, bits}
 use Rattle.words.specs.Words.{le, bytesOf, leAt, Each, Bytes}
 use Rattle.words.specs.Sets.{part-at, length-part, part-sets, part-sets-below, part-sets-above, sets-append}
 
 -- ---- lists whose elements fit a width
 
 module _ {w : Width} where
-  zero-fits : (l : List ℕ) → Each w l → Fits w 0
-  zero-fits l h = subst (Fits w) (List·getD-eq-default l 0 {n = length l} (omega arith)) (h (length l))
+  zero-fits : Fits w 0
+  zero-fits = record { fits = pow-pos (bits w) }
 
   pub each-take : (n : ℕ) (l : List ℕ) → Each w l → Each w (take n l)
-  each-take zero l h k = zero-fits l h
+  each-take zero l h k = zero-fits
   each-take (suc n) [] h k = h k
   each-take (suc n) (x ∷ l) h zero = h zero
   each-take (suc n) (x ∷ l) h (suc k) = each-take n l (λ j. h (suc j)) k
@@ -32,13 +33,18 @@ module _ {w : Width} where
   each-append (x ∷ a) b f g (suc k) = each-append a b (λ j. f (suc j)) g k
 
   pub each-left : (a b : List ℕ) → Each w (a ++ b) → Each w a
-  each-left [] b h k = zero-fits b h
+  each-left [] b h k = zero-fits
   each-left (x ∷ a) b h zero = h zero
   each-left (x ∷ a) b h (suc k) = each-left a b (λ j. h (suc j)) k
 
   pub each-right : (a b : List ℕ) → Each w (a ++ b) → Each w b
   each-right [] b h k = h k
   each-right (x ∷ a) b h k = each-right a b (λ j. h (suc j)) k
+
+  pub each-zeros : (n : ℕ) → Each w (replicate n 0)
+  each-zeros zero k = zero-fits
+  each-zeros (suc n) zero = zero-fits
+  each-zeros (suc n) (suc k) = each-zeros n k
 
 -- ---- the round trips
 

@@ -1,0 +1,12 @@
+pub mod Code
+pub mod Tables
+pub mod Contents
+pub mod Rows
+pub mod TableLaws
+pub mod Order
+pub mod Sorted
+pub mod RowLaws
+pub mod Spot
+pub mod SortedTables
+pub mod Keys
+pub mod KeyLaws
