@@ -1,2 +1,4 @@
 pub mod Bools
 pub mod Decides
+pub mod Lists
+pub mod Order
