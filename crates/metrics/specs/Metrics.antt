@@ -1,22 +1,26 @@
 -- Measurements (metrics.rs), over numbers without limit. Assumes nothing.
-use mathlib.Core.List.{List, [], _∷_}
-use Prim.Native.Nat.{ℕ, _+_, _-_}
+use mathlib.Core.Bool.{Bool, true, false}
+use Prim.Native.Nat.{ℕ, _+_, _-_, _^_}
+use lib.Dec.{ltb}
 use lib.ListN.{getD, replicate}
+use Rattle.laws.specs.Bools.{pick, every, _and_}
 use Rattle.laws.specs.Lists.{modify}
 use Rattle.units.specs.declared.NodeId.{NodeId}
 use Rattle.metrics.specs.declared.Counts.{Counts}
 use Rattle.metrics.specs.declared.Metrics.{Metrics}
+use Rattle.metrics.specs.declared.Counted.{Counted}
 
+-- Nothing counted (Counts::default).
 abbrev pub noCounts : Counts
 noCounts = record { messages = 0; bytes = 0; entries = 0 }
 
--- Nothing counted yet.
+-- Nothing counted yet (Metrics::default).
 abbrev pub noMetrics : Metrics
 noMetrics =
     record { sent = noCounts; «by_sender» = replicate 8 noCounts; «entries_to_leaders» = 0; fsyncs = 0; «storage_bytes» = 0; «client_replies» = 0 }
 
 -- One message more (Counts::add).
-abbrev pub add : ℕ → ℕ → Counts → Counts
+unfoldable pub add : ℕ → ℕ → Counts → Counts
 add bytes entries c = record { messages = c .messages + 1; bytes = c .bytes + bytes; entries = c .entries + entries }
 
 -- One message sent by a server, in total and by sender (record_send).
@@ -70,3 +74,25 @@ recordReply m =
       «storage_bytes» = m .«storage_bytes»;
       «client_replies» = m .«client_replies» + 1;
     }
+
+-- Whether a server's or the cluster's totals fit 64 bits.
+unfoldable pub countsFit : Counts → Bool
+countsFit c = ltb (c .messages) (2 ^ 64) and ltb (c .bytes) (2 ^ 64) and ltb (c .entries) (2 ^ 64)
+
+-- Whether every counter fits 64 bits.
+unfoldable pub metricsFit : Metrics → Bool
+metricsFit m =
+    countsFit (m .sent)
+    and every countsFit (m .«by_sender»)
+    and ltb (m .«entries_to_leaders») (2 ^ 64)
+    and ltb (m .fsyncs) (2 ^ 64)
+    and ltb (m .«storage_bytes») (2 ^ 64)
+    and ltb (m .«client_replies») (2 ^ 64)
+
+-- What counting answers: the next metrics if every counter fits, else those before.
+unfoldable pub counted : Metrics → Metrics → Counted
+counted m next = pick (metricsFit next) (record { fits = true; metrics = next }) (record { fits = false; metrics = m })
+
+-- Document 01's number for what counting answers: 0 where every counter fits, else question 10's.
+abbrev pub number : Counted → ℕ
+number c = pick (c .fits) 0 10
