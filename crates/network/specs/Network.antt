@@ -1,22 +1,23 @@
 -- The simulated network (network.rs). Assumes nothing.
 use mathlib.Core.Bool.{Bool, true, false, not, _&&_, _||_}
 use mathlib.Core.List.{List, [], _∷_}
-use Prim.Native.Nat.{ℕ, zero, suc, _+_, _-_, _*_, _/_, _%_, _^_, max}
-use lib.Dec.{ltb, eqb}
-use lib.ListN.{getD, set, replicate}
-use Rattle.laws.specs.Bools.{pick}
+use mathlib.Core.Path.{_≡_}
+use Prim.Native.Nat.{ℕ, zero, suc, _+_, _-_, _*_, _/_, _%_, _^_, _≤_, max}
+use lib.Dec.{leb, ltb, eqb}
+use lib.ListN.{length, getD, set, replicate}
+use Rattle.laws.specs.Bools.{pick, _and_}
 use Rattle.laws.specs.Lists.{listFrom}
 use Rattle.units.specs.declared.NodeId.{NodeId}
 use Rattle.units.specs.declared.Duration.{Duration}
 use Rattle.rng.specs.Rng.{under}
 use Rattle.rng.specs.declared.Rng.{Rng}
 use Rattle.network.specs.declared.Network.{Network}
-use Rattle.network.specs.declared.Duplicate.{Duplicate}
 use Rattle.network.specs.declared.Duplicate.the-variants.{None, After}
 use Rattle.network.specs.declared.Route.{Route}
 use Rattle.network.specs.declared.Route.the-variants.{Dropped, Delivered}
 use Rattle.network.specs.declared.Routed.{Routed}
 use Rattle.network.specs.declared.Delayed.{Delayed}
+use Rattle.network.specs.declared.Chance.{Chance}
 
 -- The denominator of probabilities in parts per million (PPM).
 abbrev pub ppm : ℕ
@@ -73,12 +74,7 @@ delay n =
     let sample = under (n .rng) (d + 1) in
     record { delay = record { 0 = (d / 2 + sample .value) * n .«delay_factor» }; network = withRng n (sample .next) }
 
--- Whether something of a probability happens, the draws that this took, and the network after them (chance): a rate of 0 draws nothing.
-pub record Chance : Type 0 where
-  pub happens : Bool
-  pub draws : ℕ
-  pub network : Network
-
+-- Whether something of a probability happens (chance): a rate of 0 draws nothing.
 unfoldable pub chance : Network → ℕ → Chance
 chance n rate =
     let sample = under (n .rng) ppm in
@@ -87,7 +83,7 @@ chance n rate =
     (record { happens = ltb (sample .value) rate; draws = 1; network = withRng n (sample .next) })
 
 -- The place of a link among the blocked ones.
-abbrev pub link : NodeId → NodeId → ℕ
+unfoldable pub link : NodeId → NodeId → ℕ
 link from to = 8 * (from .0 - 1) + (to .0 - 1)
 
 -- A delivered message: its delay, then perhaps a second copy with its own, after the draws so far.
@@ -119,9 +115,13 @@ unfoldable pub some : ℕ → ℕ → (ℕ → Bool) → Bool
 some i zero f = false
 some i (suc n) f = f i || some (suc i) n f
 
+-- Whether server s is in a group other than group i.
+unfoldable pub elsewhere : ℕ → ℕ → ℕ → Bool
+elsewhere groups i s = some 0 8 (λ j. not (eqb i j) && inGroup groups j s)
+
 -- Whether servers a and b are in different groups of a partition; so is a server from itself, if it is in two.
 unfoldable pub separated : ℕ → ℕ → ℕ → Bool
-separated groups a b = some 0 8 (λ i. inGroup groups i a && some 0 8 (λ j. not (eqb i j) && inGroup groups j b))
+separated groups a b = some 0 8 (λ i. inGroup groups i a && elsewhere groups i b)
 
 -- Every link between servers in different groups blocked, in both directions (partition).
 unfoldable pub partition : Network → ℕ → Network
@@ -152,3 +152,37 @@ setDelayFactor n factor = withRates n (n .«loss_ppm») (n .«duplicate_ppm») (
 -- Links, rates and factor without faults (simulation.rs, HealAll).
 abbrev pub healAll : Network → Network
 healAll n = withRates (healLinks n) 0 0 1
+
+-- Whether every field is in its range: document 01's limits, and 64 links.
+unfoldable pub networkInRange : Network → Bool
+networkInRange n =
+    leb (n .«base_delay» .0) (2 ^ 40)
+    and ltb (n .«loss_ppm») (2 ^ 32)
+    and ltb (n .«duplicate_ppm») (2 ^ 32)
+    and leb (n .«delay_factor») 65_536
+    and eqb (length (n .blocked)) 64
+
+-- The number of ordered pairs of servers whose link is blocked.
+unfoldable pub countTrue : List Bool → ℕ
+countTrue [] = 0
+countTrue (b ∷ bs) = pick b 1 0 + countTrue bs
+
+abbrev pub blockedPairs : Network → ℕ
+blockedPairs n = countTrue (n .blocked)
+
+-- The limits under which no delay overflows.
+pub record Limits (n : Network) : Type 0 where
+  pub base : n .«base_delay» .0 ≤ 2 ^ 40
+  pub factor : n .«delay_factor» ≤ 65_536
+
+-- Whether the delays of a route are below 2 ^ 57 nanoseconds.
+abbrev pub delaysBelow : Route → Bool
+delaysBelow Dropped = true
+delaysBelow (Delivered d None) = ltb (d .0) (2 ^ 57)
+delaysBelow (Delivered d (After e)) = ltb (d .0) (2 ^ 57) and ltb (e .0) (2 ^ 57)
+
+-- The bounds of a route for its caller.
+pub record Bounds (r : Routed) : Type 0 where
+  pub few : r .draws ≤ 4
+  pub below : delaysBelow (r .route) ≡ true
+  pub limits : Limits (r .network)
