@@ -89,18 +89,17 @@ pub record Book : Type 0 where
 abbrev pub fresh : ℕ → Book
 fresh indexes = record { lastIndex = indexes; found = λ _. empty; waiting = []; input = notOpen; server = record { 0 = 0 }; given = [] }
 
--- The book with an input of a server opened.
+-- The book with an input of a server opened, and with none open.
 abbrev pub openInput : Book → NodeId → Book
 openInput b server =
-    record { lastIndex = b .lastIndex; found = b .found; waiting = []; input = unsealed; server = server; given = b .given }
+    record { lastIndex = b .lastIndex; found = b .found; waiting = b .waiting; input = unsealed; server = server; given = b .given }
 
--- The book with no input open.
 abbrev pub noneOpen : Book → Book
-noneOpen b = record { lastIndex = b .lastIndex; found = b .found; waiting = []; input = notOpen; server = b .server; given = b .given }
+noneOpen b = record { lastIndex = b .lastIndex; found = b .found; waiting = b .waiting; input = notOpen; server = b .server; given = b .given }
 
--- What an opening tells: whose input it is, or that none is open.
+-- What an opening tells: whose input it is; with none opened nothing changes.
 abbrev pub tellOpening : Book → Opening → Book
-tellOpening b noInput = noneOpen b
+tellOpening b noInput = b
 tellOpening b (openStart server incarnation seed) = openInput b server
 tellOpening b (openMessage server sender entries bytes) = openInput b server
 tellOpening b (openTimer server timer) = openInput b server
@@ -124,12 +123,16 @@ finishInput b =
       given = b .given;
     }
 
--- A seal that syncs, or has nothing to sync, finishes the input; one that cuts strikes it, its writes are dropped, and the next start may open.
+-- The waiting writes dropped: the input is struck, and none is open.
+abbrev pub strikeInput : Book → Book
+strikeInput b = record { lastIndex = b .lastIndex; found = b .found; waiting = []; input = notOpen; server = b .server; given = b .given }
+
+-- A seal that syncs, or has nothing to sync, finishes the input; one that cuts strikes it, and the next start may open.
 abbrev pub tellSeal : Book → Option Sealing → Opening → Book
 tellSeal b none next = b
 tellSeal b (some synced) next = finishInput b
 tellSeal b (some nothingToSync) next = finishInput b
-tellSeal b (some cut) next = tellOpening b next
+tellSeal b (some cut) next = tellOpening (strikeInput b) next
 
 -- The write of a call's arguments.
 abbrev pub writeOf : WriteCall → Write
@@ -196,7 +199,7 @@ enter b (schedule time kind first second groups) next how = b
 enter b (write w) next how = wait b (writeOf w)
 enter b (calls.seal refusal present leader) next how = tellSeal b how next
 enter b (output o) next how = give b o
-enter b (end role term present leader commit) next how = tellOpening b next
+enter b (end role term present leader commit) next how = tellOpening (noneOpen b) next
 enter b checkLogMatching next how = b
 enter b checkDurability next how = b
 enter b (read r) next how = b
@@ -232,6 +235,8 @@ abbrev pub RightRead : Book → ReadCall → Answer → Type 0
 RightRead b (readHardState server) a = (h : HardState) → a ≡ got (gotHardState h) → Unwritten b server → h ≡ b .found (record { 0 = server }) .hardState
 RightRead b (readLog server) a = (l : LogRead) → a ≡ got (gotLog l) → Unwritten b server → l .entries ≡ countUpTo (b .lastIndex) (b .found (record { 0 = server }) .log)
 RightRead b (readEntry server index buffer) a = (e : Option Entry) → a ≡ got (gotEntry e) → Unwritten b server → e ≡ b .found (record { 0 = server }) .log index
+RightRead b (readApplied server) a =
+    (n : ℕ) → a ≡ got (gotApplied (suc n)) → (p : Payload) × List·Memᴰ (wasApplied (record { 0 = server }) (record { 0 = suc n }) p) (b .given)
 RightRead b (readAppliedEntry index buffer) a =
     (p : Payload) → a ≡ got (gotAppliedEntry (some p)) → (server : NodeId) × List·Memᴰ (wasApplied server (record { 0 = index }) p) (b .given)
 RightRead b (readReply place) a = (r : Reply) → a ≡ got (gotReply (some r)) → KeyApplied (b .given) (r .client) (r .seq) (r .index)
@@ -239,7 +244,6 @@ RightRead b (readConfirmation place) a =
     (r : Confirmation) → a ≡ got (gotConfirmation (some r)) → (server : NodeId) × List·Memᴰ (answered server (r .request) (r .readIndex)) (b .given)
 RightRead b (readStatus server) a = Unit {0}
 RightRead b readLeader a = Unit {0}
-RightRead b (readApplied server) a = Unit {0}
 RightRead b readMetrics a = Unit {0}
 RightRead b (readSentBy server) a = Unit {0}
 RightRead b (readViolation place) a = Unit {0}
