@@ -6,3 +6,5 @@ pub mod Handed
 pub mod Holds
 pub mod Checked
 pub mod Clients
+pub mod Moves
+pub mod Inputs
