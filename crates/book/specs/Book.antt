@@ -25,7 +25,7 @@ use Rattle.model.specs.Simulation.{Opening, noInput, openStart, openMessage, op
 use Rattle.model.specs.Calls.{nodeOption, payloadOf, timerOf, Asked, Sealing, synced, nothingToSync, cut}
 use Rattle.model.specs.Calls as model
 use Rattle.model.specs.Reads.{LogRead}
-use Rattle.book.specs.Calls.{WriteCall, OutputCall, send, setTimer, cancelTimer, apply, confirmed, lost, ReadCall, readStatus, readHardState, readLog, readEntry, readLeader, readApplied, readAppliedEntry, readMetrics, readSentBy, readReply, readConfirmation, readViolation, readRun, Call, start, step, propose, fireTimer, confirmLeadership, schedule, write, seal, output, end, checkLogMatching, checkDurability, read, Answer, no, acted, opened, stepped, asked, sealed, got, gotStatus, gotHardState, gotLog, gotEntry, gotLeader, gotApplied, gotAppliedEntry, gotMetrics, gotSentBy, gotReply, gotConfirmation, gotViolation, gotRun}
+use Rattle.book.specs.Calls.{WriteCall, OutputCall, send, setTimer, cancelTimer, apply, confirmed, lost, ReadCall, readStatus, readHardState, readLog, readEntry, readLeader, readApplied, readAppliedEntry, readMetrics, readSentBy, readReply, readConfirmation, readViolation, readRun, Call, start, step, propose, fireTimer, confirmLeadership, schedule, write, seal, output, end, checkLogMatching, checkDurability, read, Answer, no, acted, opened, stepped, asked, sealed, got, gotHardState, gotLog, gotEntry, gotApplied, gotAppliedEntry, gotReply, gotConfirmation}
 use Rattle.book.specs.Calls as calls
 
 -- ---- what a server finds
@@ -208,7 +208,7 @@ enter b (read r) next how = b
 unfoldable pub note : Book → Call → Answer → Book
 note b c a = pick (accepted a) (enter b c (openingOf a) (sealingOf a)) b
 
--- ---- the claim
+-- ---- the claim: (a) what a server finds when it starts, (b) when outputs come, (c) what a step or a read hands back
 
 -- No write of a server waits. So it is when a server starts, first or again, up to its first write.
 abbrev pub Unwritten : Book → ℕ → Type 0
@@ -230,7 +230,7 @@ pub record KeyApplied (given : List Given) (client seq : ℕ) (index : LogIndex)
   pub key : decode bytes ≡ Key (record { client = client; seq = seq })
   pub handed : List·Memᴰ (wasApplied server index (command bytes)) given
 
--- What the answer of a read must be: (a) of a server whose writes are done, the book's; and (c).
+-- What the answer of an accepted read must be: (a) of a server of which no write waits, the book's; (c) what was handed over, in every field that both carry.
 abbrev pub RightRead : Book → ReadCall → Answer → Type 0
 RightRead b (readHardState server) a = (h : HardState) → a ≡ got (gotHardState h) → Unwritten b server → h ≡ b .found (record { 0 = server }) .hardState
 RightRead b (readLog server) a = (l : LogRead) → a ≡ got (gotLog l) → Unwritten b server → l .entries ≡ countUpTo (b .lastIndex) (b .found (record { 0 = server }) .log)
@@ -249,10 +249,10 @@ RightRead b (readSentBy server) a = Unit {0}
 RightRead b (readViolation place) a = Unit {0}
 RightRead b readRun a = Unit {0}
 
--- What the answer of a call must be: (b) an accepted output comes while a synced input is open; (c) what a step hands back.
+-- What the answer of an accepted call must be: (b) an output comes while a synced input is open; (c) what a step hands back was handed over.
 abbrev pub Right : Book → Call → Answer → Type 0
 Right b (step deadline buffer) a = HandedOver (b .given) (openingOf a)
-Right b (output o) a = accepted a ≡ true → b .input ≡ sealedBySync
+Right b (output o) a = b .input ≡ sealedBySync
 Right b (read r) a = RightRead b r a
 Right b (start config limits seed) a = Unit {0}
 Right b (propose server) a = Unit {0}
@@ -265,7 +265,7 @@ Right b (end role term present leader commit) a = Unit {0}
 Right b checkLogMatching a = Unit {0}
 Right b checkDurability a = Unit {0}
 
--- Every answer of a list of calls is right by the book as it stands then.
+-- Every accepted call of a list is right by the book as it stands then.
 unfoldable pub Kept : Book → List (Call × Answer) → Type 0
 Kept b [] = Unit {0}
-Kept b (x ∷ xs) = Right b (x .0) (x .1) × Kept (note b (x .0) (x .1)) xs
+Kept b (x ∷ xs) = (accepted (x .1) ≡ true → Right b (x .0) (x .1)) × Kept (note b (x .0) (x .1)) xs

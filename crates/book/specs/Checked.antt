@@ -1,13 +1,13 @@
 -- The first payload applied at each index: every check but that of an applied entry leaves them as they are. Assumes nothing.
-use mathlib.Core.Path.{_≡_, refl, sym, ap, subst, _∙_}
+use mathlib.Core.Path.{_≡_, refl, _∙_}
 use mathlib.Core.Bool.{Bool, true, false, not, _&&_}
-use mathlib.Core.List.{List, [], _∷_, _++_}
+use mathlib.Core.List.{List, [], _∷_}
 use mathlib.Core.Option.{Option, none, some}
 use Prim.Native.Nat.{ℕ, zero, suc, _-_}
 use lib.Dec.{ltb, eqb}
 use lib.ListN.{length}
 use borrow.Author.Tests.{eqb-true}
-use Rattle.laws.specs.Bools.{pick, cases}
+use Rattle.laws.specs.Bools.{cases}
 use Rattle.laws.specs.Lists.{at}
 use Rattle.laws.specs.Order.{find}
 use Rattle.laws.specs.ListLaws.{Each, each-snoc}
@@ -19,7 +19,7 @@ use Rattle.units.specs.declared.SimTime.{SimTime}
 use Rattle.protocol.specs.Numbers.{leads}
 use Rattle.protocol.specs.declared.Status.{Status}
 use Rattle.log.specs.Log.{Log, entryAt}
-use Rattle.checks.specs.Checks.{Checker, report, reportIf, compareApplied, recordApplied, onApply, Seen, compareSeen, writtenEntry, onWrite, onWrites, compareLeader, firstMissing, reportMissing, checkLeaderCompleteness, Led, onStatus, alreadyLeads, leaderKey, seenKey, Mismatch, reportMismatch, logMatchingFailure, ServerLog, checkAgainst, checkLogMatching, Acknowledged, AppliedUpTo, checkAcknowledged, highestOf, checkAppliedUpTo, checkDurability, isPayload}
+use Rattle.checks.specs.Checks.{Checker, report, reportIf, compareApplied, recordApplied, onApply, Seen, compareSeen, writtenEntry, onWrite, onWrites, compareLeader, firstMissing, reportMissing, checkLeaderCompleteness, onStatus, alreadyLeads, leaderKey, seenKey, Mismatch, reportMismatch, logMatchingFailure, ServerLog, checkAgainst, checkLogMatching, Acknowledged, AppliedUpTo, checkAcknowledged, highestOf, checkAppliedUpTo, checkDurability, isPayload}
 use Rattle.checks.specs.declared.Check.{Check}
 use Rattle.checks.specs.declared.Check.the-variants.{StateMachineSafety, ApplyOrder, Durability}
 use Rattle.checks.specs.declared.TermLeader.{TermLeader}

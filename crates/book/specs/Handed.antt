@@ -1,6 +1,6 @@
 -- What a state keeps to hand back later, each backed by an output call, and still so as more is handed over. Assumes nothing.
 use mathlib.Core.Path.{_≡_}
-use mathlib.Core.List.{List, [], _∷_, List·Memᴰ, List·Memᴰ·tail}
+use mathlib.Core.List.{List, _∷_, List·Memᴰ, List·Memᴰ·tail}
 use Prim.Native.Nat.{ℕ, suc, _≤_}
 use Rattle.units.specs.Types.{Payload}
 use Rattle.units.specs.declared.NodeId.{NodeId}

@@ -1,12 +1,11 @@
 -- What holds of a state and the book, whatever the phase: each server's storage is as the book says, and what is kept to be handed back was handed over.
 -- It is kept by every change of a part of the state. Assumes nothing.
-use mathlib.Core.Path.{_≡_, refl, sym, ap, subst, _∙_, fun-ext}
+use mathlib.Core.Path.{_≡_, refl, fun-ext}
 use mathlib.Core.Bool.{Bool, true, false}
-use mathlib.Core.List.{List, [], _∷_, _++_, List·Memᴰ, List·Memᴰ·tail}
+use mathlib.Core.List.{List, [], _∷_, _++_, List·Memᴰ·tail}
 use Prim.Native.Nat.{ℕ, suc}
 use lib.Dec.{eqb}
 use borrow.Author.Tests.{eq-eqb, ne-eqb}
-use lib.ListN.{length}
 use Rattle.laws.specs.Bools.{pick}
 use Rattle.laws.specs.Lists.{modify}
 use Rattle.laws.specs.ListLaws.{Each, each-map, each-snoc, each-modify, each-insert}
@@ -15,12 +14,9 @@ use Rattle.units.specs.declared.NodeId.{NodeId}
 use Rattle.units.specs.declared.SimTime.{SimTime}
 use Rattle.config.specs.declared.Limits.{Limits}
 use Rattle.storage.specs.Storage.{Write, Storage}
-use Rattle.queue.specs.Queue.{Queue, Scheduled, timeOf, push}
+use Rattle.queue.specs.Queue.{Queue, timeOf, push}
 use Rattle.queue.specs.declared.Event.{Event}
-use Rattle.checks.specs.Checks.{Checker}
 use Rattle.model.specs.State.{State, Server, Reply, Confirmation, idOf}
-use Rattle.model.specs.Fields.{withQueue, withServers, withChecker, withReplies, withConfirmations}
-use Rattle.model.specs.Simulation.{onServer}
 use Rattle.book.specs.Book.{Found, Given, Book}
 use Rattle.book.specs.Stores.{Stored}
 use Rattle.book.specs.Handed.{EventGiven, ScheduledGiven, ReplyGiven, ConfirmationGiven, PayloadGiven, NextGiven, key-more, event-more}
@@ -44,8 +40,8 @@ pub record Holds (last : ℕ) (found : NodeId → Found) (given : List Given) (w
   pub firsts : Each (λ i. PayloadGiven given (record { 0 = suc i })) applied
 
 -- Of a state, the parts that it reads.
-abbrev pub Fits : Book → (ℕ → List Write) → State → Type 0
-Fits b waits s =
+abbrev pub Held : Book → (ℕ → List Write) → State → Type 0
+Held b waits s =
     Holds (b .lastIndex) (b .found) (b .given) waits (s .limits) (s .servers) (s .queue) (s .replies) (s .confirmations) (s .checker .applied)
 
 -- ---- where writes wait
@@ -116,6 +112,9 @@ module _ {last : ℕ} {found : NodeId → Found} {given : List Given} {waits : �
 
   pub holds-firsts : {ps : List Payload} → Each (λ i. PayloadGiven given (record { 0 = suc i })) ps → Holds last found given waits limits servers queue replies confirmations ps
   holds-firsts g = record { size = h .size; stores = h .stores; events = h .events; replied = h .replied; answers = h .answers; firsts = g }
+
+  pub holds-applied : {ps : List Payload} → ps ≡ applied → Holds last found given waits limits servers queue replies confirmations ps
+  holds-applied e = rw e h
 
   -- more handed over
   pub holds-more : (g : Given) → Holds last found (g ∷ given) waits limits servers queue replies confirmations applied

@@ -12,11 +12,6 @@ abbrev pub pick : {A : Type 0} → Bool → A → A → A
 pick true a b = a
 pick false a b = b
 
--- what holds of both choices holds of the one picked
-pub either : {A : Type 0} (P : A → Type 0) (t : Bool) (a b : A) → P a → P b → P (pick t a b)
-either P true a b p q = p
-either P false a b p q = q
-
 -- by a test, with what it answered
 pub cases : {A : Type 0} (t : Bool) → (t ≡ true → A) → (t ≡ false → A) → A
 cases true f g = f refl
