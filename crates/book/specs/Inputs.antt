@@ -71,6 +71,7 @@ inv-sync b slot input verdict owed s e h =
     let c = on-writes-applied (s .checker) (s .now) (idOf slot) (v .storage .current .log) (written (v .storage .waiting)) in
     record { phased = (refl, e, refl); held = cases (unsynced (v .storage)) (λ t. rw (t, c) k) (λ t. rw (t, c) k) }
 
+-- a refused client's redirect
 held-redirected : (b : Book) (waits : ℕ → List Write) (s : State) (slot : ℕ) (input : Input) (verdict : Verdict) → Held b waits s
     → Held b waits (redirect s slot input verdict)
 held-redirected b waits s slot (proposeInput (fromClient c seq attempt)) (notLeader hint) h = holds-push (holds-server h slot _ (λ v x. x)) _ _ [] tt
@@ -117,6 +118,7 @@ module _ (b : Book) (waits : ℕ → List Write) (slot : ℕ) (s : State) (h : H
   unfolding confirm
   held-confirm request readIndex m = holds-confirmation h _ (idOf slot, m)
 
+-- an applied entry: its client key's reply, if its server had accepted it
 held-reply-for : (b : Book) (waits : ℕ → List Write) (slot : ℕ) (s : State) (index : LogIndex) (payload : Payload) → List·Memᴰ (wasApplied (idOf slot) index payload) (b .given)
     → Held b waits s → Held b waits (replyFor s slot index payload)
 held-reply-for b waits slot s index noop m h = h

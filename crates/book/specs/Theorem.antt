@@ -18,6 +18,7 @@ use Rattle.book.specs.Reads.{fine-read-status, fine-read-hard-state, fin
 
 module _ (fits : State → Bool) where
   module _ (b : Book) (s : State) (i : Inv b (s .phase) s) where
+    -- a call of a state with the invariant, its outcome fine
     tell : {A : Type 0} {f : A → Answer} {c : Call} {o : Out A} → ((a : A) → accepted (f a) ≡ true) → Fine f b c o → Told b c (finish fits f s o)
     tell a h = finished fits a b _ s (λ _. i) h
 
@@ -74,6 +75,7 @@ module _ (fits : State → Bool) where
   kept s b [] i = tt
   kept s b (c ∷ cs) i = (told b s i c .0, kept (after fits s c .state) (note b c (after fits s c .answer)) cs (told b s i c .1))
 
+  -- THE THEOREM. `fits` is question 10's test, whatever it is; s and b are whatever was before.
   pub theorem : (s : State) (b : Book) (config : SimConfig) (limits : Limits) (seed : ℕ) (cs : List Call)
       → accepted (after fits s (start config limits seed) .answer) ≡ true → Kept b (answers fits s (start config limits seed ∷ cs))
   unfolding answers after Kept
