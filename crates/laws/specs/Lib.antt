@@ -1,4 +1,5 @@
 pub mod Bools
 pub mod Decides
+pub mod Kinds
 pub mod Lists
 pub mod Order
