@@ -1,6 +1,6 @@
 // What a server reports and asks for (protocol.rs): timers, requests, roles and status.
 ghost use mathlib.Core.Path.{_≡_};
-ghost use Rattle.protocol.specs.Numbers.{timerNumber, timerOf, roleNumber, roleOf};
+ghost use Rattle.protocol.specs.Numbers.{timerNumber, timerOf, roleNumber, roleOf, leads};
 use units::LogIndex;
 use units::NodeOption;
 use units::Term;
@@ -59,6 +59,17 @@ impl Role {
             Role::Follower => 0,
             Role::Candidate => 1,
             Role::Leader => 2,
+        }
+    }
+
+    // Whether a role is that of a leader.
+    pub fn leads(self) -> bool
+        ensures { λ r. ⌜ r ≡ leads self ⌝ }
+    {
+        match self {
+            Role::Follower => false,
+            Role::Candidate => false,
+            Role::Leader => true,
         }
     }
 }
