@@ -71,11 +71,9 @@ pub enum LeaderOption {
 fn not_below(best: LeaderOption, r: Reported) -> bool
     ensures { λ x. ⌜ x ≡ notBelow best r ⌝ }
 {
-    let status = r.status;
-    let next = status.term;
     match best {
         LeaderOption::None => true,
-        LeaderOption::Some { id: _, term } => term.0 <= next.0,
+        LeaderOption::Some { id: _, term } => term.0 <= r.status.term.0,
     }
 }
 
@@ -83,15 +81,29 @@ fn not_below(best: LeaderOption, r: Reported) -> bool
 pub fn better(best: LeaderOption, r: Reported) -> LeaderOption
     ensures { λ x. ⌜ x ≡ better best r ⌝ }
 {
+    let id = r.id;
     let status = r.status;
     let role = status.role;
-    let id = r.id;
     let term = status.term;
     if role.leads() & not_below(best, r) {
         LeaderOption::Some { id, term }
     } else {
         best
     }
+}
+
+// The leader of a lent list of running servers (simulation.rs, leader): the highest term, and among equals the last.
+pub fn leader(reported: &[Reported]) -> LeaderOption
+    ensures { λ r. ⌜ r ≡ leader (now (reported .entry)) ⌝ }
+{
+    let mut best = LeaderOption::None;
+    let mut i: usize = 0;
+    while i < reported.len() {
+        let r = reported[i];
+        best = better(best, r);
+        i += 1;
+    }
+    best
 }
 
 // A role read from its number; a number that is no role's counts as a follower's.
@@ -130,20 +142,6 @@ pub fn leader_of_numbers(ids: &[u64], roles: &[u64], terms: &[u64]) -> LeaderOpt
     let mut i: usize = 0;
     while i < ids.len() {
         best = better(best, reported_of(ids[i], roles[i], terms[i]));
-        i += 1;
-    }
-    best
-}
-
-// The leader of a lent list of servers.
-pub fn leader(reported: &[Reported]) -> LeaderOption
-    ensures { λ r. ⌜ r ≡ leader (now (reported .entry)) ⌝ }
-{
-    let mut best = LeaderOption::None;
-    let mut i: usize = 0;
-    while i < reported.len() {
-        let r = reported[i];
-        best = better(best, r);
         i += 1;
     }
     best

@@ -1,10 +1,12 @@
--- A loop over a slice of structs that the caller lends, `fn f(s: &[S]) -> F { let mut f = f₀; let mut i: usize = 0; while i < s.len() { let m = s[i]; f = g(f, m); i += 1; } f }`.
--- g takes by value what is found so far and one element, and asks nothing. One walk of the MIR serves every S, F, f₀ and g.
+-- A loop over a slice of structs that the caller lends, `fn f(s: &[S]) -> F { let mut f = f₀; let mut i: usize = 0;
+-- while i < s.len() { let m = s[i]; f = g(f, m); i += 1; } f }`. g takes by value what is found so far and one element, and asks nothing.
+-- One walk of the MIR serves every S, F, f₀ and g.
 --     fold             the function's MIR, which the generated `function` computes to; rv is the right side that makes f₀
 --     EndedF           its signature, with the parameter kept
---     fold-proved      the function's theorem, from: total, the definition on lists that the `ensures` cites, with its two laws; f₀ and how rv makes it; any element, for what stands past the end; what g gives; and the `ensures` at
---                      `total f₀` of the slice's list
--- The slice is looked into before the loop and shut after it. A comment in brackets is the context at its place; a local stands there with what frees it right after.
+--     fold-proved      the function's theorem, from: total, the definition on lists that the `ensures` cites, with its two laws; f₀ and how rv makes it;
+--                      any element, for what stands past the end; what g gives; and the `ensures` at `total f₀` of the slice's list
+-- The slice is looked into before the loop and shut after it. A comment in brackets is the context at its place; a local stands there with
+-- what frees it right after.
 -- Assumes `Given` through `𝓖`.
 use mathlib.Core.Path.{_≡_, refl, sym, _∙_, ap, subst}
 use Prim.Native.Nat.{ℕ, _+_, _-_, _*_, _≤_, _<_, _^_, zero-le}

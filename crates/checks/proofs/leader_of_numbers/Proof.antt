@@ -1,7 +1,7 @@
--- Made by tools/uniform from proofs.txt, not by hand: d968a5ef172e30de
+-- Made by tools/uniform from proofs.txt, not by hand: 2e90441fe031837d
 use Prim.Native.Nat.{_-_}
 use lib.ListN.{length}
-use Rattle.checks.specs.Laws.{Choosing, choosing}
+use Rattle.checks.specs.Laws.{Choosing, choosing, choosing-turn}
 use borrow.Author.Needs.{needs}
 use Rattle.checks.proofs.leader_of_numbers.Statement.{statement}
 use Rattle.checks.proofs.leader_of_numbers.Tie as tie
@@ -29,5 +29,5 @@ leader-of-numbers-spec =
     (λ c κs. search (choosing, needs))  -- better-requires
     (λ c. search (choosing, needs))  -- add-i
     (λ c. search (choosing, needs))  -- loop-less
-    (λ c. search (choosing, needs))  -- loop-again
+    (λ c. choosing-turn _ _ (search needs) (search needs) (search needs) (search needs) (c .before .reported-of .ensures) (c .better .ensures))  -- loop-again
     (λ c. search (choosing, needs)))  -- returns
