@@ -3,3 +3,4 @@ pub mod Call
 pub mod Close
 pub mod Lent
 pub mod Thin
+pub mod Fold

@@ -23,9 +23,9 @@ use prog.Wp.{Heap}
 use ghost.Atoms.{Atoms}
 use types.Kit.{Given}
 use denote.RattleType.{RattleType}
-use denote.Laws.{Is, Tells, Makes, Lawful, Typed}
+use denote.Laws.{Is, Tells, Makes, Lawful, Copy, Typed}
 use denote.Memory.{cellAt}
-use denote.Plain.{UInt, uint-tells, uint-lawful, uint-makes}
+use denote.Plain.{UInt, uint-tells, uint-lawful, uint-makes, uint-copy}
 use denote.Exit.{Kept, yes, Exit, unchanged, Last, left}
 use denote.Signature.{Slot, plain}
 use denote.Triple.End.{Kepts}
@@ -44,6 +44,7 @@ pub record Plain : Type 2 where
   pub tells : Tells row (Is row) (λ x. val x ∷ [])
   pub lawful : {M : Type 1} (𝓤 : URA M) (H : Heap 𝓤) (A : Atoms 𝓤) → Given 𝓤 H A → Lawful 𝓤 H A row
   pub makes : {M : Type 1} (𝓤 : URA M) (H : Heap 𝓤) (A : Atoms 𝓤) → Given 𝓤 H A → Makes 𝓤 H A row (Is row)
+  pub copies : {M : Type 1} (𝓤 : URA M) (H : Heap 𝓤) (A : Atoms 𝓤) → Given 𝓤 H A → Copy 𝓤 H A row
   pub still : (k : Kept) → row .exit k ≡ unchanged
 
 abbrev pub Of : Plain → Type 0
@@ -61,6 +62,7 @@ uint-plain w = record {
   tells = uint-tells w;
   lawful = λ 𝓤 H A W. uint-lawful 𝓤 H A W w;
   makes = λ 𝓤 H A W. uint-makes 𝓤 H A W w;
+  copies = λ 𝓤 H A W. uint-copy 𝓤 H A W w;
   still = λ k. refl;
 }
 
@@ -73,6 +75,7 @@ struct-plain D L pl cs τ e = record {
   tells = SL.tells D L;
   lawful = λ 𝓤 H A W. SL.lawful D L 𝓤 H A W;
   makes = λ 𝓤 H A W. SL.makes D pl 𝓤 H A;
+  copies = λ 𝓤 H A W. SL.copy D cs 𝓤 H A W;
   still = SL.still D cs;
 }
 
@@ -85,6 +88,7 @@ enum-plain D L pl cs few τ e = record {
   tells = EL.tells D L;
   lawful = λ 𝓤 H A W. EL.lawful D L 𝓤 H A W few;
   makes = λ 𝓤 H A W. EL.makes D pl 𝓤 H A;
+  copies = λ 𝓤 H A W. EL.copy D cs 𝓤 H A W;
   still = EL.still D cs;
 }
 
