@@ -1,13 +1,13 @@
 -- Every call (document 01): the questions that it meets, in order, and what it does. Of the questions, 4 and 5 are asked of the area's bytes and 10 of the state
 -- that a call gives; here are 6 to 9. A refused call gives the number of the first question answered no. Assumes nothing.
-use mathlib.Core.Bool.{Bool, true, false, not, _&&_}
+use mathlib.Core.Bool.{Bool, true, false}
 use mathlib.Core.List.{List, [], _∷_}
-use mathlib.Core.Option.{Option, none, some}
+use mathlib.Core.Option.{none, some}
 use Prim.Native.Nat.{ℕ, suc, _+_, _-_, _*_, _^_, max}
 use lib.Dec.{leb, ltb, eqb}
 use lib.ListN.{length, getD}
 use Rattle.laws.specs.Bools.{pick, every, _and_}
-use Rattle.units.specs.Types.{Payload, noop, command, Entry}
+use Rattle.units.specs.Types.{Payload, noop, command}
 use Rattle.units.specs.declared.NodeId.{NodeId}
 use Rattle.units.specs.declared.NodeOption.{NodeOption}
 use Rattle.units.specs.declared.NodeOption.the-variants.{None, Some}
@@ -15,7 +15,7 @@ use Rattle.units.specs.declared.Term.{Term}
 use Rattle.units.specs.declared.LogIndex.{LogIndex}
 use Rattle.units.specs.declared.SimTime.{SimTime}
 use Rattle.units.specs.declared.Duration.{Duration}
-use Rattle.client.specs.Client as client
+use Rattle.client.specs.Key as client
 use Rattle.protocol.specs.declared.Timer.{Timer}
 use Rattle.protocol.specs.declared.Timer.the-variants.{Election, Heartbeat}
 use Rattle.protocol.specs.declared.Role.{Role}
@@ -28,12 +28,11 @@ use Rattle.config.specs.declared.SimConfig.{SimConfig}
 use Rattle.config.specs.declared.Limits.{Limits}
 use Rattle.config.specs.Limits.{judge, number}
 use Rattle.storage.specs.Storage.{Write, writeHardState, writePut, writeTruncate, unsynced}
-use Rattle.storage.specs.declared.HardState.{HardState}
 use Rattle.queue.specs.Queue.{Popped, empty, taken, pop}
 use Rattle.checks.specs.Checks.{ServerLog, Acknowledged, AppliedUpTo, checkLogMatching, checkDurability}
-use Rattle.model.specs.State.{State, Server, Reply, Proposer, direct, Input, startInput, messageInput, timerInput, proposeInput, confirmInput, Verdict, accepted, notLeader, Owed, nothing, Phase, closed, writing, sending, serverAt, idOf, slotOf}
+use Rattle.model.specs.State.{State, Server, Reply, direct, Input, startInput, messageInput, timerInput, proposeInput, confirmInput, Verdict, accepted, notLeader, Owed, nothing, Phase, closed, writing, sending, serverAt, idOf, slotOf}
 use Rattle.model.specs.Fields.{withNow, withQueue, withChecker, withDirectSeq, withEvents, withPhase}
-use Rattle.model.specs.Simulation.{Opening, noInput, openTimer, openProposal, openConfirmation, Moved, running, openedTimer, scheduleFault, process, begin, writeAt, cutInput, syncInput, send, setTimer, cancelTimer, apply, confirm, endInput}
+use Rattle.model.specs.Simulation.{Opening, noInput, openProposal, openConfirmation, running, openedTimer, scheduleFault, process, begin, writeAt, cutInput, syncInput, send, setTimer, cancelTimer, apply, confirm, endInput}
 
 -- What a call gives: a refusal's number, or an answer and the next state.
 pub data Out (A : Type 0) : Type 0 where

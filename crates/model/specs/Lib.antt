@@ -3,3 +3,4 @@ pub mod Fields
 pub mod Simulation
 pub mod Calls
 pub mod Reads
+pub mod Fits

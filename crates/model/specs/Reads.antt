@@ -1,10 +1,9 @@
 -- The calls that only read (document 01): what each answers of the state. A read belongs to every phase and leaves the state as it is. Assumes nothing.
 use mathlib.Core.List.{List, [], _∷_}
-use mathlib.Core.Option.{Option, none, some}
+use mathlib.Core.Option.{Option, none}
 use Prim.Native.Nat.{ℕ, zero, suc, _+_, _-_}
 use lib.Dec.{leb}
 use lib.ListN.{length}
-use Rattle.laws.specs.Bools.{pick}
 use Rattle.laws.specs.Lists.{at}
 use Rattle.units.specs.Types.{Payload, Entry}
 use Rattle.units.specs.declared.SimTime.{SimTime}
@@ -13,13 +12,12 @@ use Rattle.metrics.specs.Metrics.{sentBy}
 use Rattle.metrics.specs.declared.Counts.{Counts}
 use Rattle.metrics.specs.declared.Metrics.{Metrics}
 use Rattle.log.specs.Log.{count, lastIndex, gaps, entryAt}
-use Rattle.storage.specs.Storage.{Storage}
 use Rattle.storage.specs.declared.HardState.{HardState}
 use Rattle.checks.specs.Checks.{Violation}
 use Rattle.checks.specs.declared.LeaderOption.{LeaderOption}
-use Rattle.model.specs.State.{State, Server, Reply, Confirmation, Phase, serverAt, slotOf}
+use Rattle.model.specs.State.{State, Server, Reply, Confirmation, Phase, serverAt}
 use Rattle.model.specs.Simulation.{leaderOf}
-use Rattle.model.specs.Calls.{Out, refused, done, ask, inCluster}
+use Rattle.model.specs.Calls.{Out, done, ask, inCluster}
 
 -- The server of an id.
 abbrev pub named : State → ℕ → Server

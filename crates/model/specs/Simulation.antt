@@ -1,5 +1,5 @@
 -- What happens in a simulation (simulation.rs), on the state without limits: one Rust function to one definition. Assumes nothing.
-use mathlib.Core.Bool.{Bool, true, false, not, _&&_, _||_}
+use mathlib.Core.Bool.{Bool, true, false, not, _&&_}
 use mathlib.Core.List.{List, [], _∷_, _++_}
 use mathlib.Core.Option.{Option, none, some}
 use Prim.Native.Nat.{ℕ, zero, suc, _+_, _-_, max}
@@ -22,12 +22,11 @@ use Rattle.seeds.specs.declared.Stream.the-variants.{Workload, Startup}
 use Rattle.seeds.specs.declared.Stream.the-variants as stream
 use Rattle.config.specs.declared.SimConfig.{SimConfig}
 use Rattle.config.specs.declared.Limits.{Limits}
-use Rattle.client.specs.Client.{decode}
-use Rattle.client.specs.Client as client
+use Rattle.client.specs.Key.{decode}
+use Rattle.client.specs.Key as client
 use Rattle.client.specs.declared.ClientKey.{ClientKey}
 use Rattle.client.specs.declared.Decoded.{Decoded}
 use Rattle.client.specs.declared.Decoded.the-variants as decoded
-use Rattle.protocol.specs.Numbers.{leads}
 use Rattle.protocol.specs.declared.Timer.{Timer}
 use Rattle.protocol.specs.declared.Timer.the-variants.{Election, Heartbeat}
 use Rattle.protocol.specs.declared.Role.{Role}
@@ -44,7 +43,7 @@ use Rattle.network.specs.declared.Route.{Route}
 use Rattle.network.specs.declared.Route.the-variants.{Dropped, Delivered}
 use Rattle.metrics.specs.Metrics.{noMetrics, recordSend, deliverToLeader, recordSync, recordReply}
 use Rattle.log.specs.Log.{gaps}
-use Rattle.storage.specs.Storage.{Storage, Write, sync, unsynced, unsyncedBytes, written}
+use Rattle.storage.specs.Storage.{Write, sync, unsynced, unsyncedBytes, written}
 use Rattle.storage.specs.Storage as storage
 use Rattle.queue.specs.Queue.{push}
 use Rattle.queue.specs.declared.Event.{Event}
@@ -54,8 +53,8 @@ use Rattle.checks.specs.Leader.{leader}
 use Rattle.checks.specs.declared.Reported.{Reported}
 use Rattle.checks.specs.declared.LeaderOption.{LeaderOption}
 use Rattle.checks.specs.declared.LeaderOption.the-variants as led
-use Rattle.model.specs.State.{State, Server, newServer, Client, Outstanding, Reply, Confirmation, Proposer, direct, fromClient, Input, startInput, messageInput, timerInput, proposeInput, confirmInput, Verdict, accepted, notLeader, Owed, nothing, construction, healing, Phase, closed, writing, sending, serverAt, clientAt, idOf, slotOf}
-use Rattle.model.specs.Fields.{withNow, withQueue, withServers, withNetwork, withClients, withWorkload, withMetrics, withChecker, withReplies, withConfirmations, withMaxLogGaps, withDirectSeq, withEvents, withPhase, withStatus, withStorage, withIncarnation, withElection, withHeartbeat, withCrashOnNextInput, withNextApply, withPending, withLeading, withTarget, withAttempt, withOutstanding}
+use Rattle.model.specs.State.{State, Server, newServer, Client, Outstanding, Reply, direct, fromClient, Input, startInput, messageInput, timerInput, proposeInput, confirmInput, Verdict, accepted, notLeader, Owed, nothing, construction, healing, closed, writing, sending, serverAt, clientAt, idOf, slotOf}
+use Rattle.model.specs.Fields.{withQueue, withServers, withNetwork, withClients, withWorkload, withMetrics, withChecker, withReplies, withConfirmations, withMaxLogGaps, withPhase, withStatus, withStorage, withIncarnation, withElection, withHeartbeat, withCrashOnNextInput, withNextApply, withPending, withLeading, withTarget, withAttempt, withOutstanding}
 
 -- ---- parts of the state
 

@@ -1,8 +1,8 @@
 -- The state of a simulation (simulation.rs Simulation, without observers, drop rules and the flag of stop_clients), with the open input added. Assumes nothing.
-use mathlib.Core.Bool.{Bool, true, false}
-use mathlib.Core.List.{List, [], _∷_}
-use mathlib.Core.Option.{Option, none, some}
-use Prim.Native.Nat.{ℕ, zero, suc, _+_, _-_}
+use mathlib.Core.Bool.{Bool, false}
+use mathlib.Core.List.{List, []}
+use mathlib.Core.Option.{Option, none}
+use Prim.Native.Nat.{ℕ, _+_, _-_}
 use lib.ListN.{getD}
 use Rattle.units.specs.declared.NodeId.{NodeId}
 use Rattle.units.specs.declared.NodeOption.{NodeOption}
