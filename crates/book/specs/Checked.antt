@@ -9,7 +9,7 @@ use lib.ListN.{length}
 use borrow.Author.Tests.{eqb-true}
 use Rattle.laws.specs.Bools.{cases}
 use Rattle.laws.specs.Lists.{at}
-use Rattle.laws.specs.Order.{find}
+use Rattle.laws.specs.Order.{numbers, pairs, lookup}
 use Rattle.laws.specs.ListLaws.{Each, each-snoc}
 use Rattle.units.specs.Types.{Payload, Entry, samePayload}
 use Rattle.units.specs.declared.NodeId.{NodeId}
@@ -33,7 +33,7 @@ report-if-applied false c time check detail = refl
 
 written-applied : (e : Option Entry) (c : Checker) (time : SimTime) (server : NodeId) (index : LogIndex) → writtenEntry e c time server index .applied ≡ c .applied
 written-applied none c time server index = refl
-written-applied (some e) c time server index = by (find seenKey (record { first = index .0; second = e .term .0 }) (c .entries))
+written-applied (some e) c time server index = by (lookup pairs seenKey (index .0, e .term .0) (c .entries))
   where
     by : (first : Option Seen) → compareSeen first c time server index e .applied ≡ c .applied
     by none = refl
@@ -60,7 +60,7 @@ pub on-status-applied : (wanted : Bool) (c : Checker) (time : SimTime) (server :
     → onStatus wanted c time server status log leading .checker .applied ≡ c .applied
 unfolding onStatus checkLeaderCompleteness
 on-status-applied wanted c time server status log leading =
-    let first = find leaderKey (record { first = status .term .0; second = 0 }) (c .leaders) in
+    let first = lookup numbers leaderKey (status .term .0) (c .leaders) in
     let seen = compareLeader first c time server (status .term) in
     let kept : seen .applied ≡ c .applied = leader-applied first c time server (status .term) in
     cases (leads (status .role))

@@ -8,7 +8,8 @@ use lib.Dec.{eqb}
 use borrow.Author.Tests.{eq-eqb, ne-eqb}
 use Rattle.laws.specs.Bools.{pick}
 use Rattle.laws.specs.Lists.{modify}
-use Rattle.laws.specs.ListLaws.{Each, each-map, each-snoc, each-modify, each-insert}
+use Rattle.laws.specs.Order.{numbers}
+use Rattle.laws.specs.ListLaws.{Each, each-map, each-snoc, each-modify, each-push}
 use Rattle.units.specs.Types.{Payload}
 use Rattle.units.specs.declared.NodeId.{NodeId}
 use Rattle.units.specs.declared.SimTime.{SimTime}
@@ -79,7 +80,7 @@ module _ {last : ℕ} {found : NodeId → Found} {given : List Given} {waits : �
       → Holds last found given waits limits servers (push queue time e message) replies confirmations applied
   unfolding push
   holds-push time e message g =
-      holds-queue (each-insert (ScheduledGiven given) timeOf (record { time = time; event = e; message = message }) queue g (h .events))
+      holds-queue (each-push (ScheduledGiven given) numbers timeOf (record { time = time; event = e; message = message }) queue g (h .events))
 
   -- a server changed, with what the book says of it and where writes wait
   pub holds-change : (found′ : NodeId → Found) (waits′ : ℕ → List Write) (slot : ℕ) (f : Server → Server)

@@ -8,7 +8,7 @@ use lib.Dec.{eqb}
 use borrow.Author.Tests.{eq-eqb, ne-eqb}
 use Rattle.laws.specs.Bools.{cases}
 use Rattle.laws.specs.Lists.{isSome}
-use Rattle.laws.specs.Order.{find}
+use Rattle.laws.specs.Order.{pairs, lookup}
 use Rattle.units.specs.Types.{Payload, noop, command}
 use Rattle.units.specs.declared.NodeId.{NodeId}
 use Rattle.units.specs.declared.LogIndex.{LogIndex}
@@ -127,7 +127,7 @@ held-reply-for b waits slot s index (command bytes) m h = by (decode bytes) refl
     by : (d : Decoded) → decode bytes ≡ d → Held b waits (replyTo s slot index d)
     by decoded.None e = h
     by (decoded.Key k) e =
-        cases (isSome (find keyOf (keyOf k) (serverAt s slot .pending)))
+        cases (isSome (lookup pairs keyOf (keyOf k) (serverAt s slot .pending)))
         (λ t. rw t (holds-push (holds-server h slot _ (λ v x. x)) _ _ [] (record { server = idOf slot; bytes = bytes; key = e; handed = m })))
         (λ t. rw t h)
 
@@ -165,7 +165,7 @@ apply-phase s slot index payload = by payload _
   where
     decoded-phase : (d : Decoded) (t : State) → replyTo t slot index d .phase ≡ t .phase
     decoded-phase decoded.None t = refl
-    decoded-phase (decoded.Key k) t = cases (isSome (find keyOf (keyOf k) (serverAt t slot .pending))) (λ e. rw e) (λ e. rw e)
+    decoded-phase (decoded.Key k) t = cases (isSome (lookup pairs keyOf (keyOf k) (serverAt t slot .pending))) (λ e. rw e) (λ e. rw e)
 
     by : (p : Payload) (t : State) → replyFor t slot index p .phase ≡ t .phase
     by noop t = refl

@@ -7,7 +7,7 @@ use lib.Dec.{ltb, eqb}
 use lib.ListN.{length}
 use Rattle.laws.specs.Bools.{pick}
 use Rattle.laws.specs.Lists.{at}
-use Rattle.laws.specs.Order.{Key, find, insertKeyed}
+use Rattle.laws.specs.Order.{numbers, pairs, lookup, insertBy}
 use Rattle.units.specs.Types.{Payload, Entry, samePayload}
 use Rattle.units.specs.declared.NodeId.{NodeId}
 use Rattle.units.specs.declared.Term.{Term}
@@ -115,21 +115,21 @@ onApply c time server index payload expected =
 
 -- ---- written entries
 
-abbrev pub seenKey : Seen → Key
-seenKey s = record { first = s .index .0; second = s .term .0 }
+abbrev pub seenKey : Seen → ℕ × ℕ
+seenKey s = (s .index .0, s .term .0)
 
 -- An entry compared with the first seen under its index and term, or seen now.
 abbrev pub compareSeen : Option Seen → Checker → SimTime → NodeId → LogIndex → Entry → Checker
 compareSeen (some first) c time server index e =
     reportIf (not (samePayload (first .payload) (e .payload))) c time UniqueEntries (server .0 ∷ index .0 ∷ e .term .0 ∷ [])
 compareSeen none c time server index e =
-    withEntries c (insertKeyed seenKey (record { index = index; term = e .term; payload = e .payload }) (c .entries))
+    withEntries c (insertBy pairs seenKey (record { index = index; term = e .term; payload = e .payload }) (c .entries))
 
 -- The entry at a written index, if it is still there.
 abbrev pub writtenEntry : Option Entry → Checker → SimTime → NodeId → LogIndex → Checker
 writtenEntry none c time server index = c
 writtenEntry (some e) c time server index =
-    compareSeen (find seenKey (record { first = index .0; second = e .term .0 }) (c .entries)) c time server index e
+    compareSeen (lookup pairs seenKey (index .0, e .term .0) (c .entries)) c time server index e
 
 -- A server has written at an index (on_write).
 unfoldable pub onWrite : Checker → SimTime → NodeId → Log → LogIndex → Checker
@@ -142,14 +142,14 @@ onWrites c time server log (index ∷ indexes) = onWrites (onWrite c time server
 
 -- ---- status
 
-abbrev pub leaderKey : TermLeader → Key
-leaderKey l = record { first = l .term .0; second = 0 }
+abbrev pub leaderKey : TermLeader → ℕ
+leaderKey l = l .term .0
 
 -- A leader compared with the first of its term, or seen now.
 abbrev pub compareLeader : Option TermLeader → Checker → SimTime → NodeId → Term → Checker
 compareLeader (some other) c time server term =
     reportIf (not (eqb (other .server .0) (server .0))) c time ElectionSafety (other .server .0 ∷ server .0 ∷ term .0 ∷ [])
-compareLeader none c time server term = withLeaders c (insertKeyed leaderKey (record { term = term; server = server }) (c .leaders))
+compareLeader none c time server term = withLeaders c (insertBy numbers leaderKey (record { term = term; server = server }) (c .leaders))
 
 -- Whether a log's entry has a payload.
 abbrev pub holds : Option Entry → Payload → Bool
@@ -183,7 +183,7 @@ alreadyLeads (some led) term = eqb (led .0) (term .0)
 unfoldable pub onStatus : Bool → Checker → SimTime → NodeId → Status → Log → Option Term → Led
 onStatus raftChecks c time server status log leading =
     let term = status .term in
-    let seen = compareLeader (find leaderKey (record { first = term .0; second = 0 }) (c .leaders)) c time server term in
+    let seen = compareLeader (lookup numbers leaderKey (term .0) (c .leaders)) c time server term in
     pick (leads (status .role))
     (record {
       checker = pick (raftChecks && not (alreadyLeads leading term)) (checkLeaderCompleteness seen time server term log) seen;

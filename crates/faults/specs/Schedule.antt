@@ -7,7 +7,7 @@ use lib.Bits.{bitOr}
 use lib.Dec.{leb, ltb, eqb}
 use lib.ListN.{length, getD}
 use Rattle.laws.specs.Bools.{pick, every, _and_}
-use Rattle.laws.specs.Order.{sortBy}
+use Rattle.laws.specs.Order.{numbers, sortBy}
 use Rattle.units.specs.Time.{minus}
 use Rattle.units.specs.declared.NodeId.{NodeId}
 use Rattle.units.specs.declared.SimTime.{SimTime}
@@ -170,7 +170,7 @@ module _ (servers : List NodeId) (config : ChaosConfig) (room : ℕ) where
   abbrev pub ended : List Timed → ℕ → Rng → Chaos
   ended schedule draws g =
       pick (ltb (length schedule) room)
-      (made (sortBy (λ (t : Timed). t .time .0) (schedule ++ record { time = config .end; fault = HealAll } ∷ [])) draws g)
+      (made (sortBy numbers (λ (t : Timed). t .time .0) (schedule ++ record { time = config .end; fault = HealAll } ∷ [])) draws g)
       (refused 10)
 
   -- One fault that starts at a time before the end: its draws in the Rust's order.

@@ -5,12 +5,11 @@ use mathlib.Core.List.{List, [], _∷_, _++_}
 use mathlib.Core.Option.{some}
 use Prim.Native.Nat.{ℕ, zero, suc, _<_}
 use native.Mathlib.Omega.{arith}
-use lib.Dec.{leb}
 use lib.ListN.{length, getD}
 use Rattle.laws.specs.Bools.{pick}
 use Rattle.laws.specs.Decides.{false-true}
 use Rattle.laws.specs.Lists.{modify, isSome, at}
-use Rattle.laws.specs.Order.{insertAfter}
+use Rattle.laws.specs.Order.{Order, pushBy}
 
 -- P holds of each element and its place
 abbrev pub Each : {A : Type 0} → (ℕ → A → Type 0) → List A → Type 0
@@ -54,12 +53,12 @@ module _ {A : Type 0} where
     each-modify (λ k. P (suc k)) (λ k. Q (suc k)) i f hit (λ k n. miss (suc k) (λ e. n (omega arith))) xs (h .1),
   )
 
-  -- an element put in, where the place does not matter
-  pub each-insert : (P : A → Type 0) (key : A → ℕ) (x : A) (ys : List A) → P x → Each (λ _. P) ys → Each (λ _. P) (insertAfter key x ys)
-  unfolding insertAfter
-  each-insert P key x [] p h = (p, tt)
-  each-insert P key x (y ∷ ys) p h = by (leb (key y) (key x)) (each-insert P key x ys p (h .1))
+  -- an element pushed, where the place does not matter
+  pub each-push : {K : Type 0} (P : A → Type 0) (O : Order K) (key : A → K) (x : A) (ys : List A) → P x → Each (λ _. P) ys → Each (λ _. P) (pushBy O key x ys)
+  unfolding pushBy
+  each-push P O key x [] p h = (p, tt)
+  each-push P O key x (y ∷ ys) p h = by (O .before (key x) (key y)) (each-push P O key x ys p (h .1))
     where
-      by : (t : Bool) → Each (λ _. P) (insertAfter key x ys) → Each (λ _. P) (pick t (y ∷ insertAfter key x ys) (x ∷ y ∷ ys))
-      by true more = (h .0, more)
-      by false more = (p, h)
+      by : (t : Bool) → Each (λ _. P) (pushBy O key x ys) → Each (λ _. P) (pick t (x ∷ y ∷ ys) (y ∷ pushBy O key x ys))
+      by true more = (p, h)
+      by false more = (h .0, more)

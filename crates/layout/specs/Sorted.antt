@@ -17,7 +17,8 @@ use Rattle.layout.specs.declared.rows.Found.{Found}
 use Rattle.layout.specs.declared.rows.Found.the-variants.{At, Absent}
 use Rattle.layout.specs.Code.{Code, parseN}
 use Rattle.layout.specs.Tables.{insertAt, removeAt, rowsIn}
-use Rattle.layout.specs.Order.{Order, numbers, pairs, lexBefore, below, notBelow, first, place, lastPlace, later, find, isAt, has, next, chain, rising, sorted, insertBy, pushBy, removeBy, one, two, heads}
+use Rattle.laws.specs.Order.{Order, numbers, pairs, lexBefore, below, notBelow, next, chain, rising, sorted, insertBy, pushBy, removeBy}
+use Rattle.layout.specs.Order.{first, place, lastPlace, later, find, isAt, has, one, two, heads}
 
 -- ---- the first element that f takes
 

@@ -1,13 +1,13 @@
 -- The state fits: every field in its range and every table within its limit. Question 5 asks it of the state that an area's bytes lay out, reachable or not, and question 10 of
 -- the state that a call gives. Assumes nothing.
 use mathlib.Core.Bool.{Bool, true, false}
-use mathlib.Core.List.{List, [], _∷_}
+use mathlib.Core.List.{List, [], _∷_, map}
 use mathlib.Core.Option.{Option, none, some}
 use Prim.Native.Nat.{ℕ, _+_, _^_}
 use lib.Dec.{leb, ltb, eqb}
 use lib.ListN.{length}
 use Rattle.laws.specs.Bools.{_and_, allb, every}
-use Rattle.laws.specs.Order.{rising}
+use Rattle.laws.specs.Order.{numbers, pairs, rising}
 use Rattle.units.specs.Types.{Payload, noop, command, Entry}
 use Rattle.units.specs.declared.NodeId.{NodeId}
 use Rattle.units.specs.declared.NodeOption.{NodeOption}
@@ -120,7 +120,7 @@ module _ (s : State) where
       ∷ leb 1 (v .nextApply)
       ∷ leb (v .nextApply) (L + 1)
       ∷ atMost H keyFits (v .pending)
-      ∷ rising keyOf (v .pending)
+      ∷ rising pairs (map keyOf (v .pending))
       ∷ ifSome (λ (term : Term). word (term .0)) (v .leading)
       ∷ [])
 
@@ -185,10 +185,10 @@ module _ (s : State) where
   checkerFits c =
       allb (
       atMost H leaderFits (c .leaders)
-      ∷ rising leaderKey (c .leaders)
+      ∷ rising numbers (map leaderKey (c .leaders))
       ∷ atMost L payloadFits (c .applied)
       ∷ atMost H seenFits (c .entries)
-      ∷ rising seenKey (c .entries)
+      ∷ rising pairs (map seenKey (c .entries))
       ∷ atMost 32 violationFits (c .violations)
       ∷ word (c .total)
       ∷ [])

@@ -7,7 +7,7 @@ use lib.Dec.{leb, ltb, eqb}
 use lib.ListN.{length}
 use Rattle.laws.specs.Bools.{pick}
 use Rattle.laws.specs.Lists.{modify, isSome}
-use Rattle.laws.specs.Order.{Key, find, insertKeyed, removeKeyed}
+use Rattle.laws.specs.Order.{pairs, lookup, insertBy, removeBy}
 use Rattle.units.specs.Types.{Payload, noop, command}
 use Rattle.units.specs.declared.NodeId.{NodeId}
 use Rattle.units.specs.declared.NodeOption.{NodeOption}
@@ -88,8 +88,8 @@ arrival s =
     let d = network.delay (s .network) in
     record { state = withNetwork s (d .network); time = later (s .now) (d .delay) }
 
-abbrev pub keyOf : ClientKey → Key
-keyOf k = record { first = k .client; second = k .seq }
+abbrev pub keyOf : ClientKey → ℕ × ℕ
+keyOf k = (k .client, k .seq)
 
 -- ---- what a call hands to the host
 
@@ -251,7 +251,7 @@ clientArrive s slot c seq attempt =
       opening = openProposal (idOf slot) c seq;
       state =
           withPhase
-          (onServer s slot (λ v. withPending v (insertKeyed keyOf (record { client = c; seq = seq }) (v .pending))))
+          (onServer s slot (λ v. withPending v (insertBy pairs keyOf (record { client = c; seq = seq }) (v .pending))))
           (writing slot (proposeInput (fromClient c seq attempt)) nothing);
     })
     (idle s)
@@ -412,7 +412,7 @@ writeAt s slot w = onServer s slot (λ v. withStorage v (storage.write (v .stora
 -- A client's refused proposal: its key goes, a delay is drawn and its redirect pushed (client_arrive).
 abbrev pub redirect : State → ℕ → Input → Verdict → State
 redirect s slot (proposeInput (fromClient c seq attempt)) (notLeader hint) =
-    let a = arrival (onServer s slot (λ v. withPending v (removeKeyed keyOf (record { first = c; second = seq }) (v .pending)))) in
+    let a = arrival (onServer s slot (λ v. withPending v (removeBy pairs keyOf (c, seq) (v .pending)))) in
     pushEvent (a .state) (a .time) (event.ClientRedirect c attempt hint)
 redirect s slot (proposeInput (fromClient c seq attempt)) accepted = s
 redirect s slot (proposeInput direct) verdict = s
@@ -472,8 +472,8 @@ cancelTimer s slot timer = onServer s slot (λ v. raised v timer)
 abbrev pub replyTo : State → ℕ → LogIndex → Decoded → State
 replyTo s slot index decoded.None = s
 replyTo s slot index (decoded.Key k) =
-    let a = arrival (onServer s slot (λ v. withPending v (removeKeyed keyOf (keyOf k) (v .pending)))) in
-    pick (isSome (find keyOf (keyOf k) (serverAt s slot .pending)))
+    let a = arrival (onServer s slot (λ v. withPending v (removeBy pairs keyOf (keyOf k) (v .pending)))) in
+    pick (isSome (lookup pairs keyOf (keyOf k) (serverAt s slot .pending)))
     (pushEvent (a .state) (a .time) (event.ClientReply (k .client) (k .seq) index))
     s
 

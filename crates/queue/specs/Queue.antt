@@ -2,7 +2,7 @@
 use mathlib.Core.List.{List, [], _∷_}
 use mathlib.Core.Option.{Option, none, some}
 use Prim.Native.Nat.{ℕ}
-use Rattle.laws.specs.Order.{insertAfter}
+use Rattle.laws.specs.Order.{numbers, pushBy}
 use Rattle.units.specs.declared.SimTime.{SimTime}
 use Rattle.queue.specs.declared.Event.{Event}
 
@@ -20,7 +20,7 @@ timeOf s = s .time .0
 
 -- One event more (push).
 unfoldable pub push : Queue → SimTime → Event → List ℕ → Queue
-push q time event message = insertAfter timeOf (record { time = time; event = event; message = message }) q
+push q time event message = pushBy numbers timeOf (record { time = time; event = event; message = message }) q
 
 -- The earliest event, taken, with the queue after (pop).
 pub data Popped : Type 0 where
