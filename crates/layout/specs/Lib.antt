@@ -10,3 +10,4 @@ pub mod Spot
 pub mod SortedTables
 pub mod Keys
 pub mod KeyLaws
+pub mod Payload
