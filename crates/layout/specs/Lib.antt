@@ -11,3 +11,5 @@ pub mod SortedTables
 pub mod Keys
 pub mod KeyLaws
 pub mod Payload
+pub mod Payloads
+pub mod PayloadLaws

@@ -1,3 +1,4 @@
 // How values lie in 64-bit words: codes, spots and tables (specs/), and the moves of a table that are the same for every row type.
 pub mod rows; // a table of n rows of w words: places, moves, order
+pub mod payload; // a payload in its words: written, read, tested
 pub mod keys; // pending client commands: the table to copy
