@@ -13,3 +13,6 @@ pub mod KeyLaws
 pub mod Payload
 pub mod Payloads
 pub mod PayloadLaws
+pub mod Parts
+pub mod Applied
+pub mod AppliedLaws

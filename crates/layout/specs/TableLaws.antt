@@ -266,6 +266,10 @@ module _ {T : Type 0} (t : Table T) (n : ℕ) (b : List ℕ) (B : Bytes b) where
     no = λ y k. false-true (sym y ∙ e″ ∙ is-ruled k);
   }
 
+  -- where the rule takes every list, the rows' own tests are the last
+  pub check-free : (p q : Bool) → p ≡ padded w′ n b → not p ≡ false → q ≡ okN (t .row) n (W b) → ((x : List T) → t .rule x ≡ true) → Decides q (Tabled t n b)
+  check-free p q e f e′ r = record { yes = λ y. tabled (sym e ∙ not-false p f) (sym e′ ∙ y) (r (rowsIn (t .row) n b)); no = λ y k. false-true (sym y ∙ e′ ∙ is-rows k) }
+
 -- what `padding` shows where it says yes
 pub padding-room : (w n : ℕ) (b : List ℕ) (p : Bool) → p ≡ padded w n b → not p ≡ false → 8 * (n * w) ≤ length b
 unfolding padded
@@ -273,7 +277,7 @@ padding-room w n b p e f =
     let l : n * w ≤ length b / 8 = leb-true _ _ (and-left _ _ (and-right _ _ (sym e ∙ not-false p f))) in
     omega arith
 
-pub ruleset checks = (check-padding, check-rows, check-rule, padding-room)
+pub ruleset checks = (check-padding, check-rows, check-rule, check-free, padding-room)
 
 -- ---- the loop over the rows' own tests: those before row i say yes
 
