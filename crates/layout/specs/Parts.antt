@@ -1,12 +1,12 @@
 -- A row that is lent, `&mut s[8 * at..8 * (at + w)]`, to a function that writes or tests one row: what the table is when it is back. And a
 -- row that is written in parts: numbers first, and then a part that is lent. Assumes nothing.
-use mathlib.Core.Path.{_≡_, refl, sym, ap, ap₂, _∙_, subst}
+use mathlib.Core.Path.{_≡_, refl, sym, ap, ap₂, _∙_}
 use mathlib.Core.Bool.{Bool, true, false, not}
-use mathlib.Core.List.{List, [], _∷_, _++_, append-assoc, append-nil}
-use Prim.Native.Nat.{ℕ, _+_, _-_, _*_, _/_, _≤_, _<_}
+use mathlib.Core.List.{List, [], _++_, append-nil}
+use Prim.Native.Nat.{ℕ, _+_, _-_, _*_, _≤_, _<_}
 use native.Mathlib.Omega.{arith}
-use lib.ListN.{length, set, take, drop, length-append, length-drop, drop-of-length-le}
-use lib.Seq.{sets, length-sets, length-take-le, take-at, drop-at, take-all}
+use lib.ListN.{length, set, take, drop, length-drop, drop-of-length-le}
+use lib.Seq.{sets, length-sets, length-take-le, take-at, drop-at}
 use borrow.Author.Tests.{not-true, not-false}
 use Rattle.laws.specs.Bools.{and-both}
 use Rattle.words.specs.Words.{bytes, W, Bytes}
@@ -14,7 +14,7 @@ use Rattle.words.specs.Sets.{sets-at, sets-lent, length-part, cut}
 use Rattle.words.specs.Numbers.{each-drop}
 use Rattle.words.specs.Lift.{length-bytes, bytes-append, length-W, W-fit, W-part}
 use Rattle.layout.specs.Code.{Code, pair, okN}
-use Rattle.layout.specs.Tables.{Holds, Table, Held, Becomes, insertAt, append, opened}
+use Rattle.layout.specs.Tables.{Holds, Table, Becomes, insertAt, append, opened}
 use Rattle.layout.specs.Contents.{holds-length, ok-prefix}
 use Rattle.layout.specs.Rows.{row-start, row-end}
 use Rattle.layout.specs.TableLaws.{inserts, appends, puts, Rowed, rowed-turn, rowed-fail}

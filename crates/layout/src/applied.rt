@@ -8,9 +8,10 @@ ghost use Rattle.units.specs.Types.{noop, command};
 ghost use Rattle.words.specs.Words.{W};
 ghost use Rattle.layout.specs.Code.{okN};
 ghost use Rattle.layout.specs.Tables.{Becomes, Tabled, append};
-ghost use Rattle.layout.specs.Payload.{wordsFor, payload};
+ghost use Rattle.layout.specs.Marked.{wordsFor};
+ghost use Rattle.layout.specs.Payload.{payload};
 ghost use Rattle.layout.specs.Applied.{applied};
-use crate::payload;
+use crate::marked;
 use crate::rows;
 
 // One noop more.
@@ -22,7 +23,7 @@ pub fn push_noop(s: &mut [u8], n: usize, p: usize)
     let at = n * w;
     let a = 8 * at;
     let e = 8 * (at + w);
-    payload::put_noop(&mut s[a..e]);
+    marked::put_noop(&mut s[a..e]);
 }
 
 // One command more, of the bytes of src.
@@ -34,7 +35,7 @@ pub fn push_command(s: &mut [u8], n: usize, p: usize, src: &[u8])
     let at = n * w;
     let a = 8 * at;
     let e = 8 * (at + w);
-    payload::put_command(&mut s[a..e], src);
+    marked::put_command(&mut s[a..e], src);
 }
 
 // Whether each row is a payload of up to p bytes.
@@ -48,7 +49,7 @@ fn payloads(s: &[u8], n: usize, p: usize) -> bool
         let at = rows::start_of(i, n, w);
         let a = 8 * at;
         let e = 8 * (at + w);
-        if !payload::check(&s[a..e], p) {
+        if !marked::check_payload(&s[a..e], p) {
             return false;
         }
         i += 1;
