@@ -41,5 +41,7 @@ fn source() -> PathBuf {
 fn repository() -> PathBuf {
     let package = env::var("CARGO_MANIFEST_DIR").expect("cargo sets CARGO_MANIFEST_DIR");
     let above = Path::new(&package).ancestors().nth(3);
-    above.expect("the package is host/reference/NAME").to_path_buf()
+    above
+        .expect("the package is host/reference/NAME")
+        .to_path_buf()
 }

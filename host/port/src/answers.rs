@@ -3,6 +3,12 @@
 
 use crate::words::records;
 
+/// An answer to a refused call.
+pub trait Refused: Default {
+    /// The refusal, and zeros.
+    fn refused(refusal: u64) -> Self;
+}
+
 records! {
     /// An input that a call opened.
     Input {
@@ -241,4 +247,20 @@ records! {
         /// Violations reported, those not kept included.
         violations: u64,
     }
+}
+
+macro_rules! refused {
+    ($($name:ident),* $(,)?) => {
+        $(impl Refused for $name {
+            fn refused(refusal: u64) -> Self {
+                #[allow(clippy::needless_update)] // one of them has no other field
+                $name { refusal, ..$name::default() }
+            }
+        })*
+    };
+}
+
+refused! {
+    Done, Opened, Stepped, Sealed, Status, HardState, Log, Entry, Leader, Applied, AppliedEntry,
+    Metrics, SentBy, Reply, Confirmation, Violation, Run,
 }

@@ -11,8 +11,8 @@ mod settings;
 mod words;
 
 pub use answers::{
-    Applied, AppliedEntry, Confirmation, Done, Entry, HardState, Input, Leader, Log, Metrics, Opened, Reply, Run,
-    Sealed, SentBy, Status, Stepped, Violation,
+    Applied, AppliedEntry, Confirmation, Done, Entry, HardState, Input, Leader, Log, Metrics,
+    Opened, Refused, Reply, Run, Sealed, SentBy, Status, Stepped, Violation,
 };
 pub use settings::{Limits, Settings, area_length};
 pub use words::Words;

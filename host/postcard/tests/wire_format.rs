@@ -35,7 +35,11 @@ fn unsigned_numbers_are_varints() {
 #[test]
 fn a_varint_takes_seven_bits_a_byte() {
     for bits in 0..=64u32 {
-        let largest = if bits == 0 { 0 } else { u64::MAX >> (64 - bits) };
+        let largest = if bits == 0 {
+            0
+        } else {
+            u64::MAX >> (64 - bits)
+        };
         let bytes = bits.div_ceil(7).max(1) as usize;
         assert_eq!(to_allocvec(&largest).unwrap().len(), bytes, "{largest}");
     }

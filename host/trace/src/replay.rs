@@ -37,9 +37,9 @@ pub enum What {
     /// The answer.
     Answer {
         /// What the trace has.
-        expected: Answer,
+        expected: Box<Answer>,
         /// What the port gave.
-        found: Answer,
+        found: Box<Answer>,
     },
     /// The buffer was changed past the bytes that the answer has.
     Buffer,
@@ -128,8 +128,10 @@ impl Lent {
         self.buffer.fill(OLD);
         let found = call.make(port, &mut self.area, &mut self.buffer);
         if found != *expected {
-            let expected = expected.clone();
-            return Some(What::Answer { expected, found });
+            return Some(What::Answer {
+                expected: Box::new(expected.clone()),
+                found: Box::new(found),
+            });
         }
         let changed = |bytes: &[u8]| bytes.iter().any(|byte| *byte != OLD);
         if changed(&self.buffer[expected.bytes.len()..]) {
