@@ -26,8 +26,14 @@ pub(crate) fn record(seed: u64) -> Recording {
     let mut plan = Plan::new(seed);
     let settings = settings(&mut plan);
     let mut run = Run::<Hostile>::start(&settings, seed);
-    for _ in 0..plan.pick(&[40, 150, 400]) {
+    // Early, while the violations are still kept in full.
+    let checked = plan.below(40);
+    for made in 0..plan.pick(&[40, 150, 400]) {
         call(&mut run, &mut plan);
+        if made == checked {
+            run.check_log_matching();
+            run.check_durability();
+        }
     }
     let now = run.now().min(LATEST);
     run.schedule(now, Fault::HealAll);
@@ -104,7 +110,7 @@ fn call(run: &mut Run<Hostile>, plan: &mut Plan) {
 fn fault(plan: &mut Plan, ids: &[NodeId]) -> Fault {
     let id = NodeId(plan.server(ids));
     let (from, to) = (id, NodeId(plan.server(ids)));
-    let any32 = |plan: &mut Plan| plan.any() as u32;
+    let any_rate = plan.any() as u32;
     match plan.below(16) {
         0 => Fault::Crash(id),
         1..4 => Fault::CrashDuringNextInput(id),
@@ -121,11 +127,8 @@ fn fault(plan: &mut Plan, ids: &[NodeId]) -> Fault {
         7 => Fault::Block { from, to },
         8 => Fault::Unblock { from, to },
         9 => Fault::HealLinks,
-        10 => Fault::SetLoss(plan.pick(&[0, 1, 300_000, 999_999]).max(any32(plan) >> 31)),
-        11 => {
-            let any = any32(plan);
-            Fault::SetDuplication(plan.pick(&[0, 100_000, 500_000, any]))
-        }
+        10 => Fault::SetLoss(plan.pick(&[0, 1, 300_000, 999_999, any_rate])),
+        11 => Fault::SetDuplication(plan.pick(&[0, 100_000, 500_000, any_rate])),
         12 => {
             let any = plan.below(65_537);
             Fault::SetDelayFactor(plan.pick(&[0, 1, 3, 65_536, any]))

@@ -1,7 +1,9 @@
 //! Campaigns: many seeds, compared call by call.
 //!
-//! [`Mode`] is which node runs; [`record`] makes the run of a mode and a seed at the reference.
+//! [`Mode`] is which node runs; [`record`] makes the run of a mode and a seed at the reference;
+//! [`campaign`] does it for many seeds and compares.
 
+pub mod campaign;
 mod hostile;
 mod plan;
 mod raft;

@@ -121,7 +121,7 @@ fn contest<V: Variant>(run: &mut Run<Raft<V>>, plan: &mut Plan, delay: u64) {
 
 fn direct_call<V: Variant>(run: &mut Run<Raft<V>>, plan: &mut Plan) {
     let leader = run.sim().leader().map(|(id, _)| id.0);
-    let anyone = plan.server(&run.sim().ids().to_vec());
+    let anyone = plan.server(run.sim().ids());
     let server = leader.filter(|_| plan.one_in(2)).unwrap_or(anyone);
     match plan.below(5) {
         0 => run.fire_timer(server, Timer::Heartbeat),

@@ -73,7 +73,7 @@ impl Message {
 }
 
 /// A leadership confirmation that waits for answers to messages after this one.
-#[derive(Debug, Clone)]
+#[derive(Debug)]
 struct Waiting {
     request: RequestId,
     read_index: LogIndex,
@@ -94,7 +94,7 @@ struct Progress {
 }
 
 /// A server.
-#[derive(Debug, Clone)]
+#[derive(Debug)]
 pub struct Raft<V> {
     id: NodeId,
     peers: Vec<NodeId>,

@@ -3,8 +3,6 @@
 /// What a Raft does at the places where a mistake is classic. Each constant is `false` in a
 /// correct one.
 pub trait Variant {
-    /// The variant's name.
-    const NAME: &'static str;
     /// The vote is not on stable storage.
     const VOTE_NOT_SAVED: bool = false;
     /// Neither term nor vote is on stable storage, so that the term goes back in a crash.
@@ -16,14 +14,13 @@ pub trait Variant {
 }
 
 macro_rules! variants {
-    ($($(#[$about:meta])* $name:ident, $text:literal $(, $mistake:ident)?;)*) => {
+    ($($(#[$about:meta])* $name:ident $(: $mistake:ident)?;)*) => {
         $(
             $(#[$about])*
-            #[derive(Debug, Clone)]
+            #[derive(Debug)]
             pub struct $name;
 
             impl Variant for $name {
-                const NAME: &'static str = $text;
                 $(const $mistake: bool = true;)?
             }
         )*
@@ -32,13 +29,13 @@ macro_rules! variants {
 
 variants! {
     /// No mistake.
-    Correct, "raft";
+    Correct;
     /// Votes are not persisted: a server votes twice in a term.
-    VoteNotSaved, "vote-not-saved", VOTE_NOT_SAVED;
+    VoteNotSaved: VOTE_NOT_SAVED;
     /// The term goes back to zero in a crash: a server takes part twice in a term.
-    TermNotSaved, "term-not-saved", TERM_NOT_SAVED;
+    TermNotSaved: TERM_NOT_SAVED;
     /// An entry is applied before it is committed.
-    AppliesEarly, "applies-early", APPLIES_EARLY;
+    AppliesEarly: APPLIES_EARLY;
     /// The log is truncated too far: a message that comes late removes acknowledged entries.
-    TruncatesTooFar, "truncates-too-far", TRUNCATES_TOO_FAR;
+    TruncatesTooFar: TRUNCATES_TOO_FAR;
 }

@@ -88,7 +88,7 @@ const OTHERS: [&str; 9] = [
 
 /// What no run can meet: docs/src never reports liveness, and a start is never cut, because a
 /// crash is only set for a running server and cleared when it stops.
-pub const NEVER: [&str; 2] = ["violation Liveness", "cut start"];
+const NEVER: [&str; 2] = ["violation Liveness", "cut start"];
 
 /// How often each thing was met; what was not met is there with 0.
 #[derive(Debug, Clone, PartialEq, Eq)]

@@ -14,6 +14,6 @@ mod reads;
 mod recorded;
 mod run;
 
-pub use coverage::{Coverage, NEVER};
+pub use coverage::Coverage;
 pub use recorded::Recorded;
 pub use run::{Recording, Run};

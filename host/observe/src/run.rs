@@ -3,7 +3,7 @@
 use std::collections::BTreeMap;
 
 use consensus::{Consensus, NodeId, Payload, RequestId, Timer};
-use port::{Done, Input, Limits, Opened, Sealed, Settings, Stepped, kinds};
+use port::{Done, Input, Opened, Sealed, Settings, Stepped, kinds};
 use sim::queue::{Note, take_notes};
 use sim::{Fault, Simulation, Stream, leaves, stream_seed};
 use trace::{Answer, Call, Exchange, Trace};
@@ -69,12 +69,10 @@ impl<N: Consensus> Run<N> {
             faults: BTreeMap::new(),
             fsyncs: 0,
         };
-        let settings = *settings;
-        // The limits are known when the run is over.
-        let limits = Limits::default();
         run.happened(Call::Start {
-            settings,
-            limits,
+            settings: Box::new(*settings),
+            // They are known when the run is over.
+            limits: Box::default(),
             seed,
         });
         run
@@ -154,7 +152,7 @@ impl<N: Consensus> Run<N> {
     pub fn finish(mut self) -> Recording {
         Reads::whole_logs(&self.sim, &mut self.trace);
         if let Call::Start { limits, .. } = &mut self.trace.exchanges[0].call {
-            *limits = self.needs.limits();
+            **limits = self.needs.limits();
         }
         let kept = self.sim.violations().iter().map(Some);
         let violations: Vec<_> = kept.map(numbers::violation).collect();

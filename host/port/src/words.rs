@@ -57,13 +57,23 @@ impl<const N: usize> Words for [u64; N] {
     }
 }
 
+impl<T: Words> Words for Box<T> {
+    fn put(&self, words: &mut Vec<u64>) {
+        T::put(self, words);
+    }
+
+    fn take(words: &mut &[u64]) -> Option<Self> {
+        T::take(words).map(Box::new)
+    }
+}
+
 /// Declares records of words: `repr(C)`, compared and shown field by field.
 macro_rules! records {
     ($($(#[$about:meta])* $name:ident { $($(#[$note:meta])* $field:ident: $kind:ty,)* })*) => {
         $(
             $(#[$about])*
             #[repr(C)]
-            #[derive(Debug, Clone, Copy, Default, PartialEq, Eq)]
+            #[derive(Debug, Clone, Copy, Default, PartialEq, Eq, Hash)]
             pub struct $name {
                 $($(#[$note])* pub $field: $kind,)*
             }

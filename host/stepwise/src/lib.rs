@@ -5,8 +5,8 @@
 //! in the pieces that the calls ask for. It shows that the calls suffice to make the reference's
 //! runs, and is what traces are replayed at where no port is linked.
 //!
-//! It keeps its state itself and never looks at the area. Of document 01's questions it asks 6 to
-//! 9; its tables have no limits.
+//! It keeps its state itself and looks at the area's length alone. Of document 01's questions it
+//! asks 1 to 4 and 6 to 9; its tables have no limits.
 
 mod clients;
 mod events;
@@ -73,11 +73,14 @@ fn lend(buffer: &mut [u8], bytes: &[u8]) {
 impl Port for Stepwise {
     fn start(
         &mut self,
-        _area: &mut [u8],
+        area: &mut [u8],
         settings: &Settings,
         limits: &Limits,
         seed: u64,
     ) -> Opened {
+        if let Some(refusal) = questions::refuses_start(settings, limits, area.len()) {
+            return Opened::refused(refusal);
+        }
         let (state, input) = State::start(settings, limits, seed);
         self.state = Some(state);
         Opened { refusal: 0, input }

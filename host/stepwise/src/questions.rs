@@ -1,6 +1,7 @@
 //! Document 01's questions 6 to 9.
 
-use port::{Limits, kinds, kinds::refusal};
+use port::kinds::{self, refusal};
+use port::{Limits, Settings, area_length};
 
 use crate::state::{Kind, Phase, State};
 
@@ -117,4 +118,41 @@ fn within_limits(kind: u64, first: u64, groups: &[u8]) -> bool {
         fault::PARTITION => groups.len() <= 8,
         _ => kind <= fault::HEAL_ALL,
     }
+}
+
+/// The refusal of a start: questions 1 to 4.
+pub(crate) fn refuses_start(settings: &Settings, limits: &Limits, area: usize) -> Option<u64> {
+    if !(1..=8).contains(&settings.servers) {
+        return Some(refusal::SERVERS);
+    }
+    let config = numbers::settings_of(settings).consensus;
+    if config.validate().is_err() {
+        return Some(refusal::CONFIG);
+    }
+    if !settings_within_limits(settings, limits) {
+        return Some(refusal::SETTINGS);
+    }
+    let short = (area as u64) < area_length(settings, limits);
+    short.then_some(refusal::AREA)
+}
+
+fn settings_within_limits(settings: &Settings, limits: &Limits) -> bool {
+    let durations = [
+        settings.heartbeat_interval,
+        settings.election_timeout_min,
+        settings.election_timeout_max,
+        settings.one_way_delay,
+        settings.client_timeout,
+        settings.client_backoff,
+        settings.start_spread,
+    ];
+    let tables = [limits.events, limits.writes, limits.history];
+    durations.iter().all(|duration| *duration <= 1 << 40)
+        && tables.iter().all(|places| (1..=65_536).contains(places))
+        && settings.count_bytes.max(settings.raft_checks) <= 1
+        && settings.clients <= 64
+        && (1..=1_024).contains(&limits.log)
+        && (12..=256).contains(&limits.payload)
+        && limits.message <= 4_096
+        && settings.command_bytes <= limits.payload
 }

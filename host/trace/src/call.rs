@@ -2,15 +2,15 @@
 
 use port::{
     Applied, AppliedEntry, Confirmation, Done, Entry, HardState, Input, Leader, Limits, Log,
-    Metrics, Opened, Port, Reply, Run, Sealed, SentBy, Settings, Status, Stepped, Violation, Words,
-    kinds,
+    Metrics, Opened, Port, Refused, Reply, Run, Sealed, SentBy, Settings, Status, Stepped,
+    Violation, Words, kinds,
 };
 
 /// Declares the calls: number, name, arguments, and the kind of answer.
 macro_rules! calls {
     ($($(#[$about:meta])* $number:literal $name:ident { $($field:ident: $kind:ty),* } -> $answer:ident;)*) => {
         /// A call with its arguments. Lent buffers are the replay's own.
-        #[derive(Debug, Clone, PartialEq, Eq)]
+        #[derive(Debug, Clone, PartialEq, Eq, Hash)]
         pub enum Call {
             $(
                 $(#[$about])*
@@ -46,6 +46,13 @@ macro_rules! calls {
                 }
             }
 
+            /// The answer where this call is refused.
+            pub fn refused(&self, refusal: u64) -> Answer {
+                match self {
+                    $(Call::$name { .. } => <$answer as Refused>::refused(refusal).into(),)*
+                }
+            }
+
             /// Takes an answer to this call.
             pub(crate) fn take_answer(&self, words: &mut &[u64]) -> Option<Answer> {
                 match self {
@@ -60,7 +67,7 @@ macro_rules! calls {
 }
 
 calls! {
-    1 Start { settings: Settings, limits: Limits, seed: u64 } -> Opened;
+    1 Start { settings: Box<Settings>, limits: Box<Limits>, seed: u64 } -> Opened;
     2 Step { deadline: u64 } -> Stepped;
     3 Propose { server: u64 } -> Opened;
     4 FireTimer { server: u64, timer: u64 } -> Opened;
@@ -102,7 +109,7 @@ impl Call {
 }
 
 /// An answer: the numbers, and the bytes that the call wrote to the lent buffer.
-#[derive(Debug, Clone, PartialEq, Eq)]
+#[derive(Debug, Clone, PartialEq, Eq, Hash)]
 pub struct Answer {
     /// The numbers.
     pub numbers: Numbers,
@@ -114,7 +121,7 @@ pub struct Answer {
 macro_rules! numbers {
     ($($name:ident),* $(,)?) => {
         /// The numbers of an answer, by the kind of call.
-        #[derive(Debug, Clone, Copy, PartialEq, Eq)]
+        #[derive(Debug, Clone, Copy, PartialEq, Eq, Hash)]
         pub enum Numbers {
             $(#[allow(missing_docs)] $name($name),)*
         }

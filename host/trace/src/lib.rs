@@ -6,14 +6,16 @@
 
 mod call;
 mod form;
+mod refusals;
 mod replay;
 
 pub use call::{Answer, Call, Numbers};
 pub use form::BadForm;
+pub use refusals::with_refusals;
 pub use replay::{Difference, Options, What, replay};
 
 /// A call and what it must answer.
-#[derive(Debug, Clone, PartialEq, Eq)]
+#[derive(Debug, Clone, PartialEq, Eq, Hash)]
 pub struct Exchange {
     /// The call.
     pub call: Call,
@@ -22,7 +24,7 @@ pub struct Exchange {
 }
 
 /// A run: its calls in order, the first one a start.
-#[derive(Debug, Clone, Default, PartialEq, Eq)]
+#[derive(Debug, Clone, Default, PartialEq, Eq, Hash)]
 pub struct Trace {
     /// The calls with their answers.
     pub exchanges: Vec<Exchange>,

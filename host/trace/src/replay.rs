@@ -86,10 +86,11 @@ pub fn replay(
         if let Call::Start {
             settings, limits, ..
         } = call
+            && exchange.answer.numbers.refusal() == 0
         {
             lent = Lent::new(area_length(settings, limits), limits);
         }
-        if call.reads() && place % options.reads != 0 {
+        if call.reads() && place % options.reads.max(1) != 0 {
             continue;
         }
         made += 1;

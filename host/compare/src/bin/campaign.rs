@@ -1,59 +1,77 @@
-//! x
-use compare::{Mode, record};
-use observe::Coverage;
-use std::time::Instant;
-use stepwise::Stepwise;
-use trace::{Options, replay};
+//! The whole campaign: every mode compared over many seeds, the mistakes caught, the correct node
+//! not. The three numbers may be given: seeds of a mode, seeds within which a mistake must be
+//! caught, seeds over which the correct node must not.
 
-fn main() {
-    let n: u64 = std::env::args().nth(1).map_or(20, |a| a.parse().unwrap());
-    let mut all = Coverage::default();
-    let only = std::env::args().nth(2);
+use std::env;
+use std::process::ExitCode;
+use std::time::Instant;
+
+use compare::Mode;
+use compare::campaign::{Outcome, compare, each, judge};
+use observe::Coverage;
+
+fn main() -> ExitCode {
+    let given = env::args().skip(1).map(|word| word.parse::<u64>());
+    let Ok(given) = given.collect::<Result<Vec<u64>, _>>() else {
+        eprintln!("usage: campaign [SEEDS [SEEDS-FOR-A-MISTAKE [SEEDS-OF-THE-CORRECT-NODE]]]");
+        return ExitCode::from(2);
+    };
+    let number = |place: usize, usual| given.get(place).copied().unwrap_or(usual);
+    let (seeds, within, correct) = (number(0, 500), number(1, 200), number(2, 2_000));
+
+    println!(
+        "mode                seeds    events      calls  seconds  seeds with a violation (first)"
+    );
+    let mut coverage = Coverage::default();
+    let mut bad = Vec::new();
     for mode in Mode::ALL {
-        if only.as_ref().is_some_and(|o| o != mode.name()) {
-            continue;
-        }
         let begun = Instant::now();
-        let (mut events, mut calls, mut failing, mut first) = (0, 0, 0, None);
-        let mut maxlen = 0;
-        let mut cov = Coverage::default();
-        let mut rec = 0.0;
-        for seed in 0..n {
-            let t = Instant::now();
-            let r = record(mode, seed);
-            rec += t.elapsed().as_secs_f64();
-            events += r.events;
-            maxlen = maxlen.max(r.trace.exchanges.len());
-            calls += r.trace.exchanges.len();
-            if !r.violations.is_empty() {
-                if mode != Mode::Hostile {
-                    println!(
-                        "{} seed {seed} {:?}",
-                        mode.name(),
-                        r.violations
-                            .iter()
-                            .map(|v| v.check)
-                            .collect::<std::collections::BTreeSet<_>>()
-                    );
-                }
-                failing += 1;
-                first.get_or_insert(seed);
-            }
-            cov.add(&r.coverage);
-            if std::env::args().nth(3).is_none()
-                && let Err(d) = replay(&r.trace, &mut Stepwise::default(), Options::default())
-            {
-                println!("{} seed {seed}: {d}", mode.name());
-                return;
-            }
+        let outcome = each(0..seeds, |seed| compare(mode, seed));
+        print_row(mode.name(), &outcome, begun);
+        coverage.add(&outcome.coverage);
+        bad.extend(outcome.differences.iter().cloned());
+        if Mode::MISTAKES.contains(&mode) && outcome.caught.range(..within).next().is_none() {
+            bad.push(format!(
+                "{} is not caught within {within} seeds",
+                mode.name()
+            ));
         }
-        println!(
-            "{:20} events {events} calls {calls} maxlen {maxlen} failing {failing} first {first:?} record {rec:.1} all {:.1}",
-            mode.name(),
-            begun.elapsed().as_secs_f64()
-        );
-        all.add(&cov);
     }
-    println!("{all}");
-    println!("missing {:?}", all.missing());
+    let begun = Instant::now();
+    let outcome = each(0..correct, |seed| judge(Mode::Raft, seed));
+    print_row("raft, judged only", &outcome, begun);
+    if let Some(seed) = outcome.caught.first() {
+        bad.push(format!("the correct node violates a check at seed {seed}"));
+    }
+
+    println!("\ncoverage\n{coverage}");
+    bad.extend(
+        coverage
+            .missing()
+            .iter()
+            .map(|name| format!("never met: {name}")),
+    );
+    for problem in &bad {
+        println!("NOT SO: {problem}");
+    }
+    if bad.is_empty() {
+        println!("every trace agrees, every mistake is caught, the correct node by no check");
+        ExitCode::SUCCESS
+    } else {
+        ExitCode::FAILURE
+    }
+}
+
+fn print_row(name: &str, outcome: &Outcome, begun: Instant) {
+    let first = match outcome.caught.first() {
+        Some(seed) => format!("{} ({seed})", outcome.caught.len()),
+        None => "none".to_string(),
+    };
+    println!(
+        "{name:18} {:>6} {:>9} {:>10} {:>8.1}  {first}",
+        outcome.seeds,
+        outcome.events,
+        outcome.calls,
+        begun.elapsed().as_secs_f64(),
+    );
 }
