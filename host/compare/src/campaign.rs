@@ -14,7 +14,7 @@ use trace::{Options, Trace, replay, with_refusals};
 use crate::{Mode, record};
 
 /// Refused calls that are put into a trace, at most.
-const REFUSALS: usize = 1_000;
+const REFUSALS: usize = 300;
 
 /// What one or more seeds have shown.
 #[derive(Debug, Clone, Default)]

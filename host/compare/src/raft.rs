@@ -57,6 +57,9 @@ pub(crate) fn record<V: Variant>(seed: u64) -> Recording {
 }
 
 fn settings(plan: &mut Plan) -> Settings {
+    let one_way_delay = plan.pick(&[MS, 7_500_000, 20 * MS, 20 * MS]);
+    // Few enough that the log of a correct node stays short.
+    let clients = plan.below(if one_way_delay == MS { 2 } else { 4 });
     Settings {
         servers: plan.pick(&[1, 2, 3, 3, 3, 3, 4, 5, 5, 8]),
         heartbeat_interval: plan.pick(&[10 * MS, 30 * MS, 75 * MS]),
@@ -64,8 +67,8 @@ fn settings(plan: &mut Plan) -> Settings {
         election_timeout_max: plan.pick(&[170 * MS, 200 * MS, 300 * MS]),
         max_entries_per_message: plan.pick(&[4, 16]),
         max_entries_in_flight: 1_024,
-        one_way_delay: plan.pick(&[MS, 7_500_000, 20 * MS, 20 * MS]),
-        clients: plan.below(4),
+        one_way_delay,
+        clients,
         command_bytes: plan.pick(&[0, 12, 13, 40, 128]),
         client_timeout: plan.pick(&[100 * MS, 500 * MS]),
         client_backoff: 50 * MS,
