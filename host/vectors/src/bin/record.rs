@@ -1,54 +1,29 @@
-//! Writes the recorded answers, or compares them with what is there.
-//!
-//! `record FOLDER` writes; `record --check FOLDER` says which files would change.
+//! Writes the recorded answers into a folder.
 
 use std::path::Path;
 use std::process::ExitCode;
-use std::{env, fs};
+use std::{env, fs, io};
 
 fn main() -> ExitCode {
-    let words: Vec<String> = env::args().skip(1).collect();
-    let words: Vec<&str> = words.iter().map(String::as_str).collect();
-    match words[..] {
-        ["--check", folder] => check(Path::new(folder)),
-        [folder] if !folder.starts_with('-') => write(Path::new(folder)),
-        _ => {
-            eprintln!("usage: record [--check] FOLDER");
-            ExitCode::from(2)
+    let Some(folder) = env::args().nth(1) else {
+        eprintln!("usage: record FOLDER");
+        return ExitCode::from(2);
+    };
+    match write(Path::new(&folder)) {
+        Ok(()) => ExitCode::SUCCESS,
+        Err(problem) => {
+            eprintln!("{folder}: {problem}");
+            ExitCode::FAILURE
         }
     }
 }
 
-fn write(folder: &Path) -> ExitCode {
+fn write(folder: &Path) -> io::Result<()> {
+    fs::create_dir_all(folder)?;
     for file in vectors::all() {
-        let path = folder.join(file.name);
-        let bytes = file.bytes();
-        let result = fs::create_dir_all(folder).and_then(|()| fs::write(&path, &bytes));
-        if let Err(problem) = result {
-            eprintln!("{}: {problem}", path.display());
-            return ExitCode::FAILURE;
-        }
+        fs::write(folder.join(file.name), file.bytes())?;
         let (rows, width) = (file.rows.len(), file.width);
         println!("{:20} {rows:4} rows of {width:2} words", file.name);
     }
-    ExitCode::SUCCESS
-}
-
-fn check(folder: &Path) -> ExitCode {
-    let files = vectors::all();
-    let stale = files.iter().filter(|file| {
-        let held = fs::read(folder.join(file.name));
-        held.ok() != Some(file.bytes())
-    });
-    let stale: Vec<&str> = stale.map(|file| file.name).collect();
-    if stale.is_empty() {
-        println!(
-            "{} files of recorded answers are the reference's",
-            files.len()
-        );
-        ExitCode::SUCCESS
-    } else {
-        println!("not the reference's answers: {}", stale.join(", "));
-        ExitCode::FAILURE
-    }
+    Ok(())
 }
