@@ -1,8 +1,10 @@
 //! A port whose answers are not the trace's is found out.
 
+use std::collections::BTreeSet;
+
 use compare::{Mode, record};
 use stepwise::Stepwise;
-use trace::{Call, Options, Trace, What, replay};
+use trace::{Call, Options, Trace, What, replay, with_refusals};
 
 fn short_trace() -> Trace {
     let traces = (0..40).map(|seed| record(Mode::Hostile, seed).trace);
@@ -67,6 +69,23 @@ fn a_call_left_out_is_a_difference() {
 fn traces_are_the_same_in_a_file() {
     let trace = record(Mode::Hostile, 5).trace;
     assert_eq!(Trace::from_bytes(&trace.to_bytes()), Ok(trace));
+}
+
+#[test]
+fn every_question_but_the_fifth_refuses() {
+    let traces = (0..40).map(|seed| with_refusals(record(Mode::Hostile, seed).trace, 3));
+    let exchanges = traces.flat_map(|trace| trace.exchanges);
+    let refused: BTreeSet<(u64, u64)> = exchanges
+        .map(|exchange| (exchange.answer.numbers.refusal(), exchange.call.number()))
+        .filter(|(refusal, _)| *refusal != 0)
+        .collect();
+    let refusals: BTreeSet<u64> = refused.iter().map(|(refusal, _)| *refusal).collect();
+    assert_eq!(refusals, BTreeSet::from([1, 2, 3, 4, 6, 7, 8, 9, 10]));
+    let calls: BTreeSet<u64> = refused.iter().map(|(_, call)| *call).collect();
+    assert!((1..=23).all(|call| calls.contains(&call)), "{calls:?}");
+    let full = refused.iter().filter(|(refusal, _)| *refusal == 10);
+    let full: Vec<u64> = full.map(|(_, call)| *call).collect();
+    assert_eq!(full, [6, 7, 8, 9, 15, 16]);
 }
 
 #[test]

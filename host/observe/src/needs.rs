@@ -2,7 +2,7 @@
 
 use std::collections::BTreeSet;
 
-use consensus::Command;
+use consensus::{Command, Role};
 use port::{Limits, Settings};
 use sim::leaves;
 use trace::Call;
@@ -56,8 +56,8 @@ impl Needs {
         self.pending_of(server).clear();
     }
 
-    /// An input was made; `leads` is whether its server leads at its end.
-    pub(crate) fn input(&mut self, seen: &Seen, cut: bool, leads: bool) {
+    /// An input was made.
+    pub(crate) fn input(&mut self, seen: &Seen, cut: bool) {
         let proposed = match &seen.kind {
             Kind::Proposal(command) => client_key(command),
             _ => None,
@@ -80,7 +80,7 @@ impl Needs {
         for call in &seen.outputs {
             self.call(seen.server, call);
         }
-        if leads {
+        if seen.status.role == Role::Leader {
             self.led.insert(seen.status.term.0);
         }
         if let (Some(key), Some(_)) = (proposed, seen.refused) {

@@ -290,13 +290,22 @@ impl<N: Consensus> Run<N> {
 
     /// The calls of one input. Returns what its seal did.
     fn input(&mut self, seen: &Seen, next: Input, direct: bool) -> u64 {
-        let server = seen.server;
-        let cut = !self.sim.is_running(NodeId(server));
+        let cut = !self.sim.is_running(NodeId(seen.server));
         self.count_input(seen, cut, direct);
-        let before = self.statuses[server as usize - 1];
-        let trace = &mut self.trace;
+        self.needs.input(seen, cut);
+        self.writes(seen);
+        let outcome = self.seal(seen, cut, next);
+        if !cut {
+            self.outputs(seen, next);
+        }
+        outcome
+    }
 
-        trace.push(Call::ReadStatus { server }, before);
+    /// What the node found, its writes, and what they left.
+    fn writes(&mut self, seen: &Seen) {
+        let server = seen.server;
+        self.read_status_before(server);
+        let trace = &mut self.trace;
         if let Kind::Start(_) = seen.kind {
             reads::disk(server, &seen.found, trace);
             trace.push(Call::ReadApplied { server }, port::Applied::default());
@@ -307,33 +316,34 @@ impl<N: Consensus> Run<N> {
         if !seen.writes.is_empty() {
             reads::disk(server, &seen.left, trace);
         }
+    }
 
+    /// Returns what the seal did.
+    fn seal(&mut self, seen: &Seen, cut: bool, next: Input) -> u64 {
         let (hinted, leader) = numbers::optional(seen.refused.flatten());
-        let outcome = match (cut, seen.writes.is_empty()) {
-            (true, _) => kinds::seal::CUT,
-            (false, true) => kinds::seal::NOTHING,
-            (false, false) => kinds::seal::SYNCED,
-        };
         let seal = Call::Seal {
             refused: seen.refused.is_some().into(),
             hinted,
             leader,
+        };
+        let outcome = match (cut, seen.writes.is_empty()) {
+            (true, _) => kinds::seal::CUT,
+            (false, true) => kinds::seal::NOTHING,
+            (false, false) => kinds::seal::SYNCED,
         };
         let sealed = Sealed {
             refusal: 0,
             outcome,
             input: if cut { next } else { Input::default() },
         };
-        trace.push(seal, sealed);
-        let status = numbers::status(Some(seen.status));
-        self.needs
-            .input(seen, cut, status.role == kinds::role::LEADER);
-        if cut {
-            return outcome;
-        }
+        self.trace.push(seal, sealed);
+        outcome
+    }
 
+    /// The outputs, and the end, which opens the next input that is owed.
+    fn outputs(&mut self, seen: &Seen, next: Input) {
         for output in &seen.outputs {
-            trace.push(output.clone(), Done::default());
+            self.trace.push(output.clone(), Done::default());
             if let Call::OutputApply {
                 index,
                 kind,
@@ -344,7 +354,8 @@ impl<N: Consensus> Run<N> {
                 self.applied.push(numbers::payload_of(*kind, payload));
             }
         }
-        trace.push(Call::ReadStatus { server }, before);
+        self.read_status_before(seen.server);
+        let status = numbers::status(Some(seen.status));
         let end = Call::End {
             role: status.role,
             term: status.term,
@@ -352,9 +363,14 @@ impl<N: Consensus> Run<N> {
             leader: status.leader,
             commit: status.commit,
         };
-        let input = next;
-        trace.push(end, Opened { refusal: 0, input });
-        outcome
+        let (refusal, input) = (0, next);
+        self.trace.push(end, Opened { refusal, input });
+    }
+
+    /// While an input is open, its server's status is as before it.
+    fn read_status_before(&mut self, server: u64) {
+        let before = self.statuses[server as usize - 1];
+        self.trace.push(Call::ReadStatus { server }, before);
     }
 
     fn count_input(&mut self, seen: &Seen, cut: bool, direct: bool) {

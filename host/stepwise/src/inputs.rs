@@ -20,6 +20,7 @@ impl State {
             sealed: false,
             refused: None,
         });
+        self.waiting = 0;
         let server = &self.servers[slot];
         let (id, incarnation) = (server.id, server.incarnation);
         let (kind, first, second, third) = match kind {
@@ -89,7 +90,9 @@ impl State {
         &mut self.servers[slot]
     }
 
-    pub(crate) fn open_storage(&mut self) -> &mut TrackedStorage {
+    /// The storage of the open input's server, for one write.
+    pub(crate) fn write(&mut self) -> &mut TrackedStorage {
+        self.waiting += 1;
         &mut self.open_server().storage
     }
 

@@ -6,7 +6,7 @@
 //! runs, and is what traces are replayed at where no port is linked.
 //!
 //! It keeps its state itself and looks at the area's length alone. Of document 01's questions it
-//! asks 1 to 4 and 6 to 9; its tables have no limits.
+//! asks 1 to 4 and 6 to 9, and 10 of the calls that add one write, timer, fault or confirmation.
 
 mod clients;
 mod events;
@@ -146,6 +146,7 @@ impl Port for Stepwise {
             Question::Targets(fault, first, second, groups),
             Question::AtMost(at, 1 << 62),
             Question::Fault(fault, first, groups),
+            Question::RoomForEvent,
         ];
         self.done(&questions, |state| {
             let fault = numbers::fault_of(fault, first, second, groups);
@@ -154,12 +155,16 @@ impl Port for Stepwise {
     }
 
     fn write_hard_state(&mut self, _area: &mut [u8], term: u64, voted: u64, vote: u64) -> Done {
-        let questions = [Question::Writing, Question::Flag(voted)];
+        let questions = [
+            Question::Writing,
+            Question::Flag(voted),
+            Question::RoomForWrite,
+        ];
         self.done(&questions, |state| {
             let term = Term(term);
             let voted_for = numbers::optional_of(voted, vote);
             let hard_state = HardState { term, voted_for };
-            state.open_storage().set_hard_state(hard_state);
+            state.write().set_hard_state(hard_state);
         })
     }
 
@@ -175,18 +180,20 @@ impl Port for Stepwise {
             Question::Writing,
             Question::Index(1, index),
             Question::Payload(kind, payload),
+            Question::RoomForWrite,
         ];
         self.done(&questions, |state| {
             let term = Term(term);
             let payload = numbers::payload_of(kind, payload);
             let entry = Entry { term, payload };
-            state.open_storage().put(LogIndex(index), entry);
+            state.write().put(LogIndex(index), entry);
         })
     }
 
     fn write_truncate(&mut self, _area: &mut [u8], from: u64) -> Done {
-        self.done(&[Question::Writing], |state| {
-            state.open_storage().truncate(LogIndex(from));
+        let questions = [Question::Writing, Question::RoomForWrite];
+        self.done(&questions, |state| {
+            state.write().truncate(LogIndex(from));
         })
     }
 
@@ -223,6 +230,7 @@ impl Port for Stepwise {
             Question::Sending,
             Question::Timer(timer),
             Question::AtMost(after, 1 << 40),
+            Question::RoomForEvent,
         ];
         self.done(&questions, |state| {
             state.set_timer(timer, Duration::from_nanos(after));
@@ -248,13 +256,15 @@ impl Port for Stepwise {
     }
 
     fn output_confirmed(&mut self, _area: &mut [u8], request: u64, read_index: u64) -> Done {
-        self.done(&[Question::Sending], |state| {
+        let questions = [Question::Sending, Question::RoomForConfirmation];
+        self.done(&questions, |state| {
             state.confirmed(request, Some(LogIndex(read_index)));
         })
     }
 
     fn output_lost(&mut self, _area: &mut [u8], request: u64) -> Done {
-        self.done(&[Question::Sending], |state| {
+        let questions = [Question::Sending, Question::RoomForConfirmation];
+        self.done(&questions, |state| {
             state.confirmed(request, None);
         })
     }

@@ -1,4 +1,4 @@
-//! Document 01's questions 6 to 9.
+//! Document 01's questions 1 to 4 and 6 to 9, and 10 where one more of something is asked for.
 
 use port::kinds::{self, refusal};
 use port::{Limits, Settings, area_length};
@@ -35,6 +35,12 @@ pub(crate) enum Question<'a> {
     Buffer(usize, fn(&Limits) -> u64),
     /// May the open input be refused, where it is?
     MayRefuse(u64),
+    /// Is there room for one more write?
+    RoomForWrite,
+    /// Is there room for one more event?
+    RoomForEvent,
+    /// Is there room for one more confirmation?
+    RoomForConfirmation,
     /// Is it a fault, with its numbers and groups within limits? Kind, first number, groups.
     Fault(u64, u64, &'a [u8]),
 }
@@ -86,6 +92,12 @@ impl Question<'_> {
                     ),
                 refusal::RANGE,
             ),
+            Question::RoomForWrite => (state.waiting < state.limits.writes, refusal::ROOM),
+            Question::RoomForEvent => (state.queued < state.limits.events, refusal::ROOM),
+            Question::RoomForConfirmation => {
+                let held = state.confirmations.len() as u64;
+                (held < state.limits.history, refusal::ROOM)
+            }
             Question::Fault(kind, first, groups) => {
                 (within_limits(kind, first, groups), refusal::RANGE)
             }

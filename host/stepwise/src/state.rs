@@ -152,6 +152,8 @@ pub(crate) struct State {
     pub direct_seq: u64,
     pub events: u64,
     pub open: Option<Open>,
+    /// Writes of the open input.
+    pub waiting: u64,
     pub owed: Owed,
 }
 
@@ -188,6 +190,7 @@ impl State {
             direct_seq: 0,
             events: 0,
             open: None,
+            waiting: 0,
             owed: Owed::Nothing,
         };
         let input = state.construct(settings.start_spread);

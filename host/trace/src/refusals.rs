@@ -9,16 +9,27 @@ use port::{Input, Limits, Opened, Sealed, Settings, Stepped};
 
 use crate::{Call, Exchange, Numbers, Trace};
 
-/// Puts a refused call behind each `every`th call, of another kind each time.
+/// Calls that a full table refuses, at most in one trace.
+const FULL: usize = 64;
+
+/// Puts a refused call behind each `every`th call, of another kind each time, and one where a
+/// table is full.
 pub fn with_refusals(trace: Trace, every: usize) -> Trace {
     let mut place = Place::default();
     let mut refused = Trace::default();
-    let mut turn = 0;
+    let (mut turn, mut full) = (0, 0);
     for (number, exchange) in trace.exchanges.into_iter().enumerate() {
         place.follow(&exchange);
         refused.exchanges.push(exchange);
-        if number % every == 0 {
-            let mut calls = place.refused_calls();
+        let mut calls = Vec::new();
+        if full < FULL {
+            calls = place.full_tables();
+            full += usize::from(!calls.is_empty());
+        }
+        if calls.is_empty() && number % every == 0 {
+            calls = place.refused_calls();
+        }
+        if !calls.is_empty() {
             let (call, refusal) = calls.swap_remove(turn % calls.len());
             turn += 1;
             let answer = call.refused(refusal);
@@ -34,6 +45,12 @@ struct Place {
     settings: Settings,
     limits: Limits,
     phase: Phase,
+    /// Writes of the open input.
+    waiting: u64,
+    /// Confirmations so far.
+    confirmations: u64,
+    /// Events in the queue, where it has been read since the last call that can change it.
+    queued: Option<u64>,
 }
 
 #[derive(Default, Clone, Copy, PartialEq, Eq)]
@@ -66,6 +83,19 @@ impl Place {
             (self.settings, self.limits) = (**settings, **limits);
         }
         match (&exchange.call, &exchange.answer.numbers) {
+            (_, Numbers::Run(run)) => self.queued = Some(run.queued),
+            (call, _) if !call.reads() => self.queued = None,
+            _ => {}
+        }
+        match &exchange.call {
+            Call::WriteHardState { .. } | Call::WritePut { .. } | Call::WriteTruncate { .. } => {
+                self.waiting += 1;
+            }
+            Call::Seal { .. } => self.waiting = 0,
+            Call::OutputConfirmed { .. } | Call::OutputLost { .. } => self.confirmations += 1,
+            _ => {}
+        }
+        match (&exchange.call, &exchange.answer.numbers) {
             (Call::Seal { refused, .. }, Numbers::Sealed(Sealed { outcome, input, .. })) => {
                 self.phase = match *outcome {
                     kinds::seal::CUT => opened(input),
@@ -78,6 +108,46 @@ impl Place {
             | (_, Numbers::Stepped(Stepped { input, .. })) => self.phase = opened(input),
             _ => {}
         }
+    }
+
+    /// Calls that are in order here, but find no room.
+    fn full_tables(&self) -> Vec<(Call, u64)> {
+        let mut calls = Vec::new();
+        let writing = matches!(self.phase, Phase::Writing { .. });
+        if writing && self.waiting == self.limits.writes {
+            let hard_state = Call::WriteHardState {
+                term: 1,
+                voted: 0,
+                vote: 0,
+            };
+            let put = Call::WritePut {
+                index: 1,
+                term: 1,
+                kind: kinds::payload::NOOP,
+                payload: Vec::new(),
+            };
+            calls.extend([hard_state, put, Call::WriteTruncate { from: 1 }]);
+        }
+        let carrying_out = self.phase == Phase::Sending { refused: false };
+        if carrying_out && self.confirmations == self.limits.history {
+            let (request, read_index) = (1, 1);
+            calls.push(Call::OutputConfirmed {
+                request,
+                read_index,
+            });
+            calls.push(Call::OutputLost { request });
+        }
+        if self.phase == Phase::Closed && self.queued == Some(self.limits.events) {
+            calls.push(Call::Schedule {
+                at: 0,
+                fault: fault::HEAL_LINKS,
+                first: 0,
+                second: 0,
+                groups: Vec::new(),
+            });
+        }
+        let refused = calls.into_iter().map(|call| (call, refusal::ROOM));
+        refused.collect()
     }
 
     /// Calls that are refused here, with the numbers that refuse them.
