@@ -1,0 +1,99 @@
+//! A port whose answers are not the trace's is found out.
+
+use std::collections::BTreeSet;
+
+use compare::{Mode, record};
+use stepwise::Stepwise;
+use trace::{Call, Options, Trace, What, replay, with_refusals};
+
+fn short_trace() -> Trace {
+    let traces = (0..40).map(|seed| record(Mode::Hostile, seed).trace);
+    let shortest = traces.min_by_key(|trace| trace.exchanges.len());
+    shortest.expect("there are traces")
+}
+
+/// Where each row begins.
+fn rows(words: &[u64]) -> Vec<usize> {
+    let mut rows = vec![0];
+    while let Some(length) = words.get(*rows.last().unwrap()) {
+        rows.push(rows.last().unwrap() + 1 + *length as usize);
+    }
+    rows
+}
+
+#[test]
+fn every_word_of_an_answer_counts() {
+    let trace = short_trace();
+    let words = trace.to_words();
+    let rows = rows(&words);
+    let mut changed = 0;
+    for place in (0..trace.exchanges.len()).step_by(7) {
+        for word in rows[place] + 1..rows[place + 1] {
+            let mut other = words.clone();
+            other[word] ^= 1;
+            let Ok(other) = Trace::from_words(&other) else {
+                continue;
+            };
+            if other.exchanges[place].call != trace.exchanges[place].call {
+                continue;
+            }
+            changed += 1;
+            let found = replay(&other, &mut Stepwise::default(), Options::default());
+            let difference = found.expect_err("a changed answer is a difference");
+            assert_eq!(difference.place, place);
+            assert!(matches!(difference.what, What::Answer { .. }));
+        }
+    }
+    assert!(changed > 500, "{changed} answers were changed");
+}
+
+#[test]
+fn a_call_left_out_is_a_difference() {
+    let trace = short_trace();
+    let shows = |place: &usize| {
+        let call = &trace.exchanges[*place].call;
+        matches!(
+            call,
+            Call::Seal { .. } | Call::OutputSend { .. } | Call::End { .. }
+        )
+    };
+    for place in (1..trace.exchanges.len()).filter(shows) {
+        let mut other = trace.clone();
+        other.exchanges.remove(place);
+        let found = replay(&other, &mut Stepwise::default(), Options::default());
+        assert!(found.is_err(), "without {:?}", trace.exchanges[place].call);
+    }
+}
+
+#[test]
+fn traces_are_the_same_in_a_file() {
+    let trace = record(Mode::Hostile, 5).trace;
+    assert_eq!(Trace::from_bytes(&trace.to_bytes()), Ok(trace));
+}
+
+#[test]
+fn every_question_but_the_fifth_refuses() {
+    let traces = (0..40).map(|seed| with_refusals(record(Mode::Hostile, seed).trace, 3));
+    let exchanges = traces.flat_map(|trace| trace.exchanges);
+    let refused: BTreeSet<(u64, u64)> = exchanges
+        .map(|exchange| (exchange.answer.numbers.refusal(), exchange.call.number()))
+        .filter(|(refusal, _)| *refusal != 0)
+        .collect();
+    let refusals: BTreeSet<u64> = refused.iter().map(|(refusal, _)| *refusal).collect();
+    assert_eq!(refusals, BTreeSet::from([1, 2, 3, 4, 6, 7, 8, 9, 10]));
+    let calls: BTreeSet<u64> = refused.iter().map(|(_, call)| *call).collect();
+    assert!((1..=23).all(|call| calls.contains(&call)), "{calls:?}");
+    let full = refused.iter().filter(|(refusal, _)| *refusal == 10);
+    let full: Vec<u64> = full.map(|(_, call)| *call).collect();
+    assert_eq!(full, [6, 7, 8, 9, 15, 16]);
+}
+
+#[test]
+fn reads_may_be_left_out() {
+    let trace = record(Mode::Raft, 1).trace;
+    let made = |reads| {
+        let options = Options { reads };
+        replay(&trace, &mut Stepwise::default(), options).expect("the trace agrees")
+    };
+    assert!(made(16) < made(1) / 2);
+}

@@ -1,0 +1,63 @@
+# Sourced by the scripts of this folder, which they have made the current one.
+# Sets: reference, the folder of the reference source, empty where there is none;
+#       unready, why nothing can be built, empty where all is there.
+
+registry=/usr/share/cargo/registry
+packages="librust-serde-dev librust-serde-derive-dev"
+
+debian_has_serde() {
+    compgen -G "$registry/serde-1.*/Cargo.toml" >/dev/null &&
+        compgen -G "$registry/serde_derive-1.*/Cargo.toml" >/dev/null
+}
+
+install_serde() {
+    [ "$(id -u)" -eq 0 ] && command -v apt-get >/dev/null || return 1
+    echo "installing $packages"
+    export DEBIAN_FRONTEND=noninteractive
+    # shellcheck disable=SC2086
+    apt-get install -qq -y --no-install-recommends $packages >/dev/null 2>&1 ||
+        { apt-get update -qq && apt-get install -qq -y --no-install-recommends $packages; } >/dev/null 2>&1
+}
+
+# Cargo takes serde from Debian's packages where they are, else from the usual registry.
+use_registry() {
+    mkdir -p .cargo
+    local wanted=""
+    debian_has_serde && wanted="[source.crates-io]
+replace-with = \"debian\"
+
+[source.debian]
+directory = \"$registry\""
+    if [ "$wanted" != "$(cat .cargo/config.toml 2>/dev/null)" ]; then
+        printf '%s\n' "$wanted" >.cargo/config.toml
+        rm -f Cargo.lock
+    fi
+    debian_has_serde || cargo fetch --quiet 2>/dev/null
+}
+
+find_reference() {
+    reference=${BUCKETBEACH_REFERENCE:-../../shared/docs/src}
+    if [ -f "$reference/INDEX.md" ]; then
+        reference=$(realpath "$reference")
+        export BUCKETBEACH_REFERENCE=$reference
+    else
+        echo "SKIPPED: the comparison with the reference: no source at $reference (BUCKETBEACH_REFERENCE can name its folder)"
+        reference=
+    fi
+}
+
+unready=
+if ! command -v cargo >/dev/null; then
+    unready="no cargo"
+else
+    debian_has_serde || install_serde
+    use_registry || unready="no serde: neither $packages nor the usual registry can be had"
+    export CARGO_NET_OFFLINE=true
+fi
+find_reference
+
+# For the scripts that need the reference.
+need_reference() {
+    [ -z "$unready" ] || { echo "cannot be built: $unready"; exit 2; }
+    [ -n "$reference" ] || exit 2
+}
