@@ -1,8 +1,11 @@
 // Document 01's cases, each computed by the code and compared with what it must be.
+ghost use Prim.Native.Nat.{_≤_};
 use libc::STDOUT_FILENO;
+use network::Network;
 use record::PayloadShape;
 use rng::Rng;
 use seeds::Stream;
+use units::Duration;
 use units::LogIndex;
 use units::NodeId;
 use units::NodeOption;
@@ -16,6 +19,25 @@ fn report(name: &[u8], holds: bool) {
     } else {
         io::write_all(STDOUT_FILENO, b" failed\n");
     }
+}
+
+// 1 for true.
+fn one(b: bool) -> u64
+    ensures { λ r. ⌜ r ≤ 1 ⌝ }
+{
+    if b { 1 } else { 0 }
+}
+
+// How many ordered pairs of servers have a blocked link.
+fn blocked_pairs(n: Network) -> u64 {
+    let links = n.blocked;
+    let mut pairs: u64 = 0;
+    let mut k: usize = 0;
+    while k < 64 {
+        pairs += one(links[k]);
+        k += 1;
+    }
+    pairs
 }
 
 fn main() {
@@ -38,4 +60,6 @@ fn main() {
         record::put_bytes(LogIndex(1), Term(1), command) == 21,
     );
     report(b"C6", record::truncate_bytes(LogIndex(128)) == 7);
+    let two_groups = Network::new(Duration(0), Rng::new(0)).partition(3 + 256 * 6);
+    report(b"C10", blocked_pairs(two_groups) == 7);
 }
