@@ -2,10 +2,10 @@
 
 use std::time::Duration;
 
-use consensus::{NodeId, Timer};
+use consensus::{NodeId, Rng, Timer};
 use nodes::Hostile;
 use observe::{Recording, Run};
-use port::Settings;
+use port::{Chaos, Settings};
 use sim::Fault;
 
 use crate::plan::{MS, Plan};
@@ -85,7 +85,7 @@ fn call(run: &mut Run<Hostile>, plan: &mut Plan) {
             };
             run.confirm_leadership(server, request);
         }
-        3..6 => {
+        3..5 => {
             let at = match plan.below(64) {
                 0 => plan.below(LATEST + 1),
                 1..8 => 0,
@@ -94,6 +94,7 @@ fn call(run: &mut Run<Hostile>, plan: &mut Plan) {
             let fault = fault(plan, &ids);
             run.schedule(at.min(LATEST), fault);
         }
+        5 => chaos(run, plan),
         6 if plan.one_in(4) => run.check_log_matching(),
         7 if plan.one_in(4) => run.check_durability(),
         8 => {
@@ -105,6 +106,21 @@ fn call(run: &mut Run<Hostile>, plan: &mut Plan) {
             run.step((run.now() + reach).min(LATEST));
         }
     }
+}
+
+/// Draws a schedule, and carries out none of it.
+fn chaos(run: &mut Run<Hostile>, plan: &mut Plan) {
+    let start = plan.below(MS);
+    let chaos = Chaos {
+        start,
+        end: plan.pick(&[0, start, start + 50 * MS, LATEST]),
+        mean_gap: plan.pick(&[MS, LONGEST]),
+        max_duration: plan.pick(&[0, 100 * MS, 101 * MS, LONGEST]),
+    };
+    // A schedule up to the end of time would be long.
+    let end = chaos.end.min(chaos.start + 40 * chaos.mean_gap);
+    let mut rng = Rng::new(plan.any());
+    run.chaos_schedule(&Chaos { end, ..chaos }, &mut rng);
 }
 
 fn fault(plan: &mut Plan, ids: &[NodeId]) -> Fault {

@@ -1,12 +1,10 @@
 //! A run of a Raft: faults for a while, then quiet, then the checks.
 
-use std::time::Duration;
-
 use consensus::{NodeId, Storage, Timer};
 use nodes::{Raft, Variant};
 use observe::{Recording, Run};
-use port::Settings;
-use sim::{ChaosConfig, Fault, Stream, chaos_schedule, stream_rng};
+use port::{Chaos, Settings};
+use sim::{Fault, Stream, stream_rng};
 
 use crate::plan::{MS, Plan};
 
@@ -81,14 +79,14 @@ fn settings(plan: &mut Plan) -> Settings {
 /// The reference's chaos, and crashes with quick restarts.
 fn schedule<V: Variant>(run: &mut Run<Raft<V>>, plan: &mut Plan, seed: u64) {
     let ids = run.sim().ids().to_vec();
-    let chaos = ChaosConfig {
-        start: Duration::from_nanos(100 * MS),
-        end: Duration::from_nanos(FAULTS_END),
-        mean_gap: Duration::from_nanos(plan.pick(&[60, 150, 400]) * MS),
-        max_duration: Duration::from_nanos(plan.pick(&[50, 200, 600]) * MS),
+    let chaos = Chaos {
+        start: 100 * MS,
+        end: FAULTS_END,
+        mean_gap: plan.pick(&[60, 150, 400]) * MS,
+        max_duration: plan.pick(&[50, 200, 600]) * MS,
     };
     let mut faults = stream_rng(seed, Stream::Faults);
-    for (at, fault) in chaos_schedule(&ids, &chaos, &mut faults) {
+    for (at, fault) in run.chaos_schedule(&chaos, &mut faults) {
         run.schedule(sim::leaves::nanos(at), fault);
     }
     for _ in 0..plan.below(24) {

@@ -82,10 +82,11 @@ fn every_question_but_the_fifth_refuses() {
     let refusals: BTreeSet<u64> = refused.iter().map(|(refusal, _)| *refusal).collect();
     assert_eq!(refusals, BTreeSet::from([1, 2, 3, 4, 6, 7, 8, 9, 10]));
     let calls: BTreeSet<u64> = refused.iter().map(|(_, call)| *call).collect();
-    assert!((1..=23).all(|call| calls.contains(&call)), "{calls:?}");
+    let mut all = (1..=23).chain([25, 28, 33]);
+    assert!(all.all(|call| calls.contains(&call)), "{calls:?}");
     let full = refused.iter().filter(|(refusal, _)| *refusal == 10);
     let full: Vec<u64> = full.map(|(_, call)| *call).collect();
-    assert_eq!(full, [6, 7, 8, 9, 15, 16]);
+    assert_eq!(full, [6, 7, 8, 9, 15, 16, 33]);
 }
 
 #[test]

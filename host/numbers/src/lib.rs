@@ -3,15 +3,24 @@
 use std::time::Duration;
 
 use consensus::{
-    Command, Config, Entry, HardState, LogIndex, MemStorage, NodeId, Payload, Role, Status,
+    Command, Config, Entry, HardState, LogIndex, MemStorage, NodeId, Payload, Rng, Role, Status,
     Storage, Term, Timer,
 };
-use port::{Settings, kinds};
-use sim::{Check, Confirmation, Counts, Fault, Reply, SimConfig, Violation, leaves};
+use port::{Chaos, Settings, kinds};
+use sim::{
+    ChaosConfig, Check, Confirmation, Counts, Fault, Reply, SimConfig, SimTime, Violation, leaves,
+};
 
 /// A duration as its nanoseconds.
 pub fn nanos(duration: Duration) -> u64 {
     u64::try_from(duration.as_nanos()).expect("durations within the limits fit")
+}
+
+/// A generator's state, which it shows only for debugging.
+pub fn generator(rng: &Rng) -> u64 {
+    let text = format!("{rng:?}");
+    let digits = text.trim_matches(|c: char| !c.is_ascii_digit());
+    digits.parse().expect("a generator shows its state")
 }
 
 /// Present or absent, and who.
@@ -255,6 +264,28 @@ pub fn fault_of(kind: u64, first: u64, second: u64, groups: &[u8]) -> Fault {
     }
 }
 
+/// The reference's settings of a schedule.
+pub fn chaos_of(chaos: &Chaos) -> ChaosConfig {
+    ChaosConfig {
+        start: Duration::from_nanos(chaos.start),
+        end: Duration::from_nanos(chaos.end),
+        mean_gap: Duration::from_nanos(chaos.mean_gap),
+        max_duration: Duration::from_nanos(chaos.max_duration),
+    }
+}
+
+/// A schedule's list: of each entry its time, its fault, the two numbers and the groups.
+pub fn schedule(schedule: &[(SimTime, Fault)]) -> Vec<[u64; 5]> {
+    let entry = |(at, scheduled): &(SimTime, Fault)| {
+        let (kind, first, second, groups) = fault(scheduled);
+        let mut masks = [0; 8];
+        masks[..groups.len()].copy_from_slice(&groups);
+        let groups = u64::from_le_bytes(masks);
+        [leaves::nanos(*at), kind, first, second, groups]
+    };
+    schedule.iter().map(entry).collect()
+}
+
 /// A group of servers: bit i is server i + 1.
 fn mask(group: &[NodeId]) -> u8 {
     group.iter().fold(0, |mask, id| mask | 1 << (id.0 - 1))
@@ -293,6 +324,11 @@ pub fn settings_of(settings: &Settings) -> SimConfig {
 #[cfg(test)]
 mod tests {
     use super::*;
+
+    #[test]
+    fn a_generator_shows_its_state() {
+        assert_eq!(generator(&Rng::new(17)), 17);
+    }
 
     #[test]
     fn faults_go_there_and_back() {

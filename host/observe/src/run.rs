@@ -2,10 +2,10 @@
 
 use std::collections::BTreeMap;
 
-use consensus::{Consensus, NodeId, Payload, RequestId, Timer};
-use port::{Done, Input, Opened, Sealed, Settings, Stepped, kinds};
+use consensus::{Consensus, NodeId, Payload, RequestId, Rng, Timer};
+use port::{Chaos, Done, Drawn, Input, Opened, Sealed, Settings, Stepped, kinds};
 use sim::queue::{Note, take_notes};
-use sim::{Fault, Simulation, Stream, leaves, stream_seed};
+use sim::{Fault, SimTime, Simulation, Stream, chaos_schedule, leaves, stream_seed};
 use trace::{Answer, Call, Exchange, Trace};
 
 use crate::coverage::Coverage;
@@ -121,6 +121,31 @@ impl<N: Consensus> Run<N> {
             .sim
             .confirm_leadership(NodeId(server), RequestId(request));
         self.happened(Call::ConfirmLeadership { server, request });
+    }
+
+    /// Draws a schedule of faults for the cluster.
+    pub fn chaos_schedule(&mut self, chaos: &Chaos, rng: &mut Rng) -> Vec<(SimTime, Fault)> {
+        let before = numbers::generator(rng);
+        let ids = self.sim.ids();
+        let servers = ids.iter().map(|id| id.0 as u8).collect();
+        let schedule = chaos_schedule(ids, &numbers::chaos_of(chaos), rng);
+        let entries = numbers::schedule(&schedule);
+        let places = entries.len() as u64;
+        let call = Call::ChaosSchedule {
+            servers,
+            chaos: *chaos,
+            generator: before,
+            places,
+        };
+        let drawn = Drawn {
+            refusal: 0,
+            count: places,
+        };
+        let left = [numbers::generator(rng)];
+        let words = left.iter().chain(entries.iter().flatten());
+        let bytes = words.flat_map(|word| word.to_le_bytes()).collect();
+        self.trace.push(call, (drawn, bytes));
+        schedule
     }
 
     /// Schedules a fault.

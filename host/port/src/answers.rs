@@ -226,6 +226,14 @@ records! {
         numbers: [u64; 5],
     }
 
+    /// A schedule of faults.
+    Drawn {
+        /// The refusal.
+        refusal: u64,
+        /// Entries of its list.
+        count: u64,
+    }
+
     /// The run as a whole.
     Run {
         /// The refusal.
@@ -262,5 +270,5 @@ macro_rules! refused {
 
 refused! {
     Done, Opened, Stepped, Sealed, Status, HardState, Log, Entry, Leader, Applied, AppliedEntry,
-    Metrics, SentBy, Reply, Confirmation, Violation, Run,
+    Metrics, SentBy, Reply, Confirmation, Violation, Run, Drawn,
 }

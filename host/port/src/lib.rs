@@ -11,11 +11,14 @@ mod settings;
 mod words;
 
 pub use answers::{
-    Applied, AppliedEntry, Confirmation, Done, Entry, HardState, Input, Leader, Log, Metrics,
-    Opened, Refused, Reply, Run, Sealed, SentBy, Status, Stepped, Violation,
+    Applied, AppliedEntry, Confirmation, Done, Drawn, Entry, HardState, Input, Leader, Log,
+    Metrics, Opened, Refused, Reply, Run, Sealed, SentBy, Status, Stepped, Violation,
 };
-pub use settings::{Limits, Settings, area_length};
+pub use settings::{Chaos, Limits, Settings, area_length};
 pub use words::Words;
+
+/// Bytes of an entry in a schedule's list.
+pub const ENTRY: usize = 40;
 
 /// The calls. `area` is the memory that holds the state, the same at each call of a run.
 pub trait Port {
@@ -138,4 +141,14 @@ pub trait Port {
 
     /// The run as a whole.
     fn read_run(&mut self, area: &[u8]) -> Run;
+
+    /// Draws a schedule of faults for the servers, one byte each. `list` gets [`ENTRY`] bytes an
+    /// entry: time, fault, the two numbers and the groups, as words.
+    fn chaos_schedule(
+        &mut self,
+        servers: &[u8],
+        chaos: &Chaos,
+        generator: &mut u64,
+        list: &mut [u8],
+    ) -> Drawn;
 }

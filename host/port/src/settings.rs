@@ -52,6 +52,20 @@ records! {
     }
 }
 
+records! {
+    /// The reference's `ChaosConfig`, in nanoseconds.
+    Chaos {
+        /// The earliest time of a fault.
+        start: u64,
+        /// When every fault ends.
+        end: u64,
+        /// The mean time between faults.
+        mean_gap: u64,
+        /// The longest duration of a fault.
+        max_duration: u64,
+    }
+}
+
 /// The area's length in bytes, by document 01's formula.
 pub fn area_length(settings: &Settings, limits: &Limits) -> u64 {
     let (servers, clients) = (settings.servers, settings.clients);

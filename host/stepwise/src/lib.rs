@@ -17,10 +17,10 @@ mod state;
 
 use std::time::Duration;
 
-use consensus::{Entry, HardState, LogIndex, Storage, Term};
+use consensus::{Entry, HardState, LogIndex, NodeId, Rng, Storage, Term};
 use port::{
-    Applied, AppliedEntry, Confirmation, Done, Input, Leader, Limits, Log, Metrics, Opened, Port,
-    Refused, Reply, Run, Sealed, SentBy, Settings, Status, Stepped, Violation, kinds,
+    Applied, AppliedEntry, Chaos, Confirmation, Done, Drawn, Input, Leader, Limits, Log, Metrics,
+    Opened, Port, Refused, Reply, Run, Sealed, SentBy, Settings, Status, Stepped, Violation, kinds,
 };
 use sim::leaves;
 
@@ -382,5 +382,32 @@ impl Port for Stepwise {
 
     fn read_run(&mut self, _area: &[u8]) -> Run {
         self.state().read_run()
+    }
+
+    fn chaos_schedule(
+        &mut self,
+        servers: &[u8],
+        chaos: &Chaos,
+        generator: &mut u64,
+        list: &mut [u8],
+    ) -> Drawn {
+        if let Some(refusal) = questions::refuses_schedule(servers, chaos) {
+            return Drawn::refused(refusal);
+        }
+        let ids: Vec<NodeId> = servers.iter().map(|id| NodeId((*id).into())).collect();
+        let mut rng = Rng::new(*generator);
+        let drawn = sim::chaos_schedule(&ids, &numbers::chaos_of(chaos), &mut rng);
+        let entries = numbers::schedule(&drawn);
+        let words = entries.iter().flatten();
+        let bytes: Vec<u8> = words.flat_map(|word| word.to_le_bytes()).collect();
+        if bytes.len() > list.len() {
+            return Drawn::refused(kinds::refusal::ROOM);
+        }
+        lend(list, &bytes);
+        *generator = numbers::generator(&rng);
+        Drawn {
+            refusal: 0,
+            count: drawn.len() as u64,
+        }
     }
 }

@@ -1,7 +1,7 @@
 //! Document 01's questions 1 to 4 and 6 to 9, and 10 where one more of something is asked for.
 
 use port::kinds::{self, refusal};
-use port::{Limits, Settings, area_length};
+use port::{Chaos, Limits, Settings, area_length};
 
 use crate::state::{Kind, Phase, State};
 
@@ -167,4 +167,24 @@ fn settings_within_limits(settings: &Settings, limits: &Limits) -> bool {
         && (12..=256).contains(&limits.payload)
         && limits.message <= 4_096
         && settings.command_bytes <= limits.payload
+}
+
+/// The refusal of a schedule: questions 1, 7 and 9, and 10 where its draws would never end.
+///
+/// Where two servers are asked for and all are one, the reference may never end either; that is
+/// not told here.
+pub(crate) fn refuses_schedule(servers: &[u8], chaos: &Chaos) -> Option<u64> {
+    if !(1..=8).contains(&servers.len()) {
+        return Some(refusal::SERVERS);
+    }
+    if !servers.iter().all(|id| (1..=8).contains(id)) {
+        return Some(refusal::SERVER);
+    }
+    let times = chaos.start.max(chaos.end);
+    let durations = chaos.mean_gap.max(chaos.max_duration);
+    if times > 1 << 62 || durations > 1 << 40 {
+        return Some(refusal::RANGE);
+    }
+    let endless = chaos.mean_gap == 0 && chaos.start < chaos.end;
+    endless.then_some(refusal::ROOM)
 }

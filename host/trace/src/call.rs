@@ -1,9 +1,9 @@
 //! The calls as values, and their answers.
 
 use port::{
-    Applied, AppliedEntry, Confirmation, Done, Entry, HardState, Input, Leader, Limits, Log,
-    Metrics, Opened, Port, Refused, Reply, Run, Sealed, SentBy, Settings, Status, Stepped,
-    Violation, Words, kinds,
+    Applied, AppliedEntry, Chaos, Confirmation, Done, Drawn, ENTRY, Entry, HardState, Input,
+    Leader, Limits, Log, Metrics, Opened, Port, Refused, Reply, Run, Sealed, SentBy, Settings,
+    Status, Stepped, Violation, Words, kinds,
 };
 
 /// Declares the calls: number, name, arguments, and the kind of answer.
@@ -46,8 +46,7 @@ macro_rules! calls {
                 }
             }
 
-            /// The answer where this call is refused.
-            pub fn refused(&self, refusal: u64) -> Answer {
+            fn refused_numbers(&self, refusal: u64) -> Numbers {
                 match self {
                     $(Call::$name { .. } => <$answer as Refused>::refused(refusal).into(),)*
                 }
@@ -99,16 +98,28 @@ calls! {
     30 ReadConfirmation { place: u64 } -> Confirmation;
     31 ReadViolation { place: u64 } -> Violation;
     32 ReadRun {} -> Run;
+    33 ChaosSchedule { servers: Vec<u8>, chaos: Chaos, generator: u64, places: u64 } -> Drawn;
 }
 
 impl Call {
+    /// The answer where this call is refused: nothing that was lent changes.
+    pub fn refused(&self, refusal: u64) -> Answer {
+        let bytes = match self {
+            Call::ChaosSchedule { generator, .. } => generator.to_le_bytes().to_vec(),
+            _ => Vec::new(),
+        };
+        let numbers = self.refused_numbers(refusal);
+        Answer { numbers, bytes }
+    }
+
     /// Whether the call only reads.
     pub fn reads(&self) -> bool {
-        self.number() >= 20
+        (20..33).contains(&self.number())
     }
 }
 
-/// An answer: the numbers, and the bytes that the call wrote to the lent buffer.
+/// An answer: the numbers, and the bytes that the call wrote to the lent buffer. Of a schedule:
+/// the eight bytes of the generator's state, and the list.
 #[derive(Debug, Clone, PartialEq, Eq, Hash)]
 pub struct Answer {
     /// The numbers.
@@ -151,7 +162,7 @@ macro_rules! numbers {
 
 numbers! {
     Done, Opened, Stepped, Sealed, Status, HardState, Log, Entry, Leader, Applied, AppliedEntry,
-    Metrics, SentBy, Reply, Confirmation, Violation, Run,
+    Metrics, SentBy, Reply, Confirmation, Violation, Run, Drawn,
 }
 
 impl<N: Into<Numbers>> From<N> for Answer {
@@ -174,9 +185,9 @@ impl Answer {
         self.bytes.put(words);
     }
 
-    /// How many bytes the numbers say that the call wrote.
-    fn written(&self) -> u64 {
-        match self.numbers {
+    /// How many bytes of the lent buffer or list the numbers say that the call wrote.
+    pub(crate) fn written(&self) -> usize {
+        let written = match self.numbers {
             Numbers::Stepped(Stepped {
                 input:
                     Input {
@@ -188,23 +199,38 @@ impl Answer {
             }) => second,
             Numbers::Entry(Entry { length, .. })
             | Numbers::AppliedEntry(AppliedEntry { length, .. }) => length,
+            Numbers::Drawn(Drawn { count, .. }) => count.saturating_mul(ENTRY as u64),
             _ => 0,
-        }
+        };
+        usize::try_from(written).unwrap_or(usize::MAX)
     }
 }
 
 impl Call {
-    /// Makes the call. `buffer` is what is lent where the call takes a buffer.
+    /// Makes the call. `buffer` is what is lent where the call takes a buffer or a list.
     pub(crate) fn make(&self, port: &mut impl Port, area: &mut [u8], buffer: &mut [u8]) -> Answer {
-        let numbers = self.numbers(port, area, buffer);
-        let bytes = Vec::new();
+        let mut state = match self {
+            Call::ChaosSchedule { generator, .. } => *generator,
+            _ => 0,
+        };
+        let numbers = self.numbers(port, area, buffer, &mut state);
+        let bytes = match self {
+            Call::ChaosSchedule { .. } => state.to_le_bytes().to_vec(),
+            _ => Vec::new(),
+        };
         let mut answer = Answer { numbers, bytes };
-        let written = usize::try_from(answer.written()).unwrap_or(usize::MAX);
-        answer.bytes = buffer[..written.min(buffer.len())].to_vec();
+        let written = answer.written().min(buffer.len());
+        answer.bytes.extend_from_slice(&buffer[..written]);
         answer
     }
 
-    fn numbers(&self, port: &mut impl Port, area: &mut [u8], buffer: &mut [u8]) -> Numbers {
+    fn numbers(
+        &self,
+        port: &mut impl Port,
+        area: &mut [u8],
+        buffer: &mut [u8],
+        generator: &mut u64,
+    ) -> Numbers {
         match self {
             Call::Start {
                 settings,
@@ -288,6 +314,9 @@ impl Call {
             Call::ReadConfirmation { place } => port.read_confirmation(area, *place).into(),
             Call::ReadViolation { place } => port.read_violation(area, *place).into(),
             Call::ReadRun {} => port.read_run(area).into(),
+            Call::ChaosSchedule { servers, chaos, .. } => port
+                .chaos_schedule(servers, chaos, generator, buffer)
+                .into(),
         }
     }
 }

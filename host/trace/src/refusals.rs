@@ -5,7 +5,7 @@
 //! it had not been made.
 
 use port::kinds::{self, fault, refusal};
-use port::{Input, Limits, Opened, Sealed, Settings, Stepped};
+use port::{Chaos, Input, Limits, Opened, Sealed, Settings, Stepped};
 
 use crate::{Call, Exchange, Numbers, Trace};
 
@@ -154,6 +154,7 @@ impl Place {
     fn refused_calls(&self) -> Vec<(Call, u64)> {
         let mut calls = self.starts();
         calls.extend(self.reads());
+        calls.extend(schedules());
         let closed = matches!(self.phase, Phase::Closed);
         let writing = matches!(self.phase, Phase::Writing { .. });
         let sending = matches!(self.phase, Phase::Sending { .. });
@@ -390,4 +391,43 @@ impl Place {
         };
         vec![(end(3, 0), refusal::RANGE), (end(0, 2), refusal::RANGE)]
     }
+}
+
+/// Schedules, which no phase refuses, as they lend no area.
+fn schedules() -> Vec<(Call, u64)> {
+    let chaos = Chaos {
+        start: 0,
+        end: 1_000_000_000,
+        mean_gap: 100_000_000,
+        max_duration: 0,
+    };
+    let schedule = |servers: &[u8], chaos, places| Call::ChaosSchedule {
+        servers: servers.to_vec(),
+        chaos,
+        generator: 7,
+        places,
+    };
+    let late = Chaos {
+        end: (1 << 62) + 1,
+        ..chaos
+    };
+    let slow = Chaos {
+        mean_gap: (1 << 40) + 1,
+        ..chaos
+    };
+    let crowded = Chaos {
+        mean_gap: 0,
+        ..chaos
+    };
+    let over = Chaos { end: 0, ..chaos };
+    vec![
+        (schedule(&[], late, 9), refusal::SERVERS),
+        (schedule(&[1; 9], chaos, 9), refusal::SERVERS),
+        (schedule(&[1, 9], late, 9), refusal::SERVER),
+        (schedule(&[0, 1], chaos, 9), refusal::SERVER),
+        (schedule(&[1, 2], late, 9), refusal::RANGE),
+        (schedule(&[1, 2], slow, 9), refusal::RANGE),
+        (schedule(&[1], crowded, 9), refusal::ROOM),
+        (schedule(&[1, 2, 3], over, 0), refusal::ROOM),
+    ]
 }

@@ -2,7 +2,7 @@
 
 use std::fmt;
 
-use port::{Limits, Port, area_length};
+use port::{ENTRY, Limits, Port, area_length};
 
 use crate::{Answer, Call, Trace};
 
@@ -109,7 +109,10 @@ struct Lent {
     area: Vec<u8>,
     /// Where the area ends.
     length: usize,
+    /// The host's buffer, or the list of a schedule.
     buffer: Vec<u8>,
+    /// The buffer's length.
+    longest: usize,
 }
 
 impl Lent {
@@ -118,7 +121,8 @@ impl Lent {
         Lent {
             area: vec![OLD; length + PAST],
             length,
-            buffer: vec![OLD; limits.message.max(limits.payload) as usize],
+            buffer: Vec::new(),
+            longest: limits.message.max(limits.payload) as usize,
         }
     }
 
@@ -126,7 +130,12 @@ impl Lent {
     fn differs(&mut self, call: &Call, expected: &Answer, port: &mut impl Port) -> Option<What> {
         let refused = expected.numbers.refusal() != 0;
         let before = refused.then(|| self.area.clone());
-        self.buffer.fill(OLD);
+        let buffer = match call {
+            Call::ChaosSchedule { places, .. } => *places as usize * ENTRY,
+            _ => self.longest,
+        };
+        self.buffer.clear();
+        self.buffer.resize(buffer, OLD);
         let found = call.make(port, &mut self.area, &mut self.buffer);
         if found != *expected {
             return Some(What::Answer {
@@ -135,7 +144,7 @@ impl Lent {
             });
         }
         let changed = |bytes: &[u8]| bytes.iter().any(|byte| *byte != OLD);
-        if changed(&self.buffer[expected.bytes.len()..]) {
+        if changed(&self.buffer[expected.written()..]) {
             return Some(What::Buffer);
         }
         if changed(&self.area[self.length..]) {

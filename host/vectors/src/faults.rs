@@ -1,11 +1,10 @@
 //! Chaos schedules.
 
-use std::time::Duration;
-
 use consensus::{NodeId, Rng};
-use sim::{ChaosConfig, chaos_schedule, leaves};
+use port::Chaos;
+use sim::chaos_schedule;
 
-use crate::{File, padded, rng};
+use crate::{File, padded};
 
 /// A millisecond in nanoseconds.
 const MS: u64 = 1_000_000;
@@ -39,24 +38,22 @@ pub(crate) fn schedules() -> File {
 
 fn schedule(servers: &[u8], times: [u64; 4], seed: u64) -> Vec<[u64; 8]> {
     let [start, end, mean_gap, max_duration] = times;
-    let config = ChaosConfig {
-        start: Duration::from_nanos(start),
-        end: Duration::from_nanos(end),
-        mean_gap: Duration::from_nanos(mean_gap),
-        max_duration: Duration::from_nanos(max_duration),
+    let chaos = Chaos {
+        start,
+        end,
+        mean_gap,
+        max_duration,
     };
     let ids: Vec<NodeId> = servers.iter().map(|id| NodeId((*id).into())).collect();
     let mut generator = Rng::new(seed);
-    let made = chaos_schedule(&ids, &config, &mut generator);
+    let made = chaos_schedule(&ids, &numbers::chaos_of(&chaos), &mut generator);
     let [list] = padded::<1>(servers);
     let count = made.len() as u64;
-    let after = rng::state(&generator);
+    let after = numbers::generator(&generator);
     let head = [count, list, start, end, mean_gap, max_duration, seed, after];
-    let entries = made.iter().map(|(at, fault)| {
-        let (kind, first, second, groups) = numbers::fault(fault);
-        let [groups] = padded::<1>(&groups);
-        [leaves::nanos(*at), kind, first, second, groups, 0, 0, 0]
-    });
+    let entries = numbers::schedule(&made).into_iter();
+    let entries =
+        entries.map(|[at, kind, first, second, groups]| [at, kind, first, second, groups, 0, 0, 0]);
     std::iter::once(head).chain(entries).collect()
 }
 

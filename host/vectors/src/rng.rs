@@ -1,6 +1,7 @@
 //! The generator.
 
 use consensus::Rng;
+use numbers::generator as state;
 
 use crate::File;
 
@@ -9,13 +10,6 @@ pub(crate) fn step() -> u64 {
     let mut rng = Rng::new(0);
     rng.next_u64();
     state(&rng)
-}
-
-/// A generator's state, which it shows only for debugging.
-pub(crate) fn state(rng: &Rng) -> u64 {
-    let text = format!("{rng:?}");
-    let digits = text.trim_matches(|c: char| !c.is_ascii_digit());
-    digits.parse().expect("a generator shows its state")
 }
 
 /// Seeds at the ends and in the middle.
@@ -93,6 +87,5 @@ mod tests {
     #[test]
     fn a_draw_adds_the_constant() {
         assert_eq!(step(), 0x9E37_79B9_7F4A_7C15);
-        assert_eq!(state(&Rng::new(17)), 17);
     }
 }
