@@ -12,6 +12,11 @@ abbrev pub pick : {A : Type 0} → Bool → A → A → A
 pick true a b = a
 pick false a b = b
 
+-- by a test, with what it answered
+pub cases : {A : Type 0} (t : Bool) → (t ≡ true → A) → (t ≡ false → A) → A
+cases true f g = f refl
+cases false f g = g refl
+
 -- conjunction. Shut, so that antt finds the arguments of the laws below: `and-left _ _ h`
 infixr 35 _and_
 unfoldable pub _and_ : Bool → Bool → Bool

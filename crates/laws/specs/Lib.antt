@@ -1,2 +1,6 @@
 pub mod Bools
 pub mod Decides
+pub mod Kinds
+pub mod Lists
+pub mod ListLaws
+pub mod Order

@@ -17,7 +17,8 @@ use Rattle.layout.specs.declared.rows.Found.the-variants.{At, Absent}
 use Rattle.layout.specs.Code.{okN}
 use Rattle.layout.specs.Tables.{opened, removed, rowsIn}
 use Rattle.layout.specs.TableLaws.{Rowed, rowed-start, rowed-turn, rowed-fail, rowed-done}
-use Rattle.layout.specs.Order.{pairs, find, two, heads, rising}
+use Rattle.laws.specs.Order.{pairs, rising}
+use Rattle.layout.specs.Order.{find, two, heads}
 use Rattle.layout.specs.RowLaws.{heads-are}
 use Rattle.layout.specs.SortedTables.{Keyed, keyed-insert, keyed-inserted, keyed-remove, keyed-removed}
 use Rattle.layout.specs.Keys.{keyRow, keyOf, keys, Inserts, Removes}

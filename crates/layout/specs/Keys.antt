@@ -6,7 +6,7 @@ use lib.Dec.{ltb}
 use Rattle.layout.specs.declared.keys.Key.{Key}
 use Rattle.layout.specs.Code.{Code, word, pair, iso, such}
 use Rattle.layout.specs.Tables.{Table, Becomes}
-use Rattle.layout.specs.Order.{pairs, rising, insertBy, removeBy}
+use Rattle.laws.specs.Order.{pairs, rising, insertBy, removeBy}
 
 -- A row: the client, then the sequence number.
 abbrev pub keyRow : Code Key

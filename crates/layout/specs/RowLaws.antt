@@ -17,7 +17,8 @@ use Rattle.layout.specs.declared.rows.Found.the-variants.{At, Absent}
 use Rattle.layout.specs.Code.{Code, parseN}
 use Rattle.layout.specs.Tables.{opened, removed, padded, rowsIn}
 use Rattle.layout.specs.Rows.{row-end}
-use Rattle.layout.specs.Order.{numbers, pairs, lexBefore, below, notBelow, first, place, find, chain, one, two, heads}
+use Rattle.laws.specs.Order.{numbers, pairs, lexBefore, below, notBelow, chain}
+use Rattle.layout.specs.Order.{first, place, find, one, two, heads}
 use Rattle.layout.specs.Sorted.{Looking, look-start, look-here, look-next, look-end, found-end, found-above, found-here}
 
 -- ---- moves: `at` is where row i starts

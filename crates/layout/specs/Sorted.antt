@@ -16,7 +16,8 @@ use Rattle.laws.specs.Decides.{false-true}
 use Rattle.layout.specs.declared.rows.Found.{Found}
 use Rattle.layout.specs.declared.rows.Found.the-variants.{At, Absent}
 use Rattle.layout.specs.Tables.{insertAt, removeAt}
-use Rattle.layout.specs.Order.{Order, below, notBelow, first, place, lastPlace, later, find, next, chain, rising, sorted, insertBy, pushBy, removeBy, isAt, has}
+use Rattle.laws.specs.Order.{Order, below, notBelow, next, chain, rising, sorted, insertBy, pushBy, removeBy}
+use Rattle.layout.specs.Order.{first, place, lastPlace, later, find, isAt, has}
 
 -- ---- the first element that f takes
 

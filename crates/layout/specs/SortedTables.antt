@@ -13,7 +13,8 @@ use Rattle.layout.specs.declared.rows.Found.the-variants.{At, Absent}
 use Rattle.layout.specs.Code.{Code}
 use Rattle.layout.specs.Tables.{Table, Held, Becomes, rowsIn, insertAt, removeAt, opened, removed}
 use Rattle.layout.specs.TableLaws.{rows-are, held-rule, insert-held, remove-held}
-use Rattle.layout.specs.Order.{Order, lastPlace, find, isAt, has, rising, sorted, insertBy, pushBy, removeBy, heads}
+use Rattle.laws.specs.Order.{Order, rising, sorted, insertBy, pushBy, removeBy}
+use Rattle.layout.specs.Order.{lastPlace, find, isAt, has, heads}
 use Rattle.layout.specs.Sorted.{find-at, find-absent, insert-there, insert-absent, remove-there, remove-absent, push-at, rising-insert, rising-remove, sorted-push}
 use Rattle.layout.specs.RowLaws.{heads-are, length-heads}
 

@@ -6,7 +6,8 @@ ghost use Prim.Native.Nat.{_+_, _*_, _/_, _^_, _≤_, _<_};
 ghost use lib.ListN.{length};
 ghost use Rattle.words.specs.Words.{W};
 ghost use Rattle.layout.specs.Tables.{opened, removed, padded};
-ghost use Rattle.layout.specs.Order.{numbers, pairs, place, lastPlace, find, rising, sorted, one, two, heads};
+ghost use Rattle.laws.specs.Order.{numbers, pairs, rising, sorted};
+ghost use Rattle.layout.specs.Order.{place, lastPlace, find, one, two, heads};
 
 // The word at which row i starts, for i up to n. A product of two unknowns is beyond `omega`; what a caller wants of it comes with the call.
 pub fn start(i: usize, n: usize, w: usize) -> usize

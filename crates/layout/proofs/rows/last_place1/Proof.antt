@@ -1,7 +1,8 @@
--- Made by tools/uniform from proofs.txt, not by hand: 2307586f4ceb4af4
+-- Made by tools/uniform from proofs.txt, not by hand: af50b74dfa74e504
 use Prim.Native.Nat.{_-_, _≤_}
 use Rattle.words.specs.Words.{W}
-use Rattle.layout.specs.Order.{below, numbers, heads, one}
+use Rattle.laws.specs.Order.{below, numbers}
+use Rattle.layout.specs.Order.{heads, one}
 use Rattle.layout.specs.Sorted.{Looking}
 use Rattle.layout.specs.RowLaws.{last1}
 use borrow.Author.Needs.{needs}

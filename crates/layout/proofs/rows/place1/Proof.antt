@@ -1,7 +1,8 @@
--- Made by tools/uniform from proofs.txt, not by hand: 8690ba4113bd8f32
+-- Made by tools/uniform from proofs.txt, not by hand: 9ae0125bf4907516
 use Prim.Native.Nat.{_-_, _≤_}
 use Rattle.words.specs.Words.{W}
-use Rattle.layout.specs.Order.{notBelow, numbers, heads, one}
+use Rattle.laws.specs.Order.{notBelow, numbers}
+use Rattle.layout.specs.Order.{heads, one}
 use Rattle.layout.specs.Sorted.{Looking}
 use Rattle.layout.specs.RowLaws.{place1}
 use borrow.Author.Needs.{needs}

@@ -1,7 +1,8 @@
--- Made by tools/uniform from proofs.txt, not by hand: 46734a7e101628e1
+-- Made by tools/uniform from proofs.txt, not by hand: d51fbee671e145f4
 use Prim.Native.Nat.{_-_, _≤_}
 use Rattle.words.specs.Words.{W}
-use Rattle.layout.specs.Order.{notBelow, pairs, heads, two}
+use Rattle.laws.specs.Order.{notBelow, pairs}
+use Rattle.layout.specs.Order.{heads, two}
 use Rattle.layout.specs.Sorted.{Looking}
 use Rattle.layout.specs.RowLaws.{place2}
 use borrow.Author.Needs.{needs}

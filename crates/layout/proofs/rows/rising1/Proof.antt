@@ -1,7 +1,8 @@
--- Made by tools/uniform from proofs.txt, not by hand: 92cce8cb31441c89
+-- Made by tools/uniform from proofs.txt, not by hand: 864029a2f2e5ff4b
 use Prim.Native.Nat.{_-_, _≤_}
 use Rattle.words.specs.Words.{W}
-use Rattle.layout.specs.Order.{below, numbers, heads, one}
+use Rattle.laws.specs.Order.{below, numbers}
+use Rattle.layout.specs.Order.{heads, one}
 use Rattle.layout.specs.RowLaws.{Chained, rising1}
 use borrow.Author.Needs.{needs}
 use Rattle.layout.proofs.rows.rising1.Statement.{statement}

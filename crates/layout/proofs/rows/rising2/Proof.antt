@@ -1,7 +1,8 @@
--- Made by tools/uniform from proofs.txt, not by hand: 9281ac557f0221f6
+-- Made by tools/uniform from proofs.txt, not by hand: 9a7f2d4e9029e26b
 use Prim.Native.Nat.{_-_, _≤_}
 use Rattle.words.specs.Words.{W}
-use Rattle.layout.specs.Order.{below, pairs, heads, two}
+use Rattle.laws.specs.Order.{below, pairs}
+use Rattle.layout.specs.Order.{heads, two}
 use Rattle.layout.specs.RowLaws.{Chained, rising2}
 use borrow.Author.Needs.{needs}
 use Rattle.layout.proofs.rows.rising2.Statement.{statement}

@@ -1,7 +1,8 @@
--- Made by tools/uniform from proofs.txt, not by hand: 5cbacfd3e34765c4
+-- Made by tools/uniform from proofs.txt, not by hand: fad90bc3a5e99b98
 use Prim.Native.Nat.{_-_, _≤_}
 use Rattle.words.specs.Words.{W}
-use Rattle.layout.specs.Order.{notBelow, numbers, heads, one}
+use Rattle.laws.specs.Order.{notBelow, numbers}
+use Rattle.layout.specs.Order.{heads, one}
 use Rattle.layout.specs.RowLaws.{Chained, sorted1}
 use borrow.Author.Needs.{needs}
 use Rattle.layout.proofs.rows.sorted1.Statement.{statement}

@@ -1,0 +1,15 @@
+pub mod Calls
+pub mod Book
+pub mod Disks
+pub mod Stores
+pub mod Handed
+pub mod Holds
+pub mod Checked
+pub mod Invariant
+pub mod Clients
+pub mod Moves
+pub mod Inputs
+pub mod Outcomes
+pub mod Answered
+pub mod Reads
+pub mod Theorem

@@ -1,0 +1,67 @@
+-- When the outcome of a call is fine: refused, or with a right answer and a state that keeps the invariant with the book after it. Assumes nothing.
+use mathlib.Core.Path.{_≡_, refl}
+use mathlib.Core.Bool.{Bool, true, false}
+use Prim.Native.Nat.{ℕ}
+use Rattle.laws.specs.Bools.{cases}
+use Rattle.laws.specs.Decides.{false-true}
+use Rattle.model.specs.State.{State, Phase, closed, writing, sending, Input, Verdict, Owed}
+use Rattle.model.specs.Calls.{Out, refused, done, ask, isClosed, whileWriting, whileSending}
+use Rattle.book.specs.Calls.{Call, Answer, After, finish}
+use Rattle.book.specs.Book.{Book, enter, note, accepted, openingOf, sealingOf, Right}
+use Rattle.book.specs.Holds.{Held, nowhere}
+use Rattle.book.specs.Invariant.{Phased, Inv}
+
+pub data Fine {A : Type 0} (f : A → Answer) (b : Book) (c : Call) : Out A → Type 0 where
+  no-change : {number : ℕ} → Fine f b c (refused number)
+  fine : {a : A} {t : State} → Right b c (f a) → Inv (enter b c (openingOf (f a)) (sealingOf (f a))) (t .phase) t → Fine f b c (done a t)
+
+module _ {A : Type 0} {f : A → Answer} {b : Book} {c : Call} where
+  -- a question
+  pub fine-ask : (t : Bool) (number : ℕ) {o : Out A} → (t ≡ true → Fine f b c o) → Fine f b c (ask t number o)
+  fine-ask true number h = h refl
+  fine-ask false number h = no-change
+
+  -- a call that belongs to closed
+  pub fine-closed : (s : State) {o : Out A} → Inv b (s .phase) s → (Phased b closed → Held b nowhere s → Fine f b c o) → Fine f b c (ask (isClosed (s .phase)) 6 o)
+  fine-closed s {o} i h = by (s .phase) i
+    where
+      by : (p : Phase) → Inv b p s → Fine f b c (ask (isClosed p) 6 o)
+      by closed i = h (i .phased) (i .held)
+      by (writing slot input owed) i = no-change
+      by (sending slot input verdict owed) i = no-change
+
+  -- a call that belongs to writing, and one that belongs to sending
+  pub fine-writing : (s : State) {o : ℕ → Input → Owed → Out A} → Inv b (s .phase) s
+      → ((slot : ℕ) (input : Input) (owed : Owed) → s .phase ≡ writing slot input owed → Inv b (writing slot input owed) s → Fine f b c (o slot input owed))
+      → Fine f b c (whileWriting (s .phase) o)
+  fine-writing s {o} i h = by (s .phase) refl i
+    where
+      by : (p : Phase) → s .phase ≡ p → Inv b p s → Fine f b c (whileWriting p o)
+      by closed e i = no-change
+      by (writing slot input owed) e i = h slot input owed e i
+      by (sending slot input verdict owed) e i = no-change
+
+  pub fine-sending : (s : State) {o : ℕ → Input → Verdict → Owed → Out A} → Inv b (s .phase) s
+      → ((slot : ℕ) (input : Input) (verdict : Verdict) (owed : Owed) → s .phase ≡ sending slot input verdict owed → Inv b (sending slot input verdict owed) s
+      → Fine f b c (o slot input verdict owed))
+      → Fine f b c (whileSending (s .phase) o)
+  fine-sending s {o} i h = by (s .phase) refl i
+    where
+      by : (p : Phase) → s .phase ≡ p → Inv b p s → Fine f b c (whileSending p o)
+      by closed e i = no-change
+      by (writing slot input owed) e i = no-change
+      by (sending slot input verdict owed) e i = h slot input verdict owed e i
+
+-- ---- question 10
+
+-- An accepted call is right, and the invariant holds with the book after any call.
+abbrev pub Told : Book → Call → After → Type 0
+Told b c x = (accepted (x .answer) ≡ true → Right b c (x .answer)) × Inv (note b c (x .answer)) (x .state .phase) (x .state)
+
+-- A refused call leaves state and book: only there the invariant must have held before.
+pub finished : (fits : State → Bool) {A : Type 0} {f : A → Answer} → ((a : A) → accepted (f a) ≡ true) → (b : Book) (c : Call) (s : State) {o : Out A}
+    → (accepted (finish fits f s o .answer) ≡ false → Inv b (s .phase) s) → Fine f b c o → Told b c (finish fits f s o)
+unfolding note
+finished fits a b c s i no-change = (λ e. absurd (false-true e), i refl)
+finished fits a b c s i (fine {a = x} {t = t} r j) =
+    cases (fits t) (λ e. rw e (λ _. r, rw (a x) j)) (λ e. rw e (λ z. absurd (false-true z), i (rw e)))

@@ -1,0 +1,4 @@
+pub mod Questions
+pub mod Config
+pub mod Limits
+pub mod Laws

@@ -1,0 +1,2 @@
+pub mod Metrics
+pub mod Laws

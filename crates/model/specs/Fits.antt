@@ -1,0 +1,257 @@
+-- The state fits: every field in its range and every table within its limit. Question 5 asks it of the state that an area's bytes lay out, reachable or not, and question 10 of
+-- the state that a call gives. Assumes nothing.
+use mathlib.Core.Bool.{Bool, true, false}
+use mathlib.Core.List.{List, [], _∷_, map}
+use mathlib.Core.Option.{Option, none, some}
+use Prim.Native.Nat.{ℕ, _+_, _^_}
+use lib.Dec.{leb, ltb, eqb}
+use lib.ListN.{length}
+use Rattle.laws.specs.Bools.{_and_, allb, every}
+use Rattle.laws.specs.Order.{numbers, pairs, rising}
+use Rattle.units.specs.Types.{Payload, noop, command, Entry}
+use Rattle.units.specs.declared.NodeId.{NodeId}
+use Rattle.units.specs.declared.NodeOption.{NodeOption}
+use Rattle.units.specs.declared.NodeOption.the-variants.{None, Some}
+use Rattle.units.specs.declared.Term.{Term}
+use Rattle.config.specs.Limits.{judge, number}
+use Rattle.client.specs.declared.ClientKey.{ClientKey}
+use Rattle.protocol.specs.declared.Status.{Status}
+use Rattle.faults.specs.Schedule.{faultInRange}
+use Rattle.network.specs.Network.{networkInRange}
+use Rattle.metrics.specs.Metrics.{metricsFit}
+use Rattle.storage.specs.Storage.{Disk, Write, writeHardState, writePut, writeTruncate, Storage}
+use Rattle.storage.specs.declared.HardState.{HardState}
+use Rattle.queue.specs.Queue.{Scheduled, Queue}
+use Rattle.queue.specs.declared.Event.{Event}
+use Rattle.queue.specs.declared.Event.the-variants as event
+use Rattle.checks.specs.Checks.{Violation, Seen, seenKey, Checker, leaderKey}
+use Rattle.checks.specs.declared.TermLeader.{TermLeader}
+use Rattle.model.specs.State.{State, Server, Client, Outstanding, Reply, Confirmation, direct, fromClient, Input, startInput, messageInput, timerInput, proposeInput, confirmInput, Verdict, accepted, notLeader, Owed, nothing, construction, healing, Phase, closed, writing, sending}
+use Rattle.model.specs.Simulation.{keyOf}
+
+-- ---- numbers
+
+-- A number of 64 bits, and one byte.
+abbrev pub word : ℕ → Bool
+word n = ltb n (2 ^ 64)
+
+abbrev pub byte : ℕ → Bool
+byte n = ltb n 256
+
+-- What an option holds is in range.
+abbrev pub ifSome : {A : Type 0} → (A → Bool) → Option A → Bool
+ifSome f none = true
+ifSome f (some a) = f a
+
+-- Votes and leader hints may name anyone.
+abbrev pub nodeFits : NodeOption → Bool
+nodeFits None = true
+nodeFits (Some id) = word (id .0)
+
+-- A list of at most so many elements, each in range.
+abbrev pub atMost : {A : Type 0} → ℕ → (A → Bool) → List A → Bool
+atMost room f xs = leb (length xs) room and every f xs
+
+module _ (s : State) where
+  -- The counts of document 01: servers S, clients C, log indexes L, payload P, message M, history H.
+  abbrev pub S : ℕ
+  S = s .config .servers
+
+  abbrev pub C : ℕ
+  C = s .config .clients
+
+  abbrev pub L : ℕ
+  L = s .limits .«log_indexes»
+
+  abbrev pub H : ℕ
+  H = s .limits .history
+
+  -- A server by its place or its id, a client by its number.
+  abbrev pub slotFits : ℕ → Bool
+  slotFits slot = ltb slot S
+
+  abbrev pub idFits : NodeId → Bool
+  idFits id = leb 1 (id .0) and leb (id .0) S
+
+  abbrev pub clientFits : ℕ → Bool
+  clientFits c = ltb c C
+
+  -- ---- storage
+
+  abbrev pub payloadFits : Payload → Bool
+  payloadFits noop = true
+  payloadFits (command bytes) = atMost (s .limits .payload) byte bytes
+
+  abbrev pub entryFits : Entry → Bool
+  entryFits e = word (e .term .0) and payloadFits (e .payload)
+
+  abbrev pub hardStateFits : HardState → Bool
+  hardStateFits h = word (h .term .0) and nodeFits (h .«voted_for»)
+
+  -- A log of L places.
+  abbrev pub diskFits : Disk → Bool
+  diskFits d = hardStateFits (d .hardState) and eqb (length (d .log)) L and every (ifSome entryFits) (d .log)
+
+  abbrev pub writeFits : Write → Bool
+  writeFits (writeHardState h) = hardStateFits h
+  writeFits (writePut index e) = leb 1 (index .0) and leb (index .0) L and entryFits e
+  writeFits (writeTruncate from) = word (from .0)
+
+  abbrev pub storageFits : Storage → Bool
+  storageFits d = diskFits (d .current) and diskFits (d .durable) and atMost (s .limits .writes) writeFits (d .waiting) and word (d .discarded)
+
+  -- ---- servers and clients
+
+  abbrev pub statusFits : Status → Bool
+  statusFits status = word (status .term .0) and nodeFits (status .leader) and word (status .«commit_index» .0)
+
+  abbrev pub keyFits : ClientKey → Bool
+  keyFits k = clientFits (k .client) and word (k .seq)
+
+  -- Next-apply is 1 to L + 1, the incarnation has 32 bits, and each pending key stands once.
+  abbrev pub serverFits : Server → Bool
+  serverFits v =
+      allb (
+      ifSome statusFits (v .status)
+      ∷ storageFits (v .storage)
+      ∷ ltb (v .incarnation) (2 ^ 32)
+      ∷ word (v .election)
+      ∷ word (v .heartbeat)
+      ∷ leb 1 (v .nextApply)
+      ∷ leb (v .nextApply) (L + 1)
+      ∷ atMost H keyFits (v .pending)
+      ∷ rising pairs (map keyOf (v .pending))
+      ∷ ifSome (λ (term : Term). word (term .0)) (v .leading)
+      ∷ [])
+
+  abbrev pub outstandingFits : Outstanding → Bool
+  outstandingFits o = word (o .seq) and word (o .firstSent .0)
+
+  abbrev pub clientStateFits : Client → Bool
+  clientStateFits k = slotFits (k .target) and word (k .nextSeq) and word (k .attempt) and ifSome outstandingFits (k .outstanding)
+
+  -- ---- events
+
+  abbrev pub eventFits : Event → Bool
+  eventFits (event.Start slot) = slotFits slot
+  eventFits (event.Deliver from to entries) = idFits from and idFits to and ltb entries (2 ^ 32)
+  eventFits (event.Timer slot timer generation) = slotFits slot and word generation
+  eventFits (event.Fault fault) = faultInRange S fault
+  eventFits (event.ClientSend c) = clientFits c
+  eventFits (event.ClientArrive slot c seq attempt) = slotFits slot and clientFits c and word seq and word attempt
+  eventFits (event.ClientRedirect c attempt leader) = clientFits c and word attempt and nodeFits leader
+  eventFits (event.ClientRetry c attempt) = clientFits c and word attempt
+  eventFits (event.ClientReply c seq index) = clientFits c and word seq and leb (index .0) L
+  eventFits (event.ClientTimeout c attempt) = clientFits c and word attempt
+
+  -- Only a delivery has a message.
+  abbrev pub messageRoom : Event → ℕ
+  messageRoom (event.Start slot) = 0
+  messageRoom (event.Deliver from to entries) = s .limits .message
+  messageRoom (event.Timer slot timer generation) = 0
+  messageRoom (event.Fault fault) = 0
+  messageRoom (event.ClientSend c) = 0
+  messageRoom (event.ClientArrive slot c seq attempt) = 0
+  messageRoom (event.ClientRedirect c attempt leader) = 0
+  messageRoom (event.ClientRetry c attempt) = 0
+  messageRoom (event.ClientReply c seq index) = 0
+  messageRoom (event.ClientTimeout c attempt) = 0
+
+  abbrev pub scheduledFits : Scheduled → Bool
+  scheduledFits e = word (e .time .0) and eventFits (e .event) and atMost (messageRoom (e .event)) byte (e .message)
+
+  -- Earlier events stand first.
+  unfoldable pub inOrder : Queue → Bool
+  inOrder [] = true
+  inOrder (e ∷ []) = true
+  inOrder (e ∷ f ∷ q) = leb (e .time .0) (f .time .0) and inOrder (f ∷ q)
+
+  abbrev pub queueFits : Queue → Bool
+  queueFits q = atMost (s .limits .events) scheduledFits q and inOrder q
+
+  -- ---- checks and records
+
+  abbrev pub leaderFits : TermLeader → Bool
+  leaderFits l = word (l .term .0) and idFits (l .server)
+
+  abbrev pub seenFits : Seen → Bool
+  seenFits e = leb 1 (e .index .0) and leb (e .index .0) L and word (e .term .0) and payloadFits (e .payload)
+
+  -- A violation has at most five numbers.
+  abbrev pub violationFits : Violation → Bool
+  violationFits v = word (v .time .0) and atMost 5 word (v .detail)
+
+  abbrev pub checkerFits : Checker → Bool
+  checkerFits c =
+      allb (
+      atMost H leaderFits (c .leaders)
+      ∷ rising numbers (map leaderKey (c .leaders))
+      ∷ atMost L payloadFits (c .applied)
+      ∷ atMost H seenFits (c .entries)
+      ∷ rising pairs (map seenKey (c .entries))
+      ∷ atMost 32 violationFits (c .violations)
+      ∷ word (c .total)
+      ∷ [])
+
+  abbrev pub replyFits : Reply → Bool
+  replyFits r = word (r .sent .0) and word (r .received .0) and leb (r .index .0) L and clientFits (r .client) and word (r .seq)
+
+  abbrev pub confirmationFits : Confirmation → Bool
+  confirmationFits c = word (c .request .0) and ifSome (λ index. word (index .0)) (c .readIndex)
+
+  -- ---- the open input
+
+  abbrev pub inputFits : Input → Bool
+  inputFits startInput = true
+  inputFits messageInput = true
+  inputFits timerInput = true
+  inputFits (proposeInput direct) = true
+  inputFits (proposeInput (fromClient c seq attempt)) = clientFits c and word seq and word attempt
+  inputFits confirmInput = true
+
+  -- Only a proposal and a confirmation can be refused.
+  abbrev pub verdictFits : Input → Verdict → Bool
+  verdictFits input accepted = true
+  verdictFits startInput (notLeader hint) = false
+  verdictFits messageInput (notLeader hint) = false
+  verdictFits timerInput (notLeader hint) = false
+  verdictFits (proposeInput proposer) (notLeader hint) = nodeFits hint
+  verdictFits confirmInput (notLeader hint) = nodeFits hint
+
+  abbrev pub owedFits : Owed → Bool
+  owedFits nothing = true
+  owedFits (construction slot) = leb slot S
+  owedFits (healing slot) = leb slot S
+
+  abbrev pub phaseFits : Phase → Bool
+  phaseFits closed = true
+  phaseFits (writing slot input owed) = slotFits slot and inputFits input and owedFits owed
+  phaseFits (sending slot input verdict owed) = slotFits slot and inputFits input and verdictFits input verdict and owedFits owed
+
+  -- ---- the whole
+
+  unfoldable pub stateFits : Bool
+  stateFits =
+      allb (
+      eqb (number (judge (s .config) (s .limits))) 0
+      ∷ word (s .seed)
+      ∷ word (s .now .0)
+      ∷ queueFits (s .queue)
+      ∷ eqb (length (s .servers)) S
+      ∷ every serverFits (s .servers)
+      ∷ networkInRange (s .network)
+      ∷ eqb (s .network .«base_delay» .0) (s .config .«one_way_delay» .0)
+      ∷ word (s .network .rng .state)
+      ∷ eqb (length (s .clients)) C
+      ∷ every clientStateFits (s .clients)
+      ∷ word (s .workload .state)
+      ∷ eqb (length (s .metrics .«by_sender»)) 8
+      ∷ metricsFit (s .metrics)
+      ∷ checkerFits (s .checker)
+      ∷ atMost H replyFits (s .replies)
+      ∷ atMost H confirmationFits (s .confirmations)
+      ∷ word (s .maxLogGaps)
+      ∷ word (s .directSeq)
+      ∷ word (s .events)
+      ∷ phaseFits (s .phase)
+      ∷ [])

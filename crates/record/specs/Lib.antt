@@ -1,0 +1,2 @@
+pub mod Postcard
+pub mod Lengths

@@ -1,0 +1,3 @@
+pub mod Rng
+pub mod Product
+pub mod Laws

@@ -1,0 +1,10 @@
+// Persistent state (consensus/storage.rs, sim/storage.rs): a server's term, vote and log, current and durable, and the writes not yet synced.
+use units::NodeOption;
+use units::Term;
+
+// The persistent state other than the log.
+pub struct HardState {
+    pub term: Term,
+    // The candidate this server voted for in the term.
+    pub voted_for: NodeOption,
+}
