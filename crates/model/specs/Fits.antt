@@ -16,7 +16,7 @@ use Rattle.units.specs.declared.Term.{Term}
 use Rattle.config.specs.Limits.{judge, number}
 use Rattle.client.specs.declared.ClientKey.{ClientKey}
 use Rattle.protocol.specs.declared.Status.{Status}
-use Rattle.faults.specs.Schedule.{faultInRange}
+use Rattle.faults.specs.Fault.{faultInRange}
 use Rattle.network.specs.Network.{networkInRange}
 use Rattle.metrics.specs.Metrics.{metricsFit}
 use Rattle.storage.specs.Storage.{Disk, Write, writeHardState, writePut, writeTruncate, Storage}
