@@ -11,13 +11,14 @@ use mir.Syntax.{w64}
 use mir.Val.{Fits}
 use borrow.Author.Tests.{lt-ltb, le-ltb}
 use Rattle.laws.specs.Bools.{and-both, and-no}
+use Rattle.laws.specs.Order.{pairs, rising}
 use Rattle.words.specs.Words.{bytes, W}
+use Rattle.client.specs.declared.ClientKey.{ClientKey}
 use Rattle.layout.specs.declared.rows.Found.{Found}
 use Rattle.layout.specs.declared.rows.Found.the-variants.{At, Absent}
 use Rattle.layout.specs.Code.{okN}
 use Rattle.layout.specs.Tables.{opened, removed, rowsIn}
 use Rattle.layout.specs.TableLaws.{Rowed, rowed-start, rowed-turn, rowed-fail, rowed-done}
-use Rattle.laws.specs.Order.{pairs, rising}
 use Rattle.layout.specs.Order.{find, two, heads}
 use Rattle.layout.specs.RowLaws.{heads-are}
 use Rattle.layout.specs.SortedTables.{Keyed, keyed-insert, keyed-inserted, keyed-remove, keyed-removed}
@@ -25,36 +26,36 @@ use Rattle.layout.specs.Keys.{keyRow, keyOf, keys, Inserts, Removes}
 
 -- the key of a row is its first two words
 pub key-read : (ws : List ℕ) → two ws ≡ keyOf (keyRow .parse ws)
-unfolding two keyOf
+unfolding two
 key-read ws = simp getD-drop
 
 keyed : (c : ℕ) → Keyed (keys c) pairs keyOf two
 keyed c = record { rule = λ x. refl; read = key-read }
 
--- ---- insert and remove
+-- any row, for `getD`
+abbrev pub noKey : ClientKey
+noKey = record { client = 0; seq = 0 }
 
-module _ (n : ℕ) (b : List ℕ) (client sequence : ℕ) (f : Found) (e : f ≡ find pairs (client, sequence) (heads two 2 n (W b))) (i : ℕ) where
-  pub key-there : f ≡ At i → Inserts (record { client = client; sequence = sequence }) n n b b
-  unfolding keyOf
-  key-there t = record { to = λ c h. keyed-inserted (keyed c) n b (record { client = client; sequence = sequence }) f e i t }
+-- ---- insert and remove: f is what the search said
 
-  pub key-new : (at : ℕ) (b₁ b₂ : List ℕ) → 8 * (n * 2 + 2) ≤ length b → Fits w64 client → Fits w64 sequence → f ≡ Absent i → at ≡ i * 2
-      → b₁ ≡ opened 2 n i b → b₂ ≡ sets b₁ (8 * at) (bytes (client ∷ sequence ∷ []))
-      → Inserts (record { client = client; sequence = sequence }) n (n + 1) b b₂
-  unfolding keyOf
+module _ (n : ℕ) (b : List ℕ) (k : ClientKey) (f : Found) (e : f ≡ find pairs (k .client, k .seq) (heads two 2 n (W b))) (i : ℕ) where
+  pub key-there : f ≡ At i → Inserts k n n b b
+  key-there t = record { to = λ c h. keyed-inserted (keyed c) n b k f e i t }
+
+  pub key-new : (at : ℕ) (b₁ b₂ : List ℕ) → 8 * (n * 2 + 2) ≤ length b → Fits w64 (k .client) → Fits w64 (k .seq) → f ≡ Absent i → at ≡ i * 2
+      → b₁ ≡ opened 2 n i b → b₂ ≡ sets b₁ (8 * at) (bytes (k .client ∷ k .seq ∷ []))
+      → Inserts k n (n + 1) b b₂
   key-new at b₁ b₂ r p q t a e₁ e₂ = record {
-    to = λ c h. keyed-insert (keyed c) n b (record { client = client; sequence = sequence }) f e i b₁ b₂ r
-        (and-both _ _ (and-both _ _ (lt-ltb client (2 ^ 64) (p .fits)) (lt-ltb sequence (2 ^ 64) (q .fits))) (lt-ltb client c h)) t e₁
-        (e₂ ∙ ap (λ (j : ℕ). sets b₁ (8 * j) (bytes (client ∷ sequence ∷ []))) a);
+    to = λ c h. keyed-insert (keyed c) n b k f e i b₁ b₂ r
+        (and-both _ _ (and-both _ _ (lt-ltb (k .client) (2 ^ 64) (p .fits)) (lt-ltb (k .seq) (2 ^ 64) (q .fits))) (lt-ltb (k .client) c h)) t e₁
+        (e₂ ∙ ap (λ (j : ℕ). sets b₁ (8 * j) (bytes (k .client ∷ k .seq ∷ []))) a);
   }
 
-  pub key-gone : (b′ : List ℕ) → f ≡ At i → b′ ≡ removed 2 n i b → Removes (record { client = client; sequence = sequence }) n (n - 1) b b′
-  unfolding keyOf
-  key-gone b′ t e′ = record { to = λ c. keyed-remove (keyed c) n b (client, sequence) f e i (record { client = 0; sequence = 0 }) b′ t e′ }
+  pub key-gone : (b′ : List ℕ) → f ≡ At i → b′ ≡ removed 2 n i b → Removes k n (n - 1) b b′
+  key-gone b′ t e′ = record { to = λ c. keyed-remove (keyed c) n b (keyOf k) f e i noKey b′ t e′ }
 
-  pub key-not-there : f ≡ Absent i → Removes (record { client = client; sequence = sequence }) n n b b
-  unfolding keyOf
-  key-not-there t = record { to = λ c. keyed-removed (keyed c) n b (client, sequence) f e i t }
+  pub key-not-there : f ≡ Absent i → Removes k n n b b
+  key-not-there t = record { to = λ c. keyed-removed (keyed c) n b (keyOf k) f e i t }
 
 pub ruleset key = (key-there, key-new, key-gone, key-not-there)
 

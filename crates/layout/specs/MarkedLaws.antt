@@ -1,23 +1,25 @@
 -- What the proofs of marked.rt cite. Assumes nothing.
 use mathlib.Core.Path.{_≡_, refl, sym, ap, ap₂, _∙_}
-use mathlib.Core.Bool.{Bool, false}
-use mathlib.Core.List.{List, [], _++_, append-nil, append-assoc}
+use mathlib.Core.Bool.{Bool, true, false}
+use mathlib.Core.List.{List, [], _∷_, _++_, append-nil, append-assoc}
 use Prim.Native.Nat.{ℕ, zero, _+_, _*_, _-_, _≤_, _<_}
 use native.Mathlib.Omega.{arith}
 use lib.Dec.{leb}
 use lib.ListN.{length, take, drop, getD, length-append, length-drop, length-replicate, take-append-drop}
 use lib.Seq.{sets, take-all, take-at, drop-drop, drop-at, length-take-le}
-use borrow.Author.Tests.{le-leb, lt-leb}
-use Rattle.laws.specs.Bools.{_and_, no-and, true-and}
+use borrow.Author.Tests.{le-leb, lt-leb, eqb-true, eq-eqb}
+use Rattle.laws.specs.Bools.{_and_, and-left, and-right, and-both, no-and, true-and}
+use Rattle.laws.specs.Decides.{Decides, false-true}
+use Rattle.laws.specs.Lists.{sameList}
 use Rattle.words.specs.Words.{bytes, bytesOf, W, Bytes, allz}
 use Rattle.words.specs.Sets.{sets-append, sets-at}
 use Rattle.words.specs.Numbers.{length-bytesOf}
 use Rattle.words.specs.Lift.{length-bytes, length-W, bytes-append, W-whole}
-use Rattle.units.specs.Types.{Payload, noop, command}
+use Rattle.units.specs.Types.{Payload, noop, command, samePayload}
 use Rattle.layout.specs.declared.marked.Kind.the-variants.{Noop, Command}
 use Rattle.layout.specs.Code.{zeros}
 use Rattle.layout.specs.Tables.{Holds}
-use Rattle.layout.specs.Contents.{holds-W}
+use Rattle.layout.specs.Contents.{holds-W, decides-same}
 use Rattle.layout.specs.Marked.{wordsFor, Marking, marked, Sound, sound, paddedTo, padded-back, bodyIn}
 use Rattle.layout.specs.Payload.{markOf, bodyOf, payload, payloadMarking, message, messageMarking}
 use Rattle.layout.specs.MarkedCalls.{laid, restOk, Puts, Reads, Copies, kindOf}
@@ -133,3 +135,38 @@ pub ruleset reads = (reads-noop, reads-command, copies)
 pub ruleset rest = (rest-long, rest-zero)
 
 pub ruleset tests = (mark-none, mark-rest, message-rest)
+
+-- ---- two payloads compared: `words::equal` of their regions answers `samePayload`
+
+refl-list : (a : List ℕ) → sameList a a ≡ true
+unfolding sameList
+refl-list [] = refl
+refl-list (x ∷ a) = and-both _ _ (eq-eqb x x refl) (refl-list a)
+
+list-refl : (a b : List ℕ) → sameList a b ≡ true → a ≡ b
+unfolding sameList
+list-refl [] [] e = refl
+list-refl [] (y ∷ b) e = absurd (false-true e)
+list-refl (x ∷ a) [] e = absurd (false-true e)
+list-refl (x ∷ a) (y ∷ b) e = ap₂ (λ (u : ℕ) (v : List ℕ). u ∷ v) (eqb-true x y (and-left _ _ e)) (list-refl a b (and-right _ _ e))
+
+refl-payload : (x : Payload) → samePayload x x ≡ true
+unfolding samePayload
+refl-payload noop = refl
+refl-payload (command a) = refl-list a
+
+payload-refl : (x y : Payload) → samePayload x y ≡ true → x ≡ y
+unfolding samePayload
+payload-refl noop noop e = refl
+payload-refl noop (command b) e = absurd (false-true e)
+payload-refl (command a) noop e = absurd (false-true e)
+payload-refl (command a) (command b) e = ap command (list-refl a b e)
+
+pub payloads-same : (p : ℕ) (a b : List ℕ) (x y : Payload) (r : Bool) → Holds (payload p) a x → Holds (payload p) b y → Decides r (a ≡ b) → r ≡ samePayload x y
+payloads-same p a b x y r h k d = by r (samePayload x y) refl (decides-same h k d)
+  where
+    by : (r s : Bool) → samePayload x y ≡ s → Decides r (x ≡ y) → r ≡ s
+    by true true e c = refl
+    by true false e c = absurd (false-true (sym e ∙ ap (samePayload x) (sym (c .yes refl)) ∙ refl-payload x))
+    by false true e c = absurd (c .no refl (payload-refl x y e))
+    by false false e c = refl

@@ -1,5 +1,5 @@
 -- Keys in order: what the contracts of sorted tables cite, over the orders of `laws`. Assumes nothing.
-use mathlib.Core.Bool.{Bool, true, false}
+use mathlib.Core.Bool.{Bool}
 use mathlib.Core.List.{List, [], _∷_}
 use Prim.Native.Nat.{ℕ, zero, suc}
 use lib.ListN.{getD, drop}
@@ -31,14 +31,6 @@ later (Absent i) = Absent (suc i)
 unfoldable pub find : {K : Type 0} → Order K → K → List K → Found
 find O k [] = Absent 0
 find O k (a ∷ ks) = pick (O .before a k) (later (find O k ks)) (pick (O .before k a) (Absent 0) (At 0))
-
-abbrev pub isAt : Found → Bool
-isAt (At i) = true
-isAt (Absent i) = false
-
--- Is k among keys that rise?
-abbrev pub has : {K : Type 0} → Order K → K → List K → Bool
-has O k ks = isAt (find O k ks)
 
 -- ---- the keys of n rows of w words, as the code reads them
 

@@ -1,8 +1,9 @@
 -- Lists in order: where a key is, what a row put in or taken out leaves, and that keys which rise are each there once. Assumes nothing.
-use mathlib.Core.Path.{_≡_, refl, sym, ap, ap₂, _∙_, subst}
+use mathlib.Core.Path.{_≡_, refl, sym, ap, _∙_, subst}
 use mathlib.Core.Bool.{Bool, true, false, not}
 use mathlib.Core.List.{List, [], _∷_, _++_, map}
 use mathlib.Core.Logic.{_⊎_, ⊎-elim}
+use mathlib.Core.Option.{Option, none, some}
 use Prim.Native.Nat.{ℕ, zero, suc, _+_, _≤_, _<_}
 use native.Mathlib.Nat.{add-zero}
 use native.Mathlib.Numerals.{add-one}
@@ -16,8 +17,8 @@ use Rattle.laws.specs.Decides.{false-true}
 use Rattle.layout.specs.declared.rows.Found.{Found}
 use Rattle.layout.specs.declared.rows.Found.the-variants.{At, Absent}
 use Rattle.layout.specs.Tables.{insertAt, removeAt}
-use Rattle.laws.specs.Order.{Order, below, notBelow, next, chain, rising, sorted, insertBy, pushBy, removeBy}
-use Rattle.layout.specs.Order.{first, place, lastPlace, later, find, isAt, has}
+use Rattle.laws.specs.Order.{Order, below, notBelow, next, chain, rising, sorted, insertBy, pushBy, removeBy, lookup}
+use Rattle.layout.specs.Order.{first, place, lastPlace, later, find}
 
 -- ---- the first element that f takes
 
@@ -273,93 +274,114 @@ module _ {K : Type 0} (O : Order K) where
         by false true c = h
         by false false c = and-right _ _ h
 
-  -- ---- whether a key is there, one key at a time
-
-  pub has-cons : (k a : K) (ks : List K) → has O k (a ∷ ks) ≡ pick (O .before a k) (has O k ks) (not (O .before k a))
-  unfolding find
-  has-cons k a ks = by (O .before a k) (O .before k a) (find O k ks)
-    where
-      by : (p q : Bool) (f : Found) → isAt (pick p (later f) (pick q (Absent 0) (At 0))) ≡ pick p (isAt f) (not q)
-      by true q (At i) = refl
-      by true q (Absent i) = refl
-      by false true f = refl
-      by false false f = refl
-
-  has-past : (k a : K) (ks : List K) → O .before a k ≡ true → has O k (a ∷ ks) ≡ has O k ks
-  has-past k a ks h = has-cons k a ks ∙ ap (λ (p : Bool). pick p (has O k ks) (not (O .before k a))) h
-
-  has-stop : (k a : K) (ks : List K) → O .before k a ≡ true → has O k (a ∷ ks) ≡ false
-  has-stop k a ks h = has-cons k a ks ∙ ap₂ (λ (p q : Bool). pick p (has O k ks) (not q)) (asymmetric k a h) h
-
-  has-here : (k a : K) (ks : List K) → O .before a k ≡ false → O .before k a ≡ false → has O k (a ∷ ks) ≡ true
-  has-here k a ks h l = has-cons k a ks ∙ ap₂ (λ (p q : Bool). pick p (has O k ks) (not q)) h l
-
-  has-again : (k a : K) (ks ls : List K) → has O k ks ≡ has O k ls → has O k (a ∷ ks) ≡ has O k (a ∷ ls)
-  has-again k a ks ls h = has-cons k a ks ∙ ap (λ (t : Bool). pick (O .before a k) t (not (O .before k a))) h ∙ sym (has-cons k a ls)
-
-  -- keys that begin above k do not have it
-  has-below : (k : K) (ks : List K) → next (below O) k ks ≡ true → has O k ks ≡ false
-  unfolding below find
-  has-below k [] h = refl
-  has-below k (a ∷ ks) h = has-stop k a ks h
+  -- ---- rows by key are a map: what was put in is there, what was taken out is not, and no other key is touched
 
   -- another key
   abbrev pub Other : K → K → Type 0
   Other j k = (O .before j k ≡ true) ⊎ (O .before k j ≡ true)
 
-  -- ---- rows by key are a set: what was put in is there, what was taken out is not, and no other key is touched
-
   module _ {T : Type 0} (key : T → K) where
-    pub has-inserted : (a : T) (x : List T) → has O (key a) (map key (insertBy O key a x)) ≡ true
-    unfolding insertBy
-    has-inserted a [] = has-here (key a) (key a) [] (O .irreflexive (key a)) (O .irreflexive (key a))
-    has-inserted a (b ∷ x) = by (O .before (key b) (key a)) refl (O .before (key a) (key b)) refl (has-inserted a x)
-      where
-        by : (p : Bool) → O .before (key b) (key a) ≡ p → (q : Bool) → O .before (key a) (key b) ≡ q → has O (key a) (map key (insertBy O key a x)) ≡ true
-            → has O (key a) (map key (pick p (b ∷ insertBy O key a x) (pick q (a ∷ b ∷ x) (b ∷ x)))) ≡ true
-        by true e q f h = has-past (key a) (key b) (map key (insertBy O key a x)) e ∙ h
-        by false e true f h = has-here (key a) (key a) (map key (b ∷ x)) (O .irreflexive (key a)) (O .irreflexive (key a))
-        by false e false f h = has-here (key a) (key b) (map key x) e f
+    -- one row at a time: passed, above, or the row
+    lookup-past : (k : K) (b : T) (x : List T) → O .before (key b) k ≡ true → lookup O key k (b ∷ x) ≡ lookup O key k x
+    unfolding lookup
+    lookup-past k b x h = rw h
 
-    pub has-insert : (j : K) (a : T) (x : List T) → Other j (key a) → has O j (map key (insertBy O key a x)) ≡ has O j (map key x)
-    unfolding insertBy find
-    has-insert j a [] o = ⊎-elim (λ l. has-stop j (key a) [] l) (λ l. has-past j (key a) [] l) o
-    has-insert j a (b ∷ x) o = by (O .before (key b) (key a)) (O .before (key a) (key b)) refl (has-insert j a x o)
+    lookup-stop : (k : K) (b : T) (x : List T) → O .before k (key b) ≡ true → lookup O key k (b ∷ x) ≡ none
+    unfolding lookup
+    lookup-stop k b x h = rw (asymmetric k (key b) h, h)
+
+    lookup-here : (k : K) (b : T) (x : List T) → O .before (key b) k ≡ false → O .before k (key b) ≡ false → lookup O key k (b ∷ x) ≡ some b
+    unfolding lookup
+    lookup-here k b x h l = rw (h, l)
+
+    lookup-again : (k : K) (b : T) (x y : List T) → lookup O key k x ≡ lookup O key k y → lookup O key k (b ∷ x) ≡ lookup O key k (b ∷ y)
+    unfolding lookup
+    lookup-again k b x y h = ap (λ (o : Option T). pick (O .before (key b) k) o (pick (O .before k (key b)) none (some b))) h
+
+    -- rows that begin above k
+    lookup-below : (k : K) (x : List T) → next (below O) k (map key x) ≡ true → lookup O key k x ≡ none
+    unfolding below lookup
+    lookup-below k [] h = refl
+    lookup-below k (b ∷ x) h = lookup-stop k b x h
+
+    abbrev pub orElse : Option T → T → T
+    orElse none a = a
+    orElse (some b) a = b
+
+    pub lookup-inserted : (a : T) (x : List T) → lookup O key (key a) (insertBy O key a x) ≡ some (orElse (lookup O key (key a) x) a)
+    unfolding insertBy lookup
+    lookup-inserted a [] = lookup-here (key a) a [] (O .irreflexive (key a)) (O .irreflexive (key a))
+    lookup-inserted a (b ∷ x) = by (O .before (key b) (key a)) refl (O .before (key a) (key b)) refl (lookup-inserted a x)
       where
-        by : (p q : Bool) → O .before (key a) (key b) ≡ q → has O j (map key (insertBy O key a x)) ≡ has O j (map key x)
-            → has O j (map key (pick p (b ∷ insertBy O key a x) (pick q (a ∷ b ∷ x) (b ∷ x)))) ≡ has O j (map key (b ∷ x))
-        by true q f h = has-again j (key b) (map key (insertBy O key a x)) (map key x) h
-        by false true f h =
-            ⊎-elim (λ l. has-stop j (key a) (map key (b ∷ x)) l ∙ sym (has-stop j (key b) (map key x) (O .transitive j (key a) (key b) l f))) (λ l. has-past j (key a) (map key (b ∷ x)) l) o
+        by : (p : Bool) → O .before (key b) (key a) ≡ p → (q : Bool) → O .before (key a) (key b) ≡ q → lookup O key (key a) (insertBy O key a x) ≡ some (orElse (lookup O key (key a) x) a)
+            → lookup O key (key a) (pick p (b ∷ insertBy O key a x) (pick q (a ∷ b ∷ x) (b ∷ x))) ≡ some (orElse (pick p (lookup O key (key a) x) (pick q none (some b))) a)
+        by true e q f h = lookup-past (key a) b (insertBy O key a x) e ∙ h
+        by false e true f h = lookup-here (key a) a (b ∷ x) (O .irreflexive (key a)) (O .irreflexive (key a))
+        by false e false f h = lookup-here (key a) b x e f
+
+    pub lookup-insert : (j : K) (a : T) (x : List T) → Other j (key a) → lookup O key j (insertBy O key a x) ≡ lookup O key j x
+    unfolding insertBy lookup
+    lookup-insert j a [] o = ⊎-elim (λ l. lookup-stop j a [] l) (λ l. lookup-past j a [] l) o
+    lookup-insert j a (b ∷ x) o = by (O .before (key b) (key a)) (O .before (key a) (key b)) refl (lookup-insert j a x o)
+      where
+        by : (p q : Bool) → O .before (key a) (key b) ≡ q → lookup O key j (insertBy O key a x) ≡ lookup O key j x
+            → lookup O key j (pick p (b ∷ insertBy O key a x) (pick q (a ∷ b ∷ x) (b ∷ x))) ≡ lookup O key j (b ∷ x)
+        by true q f h = lookup-again j b (insertBy O key a x) x h
+        by false true f h = ⊎-elim (λ l. lookup-stop j a (b ∷ x) l ∙ sym (lookup-stop j b x (O .transitive j (key a) (key b) l f))) (λ l. lookup-past j a (b ∷ x) l) o
         by false false f h = refl
 
-    pub has-removed : (k : K) (x : List T) → rising O (map key x) ≡ true → has O k (map key (removeBy O key k x)) ≡ false
-    unfolding removeBy chain find
-    has-removed k [] r = refl
-    has-removed k (b ∷ x) r = by (O .before (key b) k) refl (O .before k (key b)) refl (has-removed k x (and-right _ _ r))
+    pub lookup-removed : (k : K) (x : List T) → rising O (map key x) ≡ true → lookup O key k (removeBy O key k x) ≡ none
+    unfolding removeBy chain lookup
+    lookup-removed k [] r = refl
+    lookup-removed k (b ∷ x) r = by (O .before (key b) k) refl (O .before k (key b)) refl (lookup-removed k x (and-right _ _ r))
       where
-        by : (p : Bool) → O .before (key b) k ≡ p → (q : Bool) → O .before k (key b) ≡ q → has O k (map key (removeBy O key k x)) ≡ false
-            → has O k (map key (pick p (b ∷ removeBy O key k x) (pick q (b ∷ x) x))) ≡ false
-        by true e q f h = has-past k (key b) (map key (removeBy O key k x)) e ∙ h
-        by false e true f h = has-stop k (key b) (map key x) f
-        by false e false f h = has-below k (map key x) (subst (λ (j : K). next (below O) j (map key x) ≡ true) (O .total (key b) k e f) (and-left _ _ r))
+        by : (p : Bool) → O .before (key b) k ≡ p → (q : Bool) → O .before k (key b) ≡ q → lookup O key k (removeBy O key k x) ≡ none
+            → lookup O key k (pick p (b ∷ removeBy O key k x) (pick q (b ∷ x) x)) ≡ none
+        by true e q f h = lookup-past k b (removeBy O key k x) e ∙ h
+        by false e true f h = lookup-stop k b x f
+        by false e false f h = lookup-below k x (subst (λ (j : K). next (below O) j (map key x) ≡ true) (O .total (key b) k e f) (and-left _ _ r))
 
-    pub has-remove : (j k : K) (x : List T) → rising O (map key x) ≡ true → Other j k → has O j (map key (removeBy O key k x)) ≡ has O j (map key x)
+    pub lookup-remove : (j k : K) (x : List T) → rising O (map key x) ≡ true → Other j k → lookup O key j (removeBy O key k x) ≡ lookup O key j x
     unfolding removeBy chain
-    has-remove j k [] r o = refl
-    has-remove j k (b ∷ x) r o = by (O .before (key b) k) refl (O .before k (key b)) refl (has-remove j k x (and-right _ _ r) o)
+    lookup-remove j k [] r o = refl
+    lookup-remove j k (b ∷ x) r o = by (O .before (key b) k) refl (O .before k (key b)) refl (lookup-remove j k x (and-right _ _ r) o)
       where
-        by : (p : Bool) → O .before (key b) k ≡ p → (q : Bool) → O .before k (key b) ≡ q → has O j (map key (removeBy O key k x)) ≡ has O j (map key x)
-            → has O j (map key (pick p (b ∷ removeBy O key k x) (pick q (b ∷ x) x))) ≡ has O j (map key (b ∷ x))
-        by true e q f h = has-again j (key b) (map key (removeBy O key k x)) (map key x) h
+        by : (p : Bool) → O .before (key b) k ≡ p → (q : Bool) → O .before k (key b) ≡ q → lookup O key j (removeBy O key k x) ≡ lookup O key j x
+            → lookup O key j (pick p (b ∷ removeBy O key k x) (pick q (b ∷ x) x)) ≡ lookup O key j (b ∷ x)
+        by true e q f h = lookup-again j b (removeBy O key k x) x h
         by false e true f h = refl
         by false e false f h =
             let same : key b ≡ k = O .total (key b) k e f in
             ⊎-elim
             (λ l.
             let u : O .before j (key b) ≡ true = ap (O .before j) same ∙ l in
-            has-below j (map key x) (next-over key j (key b) (map key x) u (and-left _ _ r)) ∙ sym (has-stop j (key b) (map key x) u))
-            (λ l. sym (has-past j (key b) (map key x) (ap (λ (z : K). O .before z j) same ∙ l))) o
+            lookup-below j x (next-over key j (key b) (map key x) u (and-left _ _ r)) ∙ sym (lookup-stop j b x u))
+            (λ l. sym (lookup-past j b x (ap (λ (z : K). O .before z j) same ∙ l))) o
+
+    -- what a search found is the row
+    Looked : List T → Option T → Found → Type 0
+    Looked x o (At i) = (d : T) → o ≡ some (getD x i d)
+    Looked x o (Absent i) = o ≡ none
+
+    looked : (k : K) (x : List T) → Looked x (lookup O key k x) (find O k (map key x))
+    unfolding Looked lookup find
+    looked k [] = refl
+    looked k (b ∷ x) = by (O .before (key b) k) (O .before k (key b)) (find O k (map key x)) (looked k x)
+      where
+        by : (p q : Bool) (f : Found) → Looked x (lookup O key k x) f
+            → Looked (b ∷ x) (pick p (lookup O key k x) (pick q none (some b))) (pick p (later f) (pick q (Absent 0) (At 0)))
+        by true q (At i) h = h
+        by true q (Absent i) h = h
+        by false true f h = refl
+        by false false f h = λ d. refl
+
+    pub lookup-there : (k : K) (x : List T) (i : ℕ) (d : T) → find O k (map key x) ≡ At i → lookup O key k x ≡ some (getD x i d)
+    unfolding Looked
+    lookup-there k x i d e = subst (Looked x (lookup O key k x)) e (looked k x) d
+
+    pub lookup-absent : (k : K) (x : List T) (i : ℕ) → find O k (map key x) ≡ Absent i → lookup O key k x ≡ none
+    unfolding Looked
+    lookup-absent k x i e = subst (Looked x (lookup O key k x)) e (looked k x)
 
   -- ---- keys that rise are each there once
 

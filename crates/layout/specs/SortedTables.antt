@@ -3,19 +3,21 @@
 use mathlib.Core.Path.{_≡_, sym, ap, _∙_, subst}
 use mathlib.Core.Bool.{true, false}
 use mathlib.Core.List.{List, map}
+use mathlib.Core.Option.{none, some}
 use Prim.Native.Nat.{ℕ, _+_, _-_, _*_, _≤_, _<_}
 use native.Mathlib.Omega.{arith}
-use lib.ListN.{length}
+use lib.ListN.{length, getD}
 use lib.Seq.{sets}
+use Rattle.laws.specs.Lists.{isSome}
 use Rattle.words.specs.Words.{bytes, W}
 use Rattle.layout.specs.declared.rows.Found.{Found}
 use Rattle.layout.specs.declared.rows.Found.the-variants.{At, Absent}
 use Rattle.layout.specs.Code.{Code}
 use Rattle.layout.specs.Tables.{Table, Held, Becomes, rowsIn, insertAt, removeAt, opened, removed}
 use Rattle.layout.specs.TableLaws.{rows-are, held-rule, insert-held, remove-held}
-use Rattle.laws.specs.Order.{Order, rising, sorted, insertBy, pushBy, removeBy}
-use Rattle.layout.specs.Order.{lastPlace, find, isAt, has, heads}
-use Rattle.layout.specs.Sorted.{find-at, find-absent, insert-there, insert-absent, remove-there, remove-absent, push-at, rising-insert, rising-remove, sorted-push}
+use Rattle.laws.specs.Order.{Order, rising, sorted, insertBy, pushBy, removeBy, lookup}
+use Rattle.layout.specs.Order.{lastPlace, find, heads}
+use Rattle.layout.specs.Sorted.{find-at, find-absent, insert-there, insert-absent, lookup-there, lookup-absent, remove-there, remove-absent, push-at, rising-insert, rising-remove, sorted-push}
 use Rattle.layout.specs.RowLaws.{heads-are, length-heads}
 
 -- what a search among n rows says of the place that it found
@@ -31,13 +33,23 @@ module _ {K : Type 0} (O : Order K) (k : K) (g : List ℕ → K) (w n : ℕ) (ws
 
 pub ruleset found = (found-inside, found-upto, found-some)
 
--- and of whether the key is among those of the rows, where g reads a row's key in its first words
+-- and of the row of that key, where g reads a row's key in its first words
 module _ {K T : Type 0} (O : Order K) (k : K) (g : List ℕ → K) (c : Code T) (key : T → K) (n : ℕ) (b : List ℕ) (f : Found) (i : ℕ) (r : (ws : List ℕ) → g ws ≡ key (c .parse ws)) (e : f ≡ find O k (heads g (c .size) n (W b))) where
-  pub found-has : f ≡ At i → true ≡ has O k (map key (rowsIn c n b))
-  found-has t = ap isAt (sym t ∙ e ∙ ap (find O k) (heads-are c g key r n b))
+  of-rows : find O k (map key (rowsIn c n b)) ≡ f
+  of-rows = sym (e ∙ ap (find O k) (heads-are c g key r n b))
 
-  pub found-has-not : f ≡ Absent i → false ≡ has O k (map key (rowsIn c n b))
-  found-has-not t = ap isAt (sym t ∙ e ∙ ap (find O k) (heads-are c g key r n b))
+  pub found-row : (d : T) → f ≡ At i → lookup O key k (rowsIn c n b) ≡ some (getD (rowsIn c n b) i d)
+  found-row d t = lookup-there O key k (rowsIn c n b) i d (of-rows ∙ t)
+
+  pub found-none : f ≡ Absent i → lookup O key k (rowsIn c n b) ≡ none
+  found-none t = lookup-absent O key k (rowsIn c n b) i (of-rows ∙ t)
+
+  -- whether it is there
+  pub found-yes : T → f ≡ At i → true ≡ isSome (lookup O key k (rowsIn c n b))
+  found-yes d t = sym (ap isSome (found-row d t))
+
+  pub found-no : f ≡ Absent i → false ≡ isSome (lookup O key k (rowsIn c n b))
+  found-no t = sym (ap isSome (found-none t))
 
 -- the keys of t's rows are what g reads in their first words, and t's rule is that they rise
 pub record Keyed {K T : Type 0} (t : Table T) (O : Order K) (key : T → K) (g : List ℕ → K) : Type 0 where

@@ -15,6 +15,7 @@ use Rattle.words.specs.Lift.{bytes-append, length-bytes}
 use Rattle.layout.specs.Code.{Code, flat, lay, length-flat}
 use Rattle.layout.specs.Tables.{Table, Held, content, Becomes}
 use Rattle.layout.specs.Rows.{flat-append, every-take}
+use Rattle.layout.specs.TableLaws.{held-rows}
 
 pub record Spot {T : Type 0} (whole part : T → List ℕ) (a : ℕ) : Type 0 where
   pub pre : List ℕ
@@ -122,6 +123,9 @@ module _ {T : Type 0} (t : Table T) (N : ℕ) {whole : List T → List ℕ} {a :
 
     pub table-good : content t N m .good (op x) ≡ true
     table-good = after .holds .good
+
+    pub table-count : length (op x) ≡ m
+    table-count = held-rows after .count
 
     pub table-back : take (8 * a) area ++ (ys ++ drop (8 * (a + N) - 8 * a) (drop (8 * a) area)) ≡ bytes (whole (op x)) ++ r
     table-back =

@@ -3,29 +3,23 @@
 ghost use mathlib.Core.Path.{_≡_};
 ghost use Prim.Native.Nat.{_+_, _*_, _≤_, _<_};
 ghost use lib.ListN.{length};
-ghost use mathlib.Core.List.{map};
 ghost use Rattle.laws.specs.Decides.{Decides};
+ghost use Rattle.laws.specs.Lists.{isSome};
+ghost use Rattle.laws.specs.Order.{pairs, lookup};
 ghost use Rattle.words.specs.Words.{W};
 ghost use Rattle.layout.specs.Code.{okN};
 ghost use Rattle.layout.specs.Tables.{Tabled, rowsIn};
-ghost use Rattle.laws.specs.Order.{pairs};
-ghost use Rattle.layout.specs.Order.{has};
 ghost use Rattle.layout.specs.Keys.{keyOf, keyRow, keys, Inserts, Removes};
 use crate::rows;
 use crate::rows::Found;
-
-// A command's client key.
-pub struct Key {
-    pub client: u64,
-    pub sequence: u64,
-}
+use client::ClientKey;
 
 // Whether a key is there.
-pub fn contains(s: &[u8], n: usize, client: u64, sequence: u64) -> bool
+pub fn contains(s: &[u8], n: usize, key: ClientKey) -> bool
     requires { ⌜ 8 * (n * 2) ≤ length (now s) ⌝ }
-    ensures { λ r. ⌜ r ≡ has pairs (client, sequence) (map keyOf (rowsIn keyRow n (now (s .entry)))) ⌝ }
+    ensures { λ r. ⌜ r ≡ isSome (lookup pairs keyOf (keyOf key) (rowsIn keyRow n (now (s .entry)))) ⌝ }
 {
-    let f = rows::find2(s, n, 2, client, sequence);
+    let f = rows::find2(s, n, 2, key.client as u64, key.seq);
     match f {
         Found::At(_) => true,
         Found::Absent(_) => false,
@@ -33,28 +27,30 @@ pub fn contains(s: &[u8], n: usize, client: u64, sequence: u64) -> bool
 }
 
 // Puts a key in, unless it is there.
-pub fn insert(s: &mut [u8], n: usize, client: u64, sequence: u64) -> usize
+pub fn insert(s: &mut [u8], n: usize, key: ClientKey) -> usize
     requires { ⌜ 8 * (n * 2 + 2) ≤ length (now s) ⌝ }
-    ensures { λ r. ⌜ Inserts (record { client = client; sequence = sequence }) n r (now (s .entry)) (now (s .exit)) ⌝ }
+    ensures { λ r. ⌜ Inserts key n r (now (s .entry)) (now (s .exit)) ⌝ }
 {
-    let f = rows::find2(s, n, 2, client, sequence);
+    let client = key.client as u64;
+    let seq = key.seq;
+    let f = rows::find2(s, n, 2, client, seq);
     match f {
         Found::At(_) => n,
         Found::Absent(i) => {
             let at = rows::start(i, n, 2);
             rows::open_row(s, n, i, 2);
-            words::store_all(s, at, &[client, sequence]);
+            words::store_all(s, at, &[client, seq]);
             n + 1
         }
     }
 }
 
 // Takes a key out, if it is there.
-pub fn remove(s: &mut [u8], n: usize, client: u64, sequence: u64) -> usize
+pub fn remove(s: &mut [u8], n: usize, key: ClientKey) -> usize
     requires { ⌜ 8 * (n * 2) ≤ length (now s) ⌝ }
-    ensures { λ r. ⌜ Removes (record { client = client; sequence = sequence }) n r (now (s .entry)) (now (s .exit)) ⌝ }
+    ensures { λ r. ⌜ Removes key n r (now (s .entry)) (now (s .exit)) ⌝ }
 {
-    let f = rows::find2(s, n, 2, client, sequence);
+    let f = rows::find2(s, n, 2, key.client as u64, key.seq);
     match f {
         Found::At(i) => {
             rows::remove_row(s, n, i, 2);

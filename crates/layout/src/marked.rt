@@ -1,6 +1,6 @@
 // A number and bytes in a region of 1 + ⌈p/8⌉ words, where p is the greatest count of bytes: the number, then the bytes, padded with zeros. A
 // payload's number (types.rs) is 1 for a noop and 2 and the length for a command; a message's is its length. Two such regions are equal
-// where the values are (`decides-same` of specs/Contents.antt), so `words::equal` compares payloads.
+// where the values are, so `words::equal` compares payloads (`payloads-same` of specs/MarkedLaws.antt).
 ghost use mathlib.Core.Path.{_≡_};
 ghost use Prim.Native.Nat.{_+_, _-_, _*_, _≤_};
 ghost use lib.ListN.{length, getD};

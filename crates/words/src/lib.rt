@@ -134,7 +134,8 @@ pub fn copy_from(dst: &mut [u8], at: usize, src: &[u8])
     }
 }
 
-// Moves the bytes from `at` up to `end` to w places further on. What stands from at to at + w is as it was.
+// Moves the bytes from `at` up to `end` to w places further on. What stands from at to at + w is as it was. So it also copies a part of a
+// slice to a later place in it, and close_gap to an earlier one.
 pub fn open_gap(s: &mut [u8], at: usize, end: usize, w: usize)
     requires { ⌜ (at ≤ end) × (end + w ≤ length (now s)) ⌝ }
     ensures { λ _. ⌜ now (s .exit) ≡ sets (now (s .entry)) (at + w) (take (end - at) (drop at (now (s .entry)))) ⌝ }

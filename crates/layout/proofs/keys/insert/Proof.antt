@@ -1,4 +1,4 @@
--- Made by tools/uniform from proofs.txt, not by hand: b780249190505e19
+-- Made by tools/uniform from proofs.txt, not by hand: 15c5c2db38566eea
 use Rattle.layout.specs.SortedTables.{found}
 use Rattle.layout.specs.KeyLaws.{key}
 use borrow.Author.Needs.{needs}
@@ -9,6 +9,7 @@ pub insert-spec : {M : Type 1} → statement M
 insert-spec =
     tie.close
     (tie.spec
+    (λ c. search (key, found, needs))  -- cast-client
     (λ c κs. search (key, found, needs))  -- find2-requires
     (λ c. search (key, found, needs))  -- enum-told
     (λ c. search (key, found, needs))  -- enum-known-f

@@ -1,4 +1,4 @@
--- Made by tools/uniform from proofs.txt, not by hand: 6f4579688675918c
+-- Made by tools/uniform from proofs.txt, not by hand: 1afb4c5436174a83
 use Rattle.layout.specs.SortedTables.{found}
 use Rattle.layout.specs.KeyLaws.{key}
 use borrow.Author.Needs.{needs}
@@ -9,6 +9,7 @@ pub remove-spec : {M : Type 1} → statement M
 remove-spec =
     tie.close
     (tie.spec
+    (λ c. search (key, found, needs))  -- cast-find2
     (λ c κs. search (key, found, needs))  -- find2-requires
     (λ c. search (key, found, needs))  -- enum-known-f
     (λ c κs. search (key, found, needs))  -- remove-row-requires
