@@ -57,13 +57,14 @@ readLeader s = done (leaderOf s) s
 unfoldable pub readApplied : ℕ → State → Out ℕ
 readApplied id = ofServer id (λ v. v .nextApply - 1)
 
--- The first payload that any server applied at an index, into a lent buffer of so many bytes.
+-- The first payload that any server applied at an index, if one did.
+abbrev pub appliedAt : List Payload → ℕ → Option Payload
+appliedAt applied zero = none
+appliedAt applied (suc place) = at applied place
+
+-- The same, into a lent buffer of so many bytes.
 unfoldable pub readAppliedEntry : ℕ → ℕ → State → Out (Option Payload)
-readAppliedEntry index buffer s = ask (leb (s .limits .payload) buffer) 9 (done (appliedAt index) s)
-  where
-    appliedAt : ℕ → Option Payload
-    appliedAt zero = none
-    appliedAt (suc place) = at (s .checker .applied) place
+readAppliedEntry index buffer s = ask (leb (s .limits .payload) buffer) 9 (done (appliedAt (s .checker .applied) index) s)
 
 -- The counters so far (metrics), and one server's messages (sent_by).
 unfoldable pub readMetrics : State → Out Metrics
