@@ -13,7 +13,7 @@ use Rattle.units.specs.Types.{Payload, noop, command}
 use Rattle.units.specs.declared.NodeId.{NodeId}
 use Rattle.units.specs.declared.LogIndex.{LogIndex}
 use Rattle.units.specs.declared.Duration.{Duration}
-use Rattle.client.specs.Key.{decode}
+use Rattle.client.specs.Key.{decode, keyOf}
 use Rattle.client.specs.declared.Decoded.{Decoded}
 use Rattle.client.specs.declared.Decoded.the-variants as decoded
 use Rattle.protocol.specs.declared.Timer.{Timer}
@@ -27,7 +27,7 @@ use Rattle.network.specs.declared.Route.the-variants.{Dropped, Delivered}
 use Rattle.storage.specs.Storage.{Write, sync, unsynced, written}
 use Rattle.model.specs.State.{State, direct, fromClient, Input, startInput, messageInput, timerInput, proposeInput, confirmInput, Verdict, accepted, notLeader, Owed, serverAt, idOf}
 use Rattle.model.specs.Fields.{withStorage}
-use Rattle.model.specs.Simulation.{onServer, keyOf, stopServer, writeAt, redirect, cutInput, syncInput, pushRouted, send, raised, setTimer, cancelTimer, replyTo, replyFor, apply, confirm, endInput}
+use Rattle.model.specs.Simulation.{onServer, stopServer, writeAt, redirect, cutInput, syncInput, pushRouted, send, raised, setTimer, cancelTimer, replyTo, replyFor, apply, confirm, endInput}
 use Rattle.book.specs.Book.{doWrites, Given, sent, timerSet, wasApplied, answered, Book, noneOpen, finishInput, strikeInput}
 use Rattle.book.specs.Disks.{InLog}
 use Rattle.book.specs.Stores.{stored-write, stored-sync}

@@ -5,12 +5,17 @@ use lib.Dec.{ltb}
 use lib.ListN.{length, replicate}
 use Rattle.laws.specs.Bools.{pick}
 use Rattle.words.specs.Words.{bytesOf, leAt}
+use Rattle.client.specs.declared.ClientKey.{ClientKey}
 use Rattle.client.specs.declared.Decoded.{Decoded}
 use Rattle.client.specs.declared.Decoded.the-variants.{Key, None}
 
 -- The client number of commands proposed directly by an experiment procedure.
 abbrev pub direct : ℕ
 direct = 2 ^ 32 - 1
+
+-- The two numbers of a key, the client first: the order of keys in a set.
+abbrev pub keyOf : ClientKey → ℕ × ℕ
+keyOf k = (k .client, k .seq)
 
 -- The client in 4 bytes, the sequence number in 8, and zeros up to the size.
 unfoldable pub encode : ℕ → ℕ → ℕ → List ℕ

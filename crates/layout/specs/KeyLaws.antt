@@ -22,7 +22,8 @@ use Rattle.layout.specs.TableLaws.{Rowed, rowed-start, rowed-turn, rowed
 use Rattle.layout.specs.Order.{find, two, heads}
 use Rattle.layout.specs.RowLaws.{heads-are}
 use Rattle.layout.specs.SortedTables.{Keyed, keyed-insert, keyed-inserted, keyed-remove, keyed-removed}
-use Rattle.layout.specs.Keys.{keyRow, keyOf, keys, Inserts, Removes}
+use Rattle.client.specs.Key.{keyOf}
+use Rattle.layout.specs.Keys.{keyRow, keys, Inserts, Removes}
 
 -- the key of a row is its first two words
 pub key-read : (ws : List ℕ) → two ws ≡ keyOf (keyRow .parse ws)

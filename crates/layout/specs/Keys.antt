@@ -4,6 +4,7 @@ use mathlib.Core.List.{List, map}
 use Prim.Native.Nat.{ℕ, _<_}
 use lib.Dec.{ltb}
 use Rattle.laws.specs.Order.{pairs, rising, insertBy, removeBy}
+use Rattle.client.specs.Key.{keyOf}
 use Rattle.client.specs.declared.ClientKey.{ClientKey}
 use Rattle.layout.specs.Code.{Code, word, pair, iso, such}
 use Rattle.layout.specs.Tables.{Table, Becomes}
@@ -12,11 +13,7 @@ use Rattle.layout.specs.Tables.{Table, Becomes}
 abbrev pub keyRow : Code ClientKey
 keyRow = iso (pair word word) (λ x. record { client = x .0; seq = x .1 }) (λ k. (k .client, k .seq)) (λ k. refl) (λ x h. refl)
 
--- What the rows are sorted by.
-abbrev pub keyOf : ClientKey → ℕ × ℕ
-keyOf k = (k .client, k .seq)
-
--- The keys of clients below c, rising.
+-- The keys of clients below c, rising by client and sequence number.
 abbrev pub keys : ℕ → Table ClientKey
 keys c = record { row = such keyRow (λ k. ltb (k .client) c); rule = λ x. rising pairs (map keyOf x) }
 

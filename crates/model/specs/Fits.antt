@@ -14,6 +14,7 @@ use Rattle.units.specs.declared.NodeOption.{NodeOption}
 use Rattle.units.specs.declared.NodeOption.the-variants.{None, Some}
 use Rattle.units.specs.declared.Term.{Term}
 use Rattle.config.specs.Limits.{judge, number}
+use Rattle.client.specs.Key.{keyOf}
 use Rattle.client.specs.declared.ClientKey.{ClientKey}
 use Rattle.protocol.specs.declared.Status.{Status}
 use Rattle.faults.specs.Fault.{faultInRange}
@@ -27,7 +28,6 @@ use Rattle.queue.specs.declared.Event.the-variants as event
 use Rattle.checks.specs.Checks.{Violation, Seen, seenKey, Checker, leaderKey}
 use Rattle.checks.specs.declared.TermLeader.{TermLeader}
 use Rattle.model.specs.State.{State, Server, Client, Outstanding, Reply, Confirmation, direct, fromClient, Input, startInput, messageInput, timerInput, proposeInput, confirmInput, Verdict, accepted, notLeader, Owed, nothing, construction, healing, Phase, closed, writing, sending}
-use Rattle.model.specs.Simulation.{keyOf}
 
 -- ---- numbers
 

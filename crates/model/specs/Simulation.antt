@@ -22,7 +22,7 @@ use Rattle.seeds.specs.declared.Stream.the-variants.{Workload, Startup}
 use Rattle.seeds.specs.declared.Stream.the-variants as stream
 use Rattle.config.specs.declared.SimConfig.{SimConfig}
 use Rattle.config.specs.declared.Limits.{Limits}
-use Rattle.client.specs.Key.{decode}
+use Rattle.client.specs.Key.{decode, keyOf}
 use Rattle.client.specs.Key as client
 use Rattle.client.specs.declared.ClientKey.{ClientKey}
 use Rattle.client.specs.declared.Decoded.{Decoded}
@@ -87,9 +87,6 @@ abbrev pub arrival : State → Arrival
 arrival s =
     let d = network.delay (s .network) in
     record { state = withNetwork s (d .network); time = later (s .now) (d .delay) }
-
-abbrev pub keyOf : ClientKey → ℕ × ℕ
-keyOf k = (k .client, k .seq)
 
 -- ---- what a call hands to the host
 
