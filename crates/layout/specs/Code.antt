@@ -10,12 +10,11 @@ use native.Mathlib.Nat.{zero-mul, suc-mul, add-comm}
 use native.Mathlib.Omega.{arith}
 use lib.Dec.{leb, ltb, eqb}
 use lib.ListN.{length, take, drop, getD, replicate, length-append, length-replicate, length-drop, take-append-drop}
-use lib.Seq.{take-at, drop-at, drop-drop, length-take-le, take-append-le, drop-append-le}
-use mir.Syntax.{w64}
+use lib.Seq.{take-at, drop-at, drop-drop, length-take-le}
 use borrow.Author.Tests.{leb-true, le-leb, ltb-true, lt-ltb, eqb-true, eq-eqb, ne-eqb}
 use Rattle.laws.specs.Bools.{pick, _and_, and-left, and-right, and-both, every}
 use Rattle.words.specs.Words.{Fit, allz}
-use Rattle.words.specs.Numbers.{each-append, each-take, each-drop, each-left, each-zeros}
+use Rattle.words.specs.Numbers.{each-append, each-drop, each-zeros}
 use Rattle.words.specs.Zero.{allz-zeros, zeros-allz}
 
 pub record Code (T : Type 0) : Type 1 where

@@ -2,10 +2,10 @@
 -- bytes are a content. Assumes nothing.
 use mathlib.Core.Path.{_≡_, refl, sym, ap, _∙_, subst}
 use mathlib.Core.Bool.{Bool, true, false}
-use mathlib.Core.List.{List, [], _∷_, _++_, append-nil}
-use Prim.Native.Nat.{ℕ, _+_, _*_, _/_, _≤_}
+use mathlib.Core.List.{List, [], _++_, append-nil}
+use Prim.Native.Nat.{ℕ, _*_, _≤_}
 use native.Mathlib.Omega.{arith}
-use lib.ListN.{length, take, drop, length-drop, take-append-drop}
+use lib.ListN.{length, take, drop, take-append-drop}
 use lib.Seq.{take-at, take-all, length-take-le}
 use Rattle.laws.specs.Decides.{Decides, false-true}
 use Rattle.words.specs.Words.{bytes, W, Bytes, Fit}

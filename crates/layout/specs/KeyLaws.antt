@@ -1,7 +1,7 @@
 -- What the proofs of keys.rt cite. Assumes nothing.
 use mathlib.Core.Path.{_≡_, refl, sym, ap, _∙_}
-use mathlib.Core.Bool.{Bool, true, false, not}
-use mathlib.Core.List.{List, [], _∷_, map}
+use mathlib.Core.Bool.{Bool, false}
+use mathlib.Core.List.{List, [], _∷_}
 use Prim.Native.Nat.{ℕ, _+_, _-_, _*_, _^_, _≤_, _<_}
 use native.Mathlib.Nat.{add-zero}
 use lib.Dec.{ltb}
@@ -10,38 +10,29 @@ use lib.Seq.{sets, getD-drop}
 use mir.Syntax.{w64}
 use mir.Val.{Fits}
 use borrow.Author.Tests.{lt-ltb, le-ltb}
-use Rattle.laws.specs.Bools.{_and_, and-both, and-no}
+use Rattle.laws.specs.Bools.{and-both, and-no}
 use Rattle.words.specs.Words.{bytes, W}
-use Rattle.layout.specs.declared.keys.Key.{Key}
 use Rattle.layout.specs.declared.rows.Found.{Found}
 use Rattle.layout.specs.declared.rows.Found.the-variants.{At, Absent}
 use Rattle.layout.specs.Code.{okN}
 use Rattle.layout.specs.Tables.{opened, removed, rowsIn}
 use Rattle.layout.specs.TableLaws.{Rowed, rowed-start, rowed-turn, rowed-fail, rowed-done}
-use Rattle.layout.specs.Order.{pairs, find, isAt, has, two, heads, rising}
+use Rattle.layout.specs.Order.{pairs, find, two, heads, rising}
 use Rattle.layout.specs.RowLaws.{heads-are}
-use Rattle.layout.specs.SortedTables.{Keyed, keyed-has, keyed-insert, keyed-inserted, keyed-remove, keyed-removed}
+use Rattle.layout.specs.SortedTables.{Keyed, keyed-insert, keyed-inserted, keyed-remove, keyed-removed}
 use Rattle.layout.specs.Keys.{keyRow, keyOf, keys, Inserts, Removes}
 
--- the rows are sorted by their first two words
-key-read : (ws : List ℕ) → two ws ≡ keyOf (keyRow .parse ws)
+-- the key of a row is its first two words
+pub key-read : (ws : List ℕ) → two ws ≡ keyOf (keyRow .parse ws)
 unfolding two keyOf
 key-read ws = simp getD-drop
 
 keyed : (c : ℕ) → Keyed (keys c) pairs keyOf two
 keyed c = record { rule = λ x. refl; read = key-read }
 
--- ---- contains
+-- ---- insert and remove
 
 module _ (n : ℕ) (b : List ℕ) (client sequence : ℕ) (f : Found) (e : f ≡ find pairs (client, sequence) (heads two 2 n (W b))) (i : ℕ) where
-  pub has-key : f ≡ At i → true ≡ has pairs (client, sequence) (map keyOf (rowsIn keyRow n b))
-  has-key t = ap isAt (sym t ∙ e ∙ ap (find pairs (client, sequence)) (heads-are keyRow two keyOf key-read n b))
-
-  pub has-no-key : f ≡ Absent i → false ≡ has pairs (client, sequence) (map keyOf (rowsIn keyRow n b))
-  has-no-key t = ap isAt (sym t ∙ e ∙ ap (find pairs (client, sequence)) (heads-are keyRow two keyOf key-read n b))
-
-  -- ---- insert and remove
-
   pub key-there : f ≡ At i → Inserts (record { client = client; sequence = sequence }) n n b b
   unfolding keyOf
   key-there t = record { to = λ c h. keyed-inserted (keyed c) n b (record { client = client; sequence = sequence }) f e i t }
@@ -64,7 +55,7 @@ module _ (n : ℕ) (b : List ℕ) (client sequence : ℕ) (f : Found) (e : f ≡
   unfolding keyOf
   key-not-there t = record { to = λ c. keyed-removed (keyed c) n b (client, sequence) f e i t }
 
-pub ruleset key = (has-key, has-no-key, key-there, key-new, key-gone, key-not-there)
+pub ruleset key = (key-there, key-new, key-gone, key-not-there)
 
 -- ---- the test of each row
 

@@ -1,6 +1,5 @@
 -- Pending client commands as a table (keys.rt): rows of client and sequence, rising. Assumes nothing.
-use mathlib.Core.Path.{_≡_, refl}
-use mathlib.Core.Bool.{Bool}
+use mathlib.Core.Path.{refl}
 use mathlib.Core.List.{List, map}
 use Prim.Native.Nat.{ℕ, _<_}
 use lib.Dec.{ltb}

@@ -10,3 +10,10 @@ pub mod Spot
 pub mod SortedTables
 pub mod Keys
 pub mod KeyLaws
+pub mod Marked
+pub mod Payload
+pub mod MarkedCalls
+pub mod MarkedLaws
+pub mod Parts
+pub mod Applied
+pub mod AppliedLaws

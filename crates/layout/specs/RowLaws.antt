@@ -1,25 +1,24 @@
 -- What the proofs of the functions of rows.rt cite: the code's calls and tests as premises, in the code's order. Assumes nothing.
-use mathlib.Core.Path.{_≡_, refl, sym, ap, ap₂, _∙_, subst}
+use mathlib.Core.Path.{_≡_, refl, sym, ap, ap₂, _∙_}
 use mathlib.Core.Bool.{Bool, true, false, not}
-use mathlib.Core.List.{List, [], _∷_, _++_, map}
-use Prim.Native.Nat.{ℕ, zero, suc, _+_, _-_, _*_, _/_, _%_, _^_, _≤_, _<_}
+use mathlib.Core.List.{List, _∷_, map}
+use Prim.Native.Nat.{ℕ, zero, suc, _+_, _-_, _*_, _/_, _%_, _≤_, _<_}
 use native.Mathlib.Nat.{add-zero, zero-mul, suc-mul, le-div-iff-mul-le, div-lt-iff-lt-mul}
 use native.Mathlib.Numerals.{add-one}
 use native.Mathlib.Omega.{arith}
-use lib.Dec.{ltb, leb, eqb}
+use lib.Dec.{ltb}
 use lib.ListN.{length, getD, take, drop, replicate, length-drop, drop-of-length-le}
 use lib.Seq.{sets, take-all, drop-cons, drop-drop, getD-drop}
 use borrow.Author.Tests.{lt-ltb, le-ltb, le-leb, lt-leb, eq-eqb, ne-eqb, not-true, not-false}
-use Rattle.laws.specs.Bools.{pick, _and_, and-both, and-no, no-and, true-and}
+use Rattle.laws.specs.Bools.{_and_, and-no, no-and, true-and}
 use Rattle.words.specs.Words.{W, allz}
 use Rattle.words.specs.Lift.{length-W}
-use Rattle.layout.specs.declared.rows.Found.{Found}
 use Rattle.layout.specs.declared.rows.Found.the-variants.{At, Absent}
 use Rattle.layout.specs.Code.{Code, parseN}
 use Rattle.layout.specs.Tables.{opened, removed, padded, rowsIn}
 use Rattle.layout.specs.Rows.{row-end}
-use Rattle.layout.specs.Order.{Order, numbers, pairs, lexBefore, below, notBelow, first, place, find, next, chain, one, two, heads}
-use Rattle.layout.specs.Sorted.{Looking, look-start, look-here, look-next, look-end, found-end, found-above, found-here, find-at, find-absent}
+use Rattle.layout.specs.Order.{numbers, pairs, lexBefore, below, notBelow, first, place, find, chain, one, two, heads}
+use Rattle.layout.specs.Sorted.{Looking, look-start, look-here, look-next, look-end, found-end, found-above, found-here}
 
 -- ---- moves: `at` is where row i starts
 

@@ -1,20 +1,19 @@
 -- Tables: what is done to the bytes is what is done to the list of rows. `i * w` is a product of two unknowns here, and no law computes
 -- with it: it is the length of the rows before row i (`length-flat`), and the laws of `sets` ask only lengths. Assumes nothing.
-use mathlib.Core.Path.{_≡_, refl, sym, ap, ap₂, _∙_, subst}
-use mathlib.Core.Bool.{Bool, true, false}
+use mathlib.Core.Path.{_≡_, refl, sym, ap, ap₂, _∙_}
+use mathlib.Core.Bool.{Bool, true}
 use mathlib.Core.List.{List, [], _∷_, _++_, append-assoc, append-nil}
 use Prim.Native.Nat.{ℕ, zero, suc, _+_, _-_, _*_, _≤_, _<_}
 use native.Mathlib.Nat.{zero-mul, suc-mul, add-mul, mul-le-mul-right}
 use native.Mathlib.Omega.{arith}
-use lib.ListN.{length, getD, set, take, drop, replicate, length-append, length-drop, length-set, length-replicate, take-append-drop, replicate-append-replicate}
+use lib.ListN.{length, getD, set, take, drop, replicate, length-append, length-drop, length-replicate, take-append-drop, replicate-append-replicate}
 use lib.Seq.{sets, length-take-le, split-at, set-split, length-sets}
-use Rattle.laws.specs.Bools.{_and_, and-left, and-right, and-both, every, every-append, every-get, every-set}
-use Rattle.words.specs.Words.{bytes, W}
+use Rattle.laws.specs.Bools.{and-left, and-right, and-both, every, every-append, every-get}
+use Rattle.words.specs.Words.{bytes}
 use Rattle.words.specs.Sets.{sets-at, part-at, gap-put, gap-close}
-use Rattle.words.specs.Lift.{bytes-zeros, length-bytes, part-whole, sets-whole}
-use Rattle.layout.specs.Code.{Code, zeros, flat, lay, rows, length-flat, length-lay, Fitting, fitting, fitted, parseN}
-use Rattle.layout.specs.Tables.{Holds, Table, content, Becomes, Gives, rowsIn, insertAt, removeAt, opened, removed}
-use Rattle.layout.specs.Contents.{holds-length, holds-parse}
+use Rattle.words.specs.Lift.{bytes-zeros, part-whole, sets-whole}
+use Rattle.layout.specs.Code.{Code, zeros, flat, length-flat}
+use Rattle.layout.specs.Tables.{insertAt, removeAt, fillFrom, opened, removed}
 
 -- ---- the facts on products that bounds of a table want: list them after `arith`
 
@@ -45,6 +44,14 @@ module _ {A : Type 0} (f : A → Bool) (i : ℕ) (x : List A) (h : every f x ≡
   unfolding removeAt
   every-removeAt = every-append f (take i x) (drop (suc i) x) ∙ and-both _ _ (every-take f i x h) (every-drop f (suc i) x h)
 
+  every-replicate : (n : ℕ) (a : A) → f a ≡ true → every f (replicate n a) ≡ true
+  every-replicate zero a k = refl
+  every-replicate (suc n) a k = and-both _ _ k (every-replicate n a k)
+
+  pub every-fillFrom : (a : A) → f a ≡ true → every f (fillFrom i a x) ≡ true
+  unfolding fillFrom
+  every-fillFrom a k = every-append f (take i x) (replicate (length x - i) a) ∙ and-both _ _ (every-take f i x h) (every-replicate (length x - i) a k)
+
 pub length-insertAt : {A : Type 0} (i : ℕ) (a : A) (x : List A) → i ≤ length x → length (insertAt i a x) ≡ length x + 1
 unfolding insertAt
 length-insertAt i a x h = omega (arith, length-append (take i x) (a ∷ drop i x), length-take-le i x h, length-drop i x)
@@ -52,6 +59,10 @@ length-insertAt i a x h = omega (arith, length-append (take i x) (a ∷ drop i x
 pub length-removeAt : {A : Type 0} (i : ℕ) (x : List A) → i < length x → length (removeAt i x) ≡ length x - 1
 unfolding removeAt
 length-removeAt i x h = omega (arith, length-append (take i x) (drop (suc i) x), length-take-le i x (omega arith), length-drop (suc i) x)
+
+pub length-fillFrom : {A : Type 0} (i : ℕ) (a : A) (x : List A) → i ≤ length x → length (fillFrom i a x) ≡ length x
+unfolding fillFrom
+length-fillFrom i a x h = omega (arith, length-append (take i x) (replicate (length x - i) a), length-take-le i x h, length-replicate (length x - i) a)
 
 -- ---- the words of rows: those of x, and then z
 
@@ -137,6 +148,24 @@ module _ {T : Type 0} (c : Code T) (x : List T) (g : every (c .good) x ≡ true)
       ∙ ap (λ (l : List ℕ). sets (sets (p ++ (a ++ (q ++ z))) (i * w) l) (length x * w - w) (zeros w)) m
       ∙ gap-close p a q (zeros w) z (i * w) (length x * w - w) lp (omega arith) (length-replicate w zero ∙ sym la)
       ∙ sym (ap (λ (l : List ℕ). l ++ (zeros w ++ z)) (flat-append (c .enc) (take i x) (drop (suc i) x)) ∙ append-assoc p q (zeros w ++ z))
+
+  -- the rows from i on made zero, where zeros are the content of a
+  flat-zeros : (k : ℕ) (a : T) → c .enc a ≡ zeros w → flat (c .enc) (replicate k a) ≡ zeros (k * w)
+  flat-zeros zero a e = ap zeros (sym (zero-mul w))
+  flat-zeros (suc k) a e =
+      ap₂ (λ (u v : List ℕ). u ++ v) e (flat-zeros k a e) ∙ replicate-append-replicate w (k * w) zero ∙ ap zeros (let d : w + k * w ≡ suc k * w = omega (arith, suc-mul k w) in d)
+
+  pub fill-rows : (z : List ℕ) (i : ℕ) (a : T) → i ≤ length x → c .enc a ≡ zeros w → sets (flat (c .enc) x ++ z) (i * w) (zeros (length x * w - i * w)) ≡ flat (c .enc) (fillFrom i a x) ++ z
+  unfolding fillFrom
+  fill-rows z i a h e =
+      let p : List ℕ = flat (c .enc) (take i x) in
+      let y : List T = replicate (length x - i) a in
+      let lq : length (flat (c .enc) (drop i x)) ≡ length x * w - i * w = after i h in
+      let r : (length x - i) * w ≡ length x * w - i * w = ap (λ (k : ℕ). k * w) (sym (length-drop i x)) ∙ sym (length-flat c (drop i x) (every-drop (c .good) i x g)) ∙ lq in
+      ap (λ (l : List ℕ). sets l (i * w) (zeros (length x * w - i * w))) (cut-at z i)
+      ∙ sets-at p (flat (c .enc) (drop i x)) z (zeros (length x * w - i * w)) (i * w) (before i h) (length-replicate (length x * w - i * w) zero ∙ sym lq)
+      ∙ ap (λ (l : List ℕ). p ++ (l ++ z)) (sym (flat-zeros (length x - i) a e ∙ ap zeros r))
+      ∙ sym (ap (λ (l : List ℕ). l ++ z) (flat-append (c .enc) (take i x) y) ∙ append-assoc p (flat (c .enc) y) z)
 
   -- a row after the last
   pub append-row : (z r : List ℕ) (a : T) → c .good a ≡ true → length z ≡ w → sets (flat (c .enc) x ++ (z ++ r)) (length x * w) (c .enc a) ≡ flat (c .enc) (x ++ a ∷ []) ++ r

@@ -2,22 +2,21 @@
 use mathlib.Core.Path.{_≡_, refl, sym, ap, ap₂, _∙_, subst}
 use mathlib.Core.Bool.{Bool, true, false, not}
 use mathlib.Core.List.{List, [], _∷_, _++_, map}
-use Prim.Native.Nat.{ℕ, zero, suc, _+_, _-_, _*_, _≤_, _<_}
-use native.Mathlib.Nat.{add-zero, zero-mul, suc-mul}
+use mathlib.Core.Logic.{_⊎_, ⊎-elim}
+use Prim.Native.Nat.{ℕ, zero, suc, _+_, _≤_, _<_}
+use native.Mathlib.Nat.{add-zero}
 use native.Mathlib.Numerals.{add-one}
 use native.Mathlib.Omega.{arith}
 use lib.Dec.{ltb, leb·suc-suc}
-use lib.ListN.{length, getD, take, drop, drop-of-length-le, length-map}
-use lib.Seq.{drop-cons, getD-drop, drop-drop}
-use borrow.Author.Tests.{lt-ltb, le-ltb, ltb-true, ltb-false, not-true, not-false}
-use Rattle.laws.specs.Bools.{pick, _and_, and-left, and-right, and-both, true-and, no-and, every, every-get}
+use lib.ListN.{length, getD, take, drop, drop-of-length-le}
+use lib.Seq.{drop-cons}
+use borrow.Author.Tests.{lt-ltb, le-ltb}
+use Rattle.laws.specs.Bools.{pick, and-left, and-right, and-both, every, every-get}
 use Rattle.laws.specs.Decides.{false-true}
-use Rattle.words.specs.Words.{W}
 use Rattle.layout.specs.declared.rows.Found.{Found}
 use Rattle.layout.specs.declared.rows.Found.the-variants.{At, Absent}
-use Rattle.layout.specs.Code.{Code, parseN}
-use Rattle.layout.specs.Tables.{insertAt, removeAt, rowsIn}
-use Rattle.layout.specs.Order.{Order, numbers, pairs, lexBefore, below, notBelow, first, place, lastPlace, later, find, isAt, has, next, chain, rising, sorted, insertBy, pushBy, removeBy, one, two, heads}
+use Rattle.layout.specs.Tables.{insertAt, removeAt}
+use Rattle.layout.specs.Order.{Order, below, notBelow, first, place, lastPlace, later, find, next, chain, rising, sorted, insertBy, pushBy, removeBy, isAt, has}
 
 -- ---- the first element that f takes
 
@@ -272,6 +271,94 @@ module _ {K : Type 0} (O : Order K) where
         by true t c = and-both _ _ (next-remove (key b) k x (and-left _ _ h) (and-right _ _ h)) c
         by false true c = h
         by false false c = and-right _ _ h
+
+  -- ---- whether a key is there, one key at a time
+
+  pub has-cons : (k a : K) (ks : List K) → has O k (a ∷ ks) ≡ pick (O .before a k) (has O k ks) (not (O .before k a))
+  unfolding find
+  has-cons k a ks = by (O .before a k) (O .before k a) (find O k ks)
+    where
+      by : (p q : Bool) (f : Found) → isAt (pick p (later f) (pick q (Absent 0) (At 0))) ≡ pick p (isAt f) (not q)
+      by true q (At i) = refl
+      by true q (Absent i) = refl
+      by false true f = refl
+      by false false f = refl
+
+  has-past : (k a : K) (ks : List K) → O .before a k ≡ true → has O k (a ∷ ks) ≡ has O k ks
+  has-past k a ks h = has-cons k a ks ∙ ap (λ (p : Bool). pick p (has O k ks) (not (O .before k a))) h
+
+  has-stop : (k a : K) (ks : List K) → O .before k a ≡ true → has O k (a ∷ ks) ≡ false
+  has-stop k a ks h = has-cons k a ks ∙ ap₂ (λ (p q : Bool). pick p (has O k ks) (not q)) (asymmetric k a h) h
+
+  has-here : (k a : K) (ks : List K) → O .before a k ≡ false → O .before k a ≡ false → has O k (a ∷ ks) ≡ true
+  has-here k a ks h l = has-cons k a ks ∙ ap₂ (λ (p q : Bool). pick p (has O k ks) (not q)) h l
+
+  has-again : (k a : K) (ks ls : List K) → has O k ks ≡ has O k ls → has O k (a ∷ ks) ≡ has O k (a ∷ ls)
+  has-again k a ks ls h = has-cons k a ks ∙ ap (λ (t : Bool). pick (O .before a k) t (not (O .before k a))) h ∙ sym (has-cons k a ls)
+
+  -- keys that begin above k do not have it
+  has-below : (k : K) (ks : List K) → next (below O) k ks ≡ true → has O k ks ≡ false
+  unfolding below find
+  has-below k [] h = refl
+  has-below k (a ∷ ks) h = has-stop k a ks h
+
+  -- another key
+  abbrev pub Other : K → K → Type 0
+  Other j k = (O .before j k ≡ true) ⊎ (O .before k j ≡ true)
+
+  -- ---- rows by key are a set: what was put in is there, what was taken out is not, and no other key is touched
+
+  module _ {T : Type 0} (key : T → K) where
+    pub has-inserted : (a : T) (x : List T) → has O (key a) (map key (insertBy O key a x)) ≡ true
+    unfolding insertBy
+    has-inserted a [] = has-here (key a) (key a) [] (O .irreflexive (key a)) (O .irreflexive (key a))
+    has-inserted a (b ∷ x) = by (O .before (key b) (key a)) refl (O .before (key a) (key b)) refl (has-inserted a x)
+      where
+        by : (p : Bool) → O .before (key b) (key a) ≡ p → (q : Bool) → O .before (key a) (key b) ≡ q → has O (key a) (map key (insertBy O key a x)) ≡ true
+            → has O (key a) (map key (pick p (b ∷ insertBy O key a x) (pick q (a ∷ b ∷ x) (b ∷ x)))) ≡ true
+        by true e q f h = has-past (key a) (key b) (map key (insertBy O key a x)) e ∙ h
+        by false e true f h = has-here (key a) (key a) (map key (b ∷ x)) (O .irreflexive (key a)) (O .irreflexive (key a))
+        by false e false f h = has-here (key a) (key b) (map key x) e f
+
+    pub has-insert : (j : K) (a : T) (x : List T) → Other j (key a) → has O j (map key (insertBy O key a x)) ≡ has O j (map key x)
+    unfolding insertBy find
+    has-insert j a [] o = ⊎-elim (λ l. has-stop j (key a) [] l) (λ l. has-past j (key a) [] l) o
+    has-insert j a (b ∷ x) o = by (O .before (key b) (key a)) (O .before (key a) (key b)) refl (has-insert j a x o)
+      where
+        by : (p q : Bool) → O .before (key a) (key b) ≡ q → has O j (map key (insertBy O key a x)) ≡ has O j (map key x)
+            → has O j (map key (pick p (b ∷ insertBy O key a x) (pick q (a ∷ b ∷ x) (b ∷ x)))) ≡ has O j (map key (b ∷ x))
+        by true q f h = has-again j (key b) (map key (insertBy O key a x)) (map key x) h
+        by false true f h =
+            ⊎-elim (λ l. has-stop j (key a) (map key (b ∷ x)) l ∙ sym (has-stop j (key b) (map key x) (O .transitive j (key a) (key b) l f))) (λ l. has-past j (key a) (map key (b ∷ x)) l) o
+        by false false f h = refl
+
+    pub has-removed : (k : K) (x : List T) → rising O (map key x) ≡ true → has O k (map key (removeBy O key k x)) ≡ false
+    unfolding removeBy chain find
+    has-removed k [] r = refl
+    has-removed k (b ∷ x) r = by (O .before (key b) k) refl (O .before k (key b)) refl (has-removed k x (and-right _ _ r))
+      where
+        by : (p : Bool) → O .before (key b) k ≡ p → (q : Bool) → O .before k (key b) ≡ q → has O k (map key (removeBy O key k x)) ≡ false
+            → has O k (map key (pick p (b ∷ removeBy O key k x) (pick q (b ∷ x) x))) ≡ false
+        by true e q f h = has-past k (key b) (map key (removeBy O key k x)) e ∙ h
+        by false e true f h = has-stop k (key b) (map key x) f
+        by false e false f h = has-below k (map key x) (subst (λ (j : K). next (below O) j (map key x) ≡ true) (O .total (key b) k e f) (and-left _ _ r))
+
+    pub has-remove : (j k : K) (x : List T) → rising O (map key x) ≡ true → Other j k → has O j (map key (removeBy O key k x)) ≡ has O j (map key x)
+    unfolding removeBy chain
+    has-remove j k [] r o = refl
+    has-remove j k (b ∷ x) r o = by (O .before (key b) k) refl (O .before k (key b)) refl (has-remove j k x (and-right _ _ r) o)
+      where
+        by : (p : Bool) → O .before (key b) k ≡ p → (q : Bool) → O .before k (key b) ≡ q → has O j (map key (removeBy O key k x)) ≡ has O j (map key x)
+            → has O j (map key (pick p (b ∷ removeBy O key k x) (pick q (b ∷ x) x))) ≡ has O j (map key (b ∷ x))
+        by true e q f h = has-again j (key b) (map key (removeBy O key k x)) (map key x) h
+        by false e true f h = refl
+        by false e false f h =
+            let same : key b ≡ k = O .total (key b) k e f in
+            ⊎-elim
+            (λ l.
+            let u : O .before j (key b) ≡ true = ap (O .before j) same ∙ l in
+            has-below j (map key x) (next-over key j (key b) (map key x) u (and-left _ _ r)) ∙ sym (has-stop j (key b) (map key x) u))
+            (λ l. sym (has-past j (key b) (map key x) (ap (λ (z : K). O .before z j) same ∙ l))) o
 
   -- ---- keys that rise are each there once
 

@@ -1,19 +1,19 @@
 -- Tables whose rows are in order by a key that stands in their first words: what a search, and a row put in or taken out at the place
 -- that it found, make of them. A table gives its `Keyed`, or `Queued`, once. Assumes nothing.
-use mathlib.Core.Path.{_≡_, refl, sym, ap, _∙_, subst}
-use mathlib.Core.Bool.{Bool, true, false}
-use mathlib.Core.List.{List, [], _∷_, map}
+use mathlib.Core.Path.{_≡_, sym, ap, _∙_, subst}
+use mathlib.Core.Bool.{true, false}
+use mathlib.Core.List.{List, map}
 use Prim.Native.Nat.{ℕ, _+_, _-_, _*_, _≤_, _<_}
 use native.Mathlib.Omega.{arith}
-use lib.ListN.{length, length-map}
+use lib.ListN.{length}
 use lib.Seq.{sets}
 use Rattle.words.specs.Words.{bytes, W}
 use Rattle.layout.specs.declared.rows.Found.{Found}
 use Rattle.layout.specs.declared.rows.Found.the-variants.{At, Absent}
 use Rattle.layout.specs.Code.{Code}
-use Rattle.layout.specs.Tables.{Table, Held, Becomes, Gives, rowsIn, insertAt, removeAt, opened, removed}
-use Rattle.layout.specs.TableLaws.{rows-are, held-rule, insert-held, remove-held, length-rowsIn}
-use Rattle.layout.specs.Order.{Order, place, lastPlace, find, isAt, has, rising, sorted, insertBy, pushBy, removeBy, heads}
+use Rattle.layout.specs.Tables.{Table, Held, Becomes, rowsIn, insertAt, removeAt, opened, removed}
+use Rattle.layout.specs.TableLaws.{rows-are, held-rule, insert-held, remove-held}
+use Rattle.layout.specs.Order.{Order, lastPlace, find, isAt, has, rising, sorted, insertBy, pushBy, removeBy, heads}
 use Rattle.layout.specs.Sorted.{find-at, find-absent, insert-there, insert-absent, remove-there, remove-absent, push-at, rising-insert, rising-remove, sorted-push}
 use Rattle.layout.specs.RowLaws.{heads-are, length-heads}
 
@@ -30,6 +30,14 @@ module _ {K : Type 0} (O : Order K) (k : K) (g : List ℕ → K) (w n : ℕ) (ws
 
 pub ruleset found = (found-inside, found-upto, found-some)
 
+-- and of whether the key is among those of the rows, where g reads a row's key in its first words
+module _ {K T : Type 0} (O : Order K) (k : K) (g : List ℕ → K) (c : Code T) (key : T → K) (n : ℕ) (b : List ℕ) (f : Found) (i : ℕ) (r : (ws : List ℕ) → g ws ≡ key (c .parse ws)) (e : f ≡ find O k (heads g (c .size) n (W b))) where
+  pub found-has : f ≡ At i → true ≡ has O k (map key (rowsIn c n b))
+  found-has t = ap isAt (sym t ∙ e ∙ ap (find O k) (heads-are c g key r n b))
+
+  pub found-has-not : f ≡ Absent i → false ≡ has O k (map key (rowsIn c n b))
+  found-has-not t = ap isAt (sym t ∙ e ∙ ap (find O k) (heads-are c g key r n b))
+
 -- the keys of t's rows are what g reads in their first words, and t's rule is that they rise
 pub record Keyed {K T : Type 0} (t : Table T) (O : Order K) (key : T → K) (g : List ℕ → K) : Type 0 where
   pub rule : (x : List T) → t .rule x ≡ rising O (map key x)
@@ -43,9 +51,6 @@ module _ {K T : Type 0} {t : Table T} {O : Order K} {key : T → K} {g : List �
     -- a search of the words is one of the rows
     in-rows : f ≡ find O k (map key (rowsIn (t .row) n b))
     in-rows = e ∙ ap (find O k) (heads-are (t .row) g key (q .read) n b)
-
-    pub keyed-has : (r : Bool) → r ≡ isAt f → r ≡ has O k (map key (rowsIn (t .row) n b))
-    keyed-has r h = h ∙ ap isAt in-rows
 
     in-held : (N : ℕ) (x : List T) → Held t N n b x → f ≡ find O k (map key x)
     in-held N x h = in-rows ∙ ap (λ (y : List T). find O k (map key y)) (rows-are h)

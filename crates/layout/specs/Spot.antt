@@ -2,18 +2,18 @@
 -- One law for each way to reach a part; then what a lent part `&mut area[8 * a..8 * (a + n)]` holds, and what the area holds when it is
 -- back. Assumes nothing.
 use mathlib.Core.Path.{_≡_, refl, sym, ap, _∙_}
-use mathlib.Core.Bool.{Bool, true}
-use mathlib.Core.List.{List, [], _∷_, _++_, append-assoc, append-nil}
+use mathlib.Core.Bool.{true}
+use mathlib.Core.List.{List, [], _++_, append-assoc, append-nil}
 use Prim.Native.Nat.{ℕ, suc, _+_, _*_, _-_, _≤_, _<_}
 use native.Mathlib.Omega.{arith}
 use lib.ListN.{length, take, drop, getD, set, length-append, List·getD-append}
-use lib.Seq.{sets, take-at, drop-at, set-split, length-take-le, getD-append-add, drop-append-add, drop-append-le, drop-drop}
+use lib.Seq.{sets, take-at, drop-at, set-split, length-take-le, getD-append-add, drop-append-add, drop-append-le}
 use Rattle.laws.specs.Bools.{every}
 use Rattle.words.specs.Words.{bytes}
 use Rattle.words.specs.Sets.{sets-at, part-at}
 use Rattle.words.specs.Lift.{bytes-append, length-bytes}
-use Rattle.layout.specs.Code.{Code, flat, lay, length-flat, rows}
-use Rattle.layout.specs.Tables.{Holds, Table, Held, content, Becomes}
+use Rattle.layout.specs.Code.{Code, flat, lay, length-flat}
+use Rattle.layout.specs.Tables.{Table, Held, content, Becomes}
 use Rattle.layout.specs.Rows.{flat-append, every-take}
 
 pub record Spot {T : Type 0} (whole part : T → List ℕ) (a : ℕ) : Type 0 where

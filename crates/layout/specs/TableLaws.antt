@@ -4,23 +4,22 @@ use mathlib.Core.Path.{_≡_, refl, sym, ap, ap₂, _∙_, subst}
 use mathlib.Core.Bool.{Bool, true, false, not}
 use mathlib.Core.List.{List, [], _∷_, _++_}
 use Prim.Native.Nat.{ℕ, zero, suc, _+_, _-_, _*_, _/_, _%_, _≤_, _<_}
-use native.Mathlib.Nat.{zero-mul, suc-mul, sub-zero}
+use native.Mathlib.Nat.{zero-mul, suc-mul}
 use native.Mathlib.Numerals.{add-one}
 use native.Mathlib.Omega.{arith}
-use lib.Dec.{eqb, leb}
-use lib.ListN.{length, getD, set, take, drop, length-append, length-drop, length-set, length-replicate, replicate-append-replicate, List·getD-append}
-use lib.Seq.{sets, length-sets, take-all, drop-drop, getD-drop}
-use borrow.Author.Tests.{eqb-true, eq-eqb, leb-true, le-leb, not-true, not-false}
+use lib.ListN.{length, getD, set, take, drop, length-append, length-drop, length-set, length-replicate, replicate-append-replicate}
+use lib.Seq.{sets, length-sets, take-all, drop-drop}
+use borrow.Author.Tests.{eqb-true, eq-eqb, leb-true, not-true, not-false}
 use Rattle.laws.specs.Bools.{_and_, and-left, and-right, and-both, true-and, no-and, every, every-append, every-get, every-set}
 use Rattle.laws.specs.Decides.{Decides, fails, false-true}
 use Rattle.words.specs.Words.{bytes, W, allz, Bytes}
-use Rattle.words.specs.Sets.{sets-at, part-at}
+use Rattle.words.specs.Sets.{sets-at}
 use Rattle.words.specs.Zero.{zeros-allz}
-use Rattle.words.specs.Lift.{bytes-zeros, length-bytes, length-W, part-whole, sets-whole}
-use Rattle.layout.specs.Code.{Code, zeros, flat, lay, rows, okN, parseN, length-flat, length-lay, length-parseN, Fitting, fitting, fitted}
-use Rattle.layout.specs.Tables.{Holds, Table, Held, Tabled, content, Becomes, Gives, rowsIn, insertAt, removeAt, append, opened, removed, padded}
-use Rattle.layout.specs.Contents.{holds-length, holds-W, holds-ok, holds-parse, parse-holds}
-use Rattle.layout.specs.Rows.{row-start, row-end, every-insertAt, every-removeAt, length-insertAt, length-removeAt, row-at, put-row, insert-row, remove-row, append-row, zeros-row, opened-bytes, removed-bytes}
+use Rattle.words.specs.Lift.{bytes-zeros, length-W, part-whole, sets-whole}
+use Rattle.layout.specs.Code.{Code, zeros, flat, lay, okN, parseN, length-flat, length-lay, length-parseN, Fitting, fitting, fitted}
+use Rattle.layout.specs.Tables.{Holds, Table, Held, Tabled, content, Becomes, Gives, rowsIn, insertAt, removeAt, fillFrom, append, opened, removed, padded}
+use Rattle.layout.specs.Contents.{holds-length, holds-ok, holds-parse, parse-holds}
+use Rattle.layout.specs.Rows.{row-start, row-end, every-insertAt, every-removeAt, every-fillFrom, length-insertAt, length-removeAt, length-fillFrom, row-at, fill-rows, put-row, insert-row, remove-row, append-row, zeros-row, opened-bytes, removed-bytes}
 
 -- ---- the rows that bytes say
 
@@ -157,6 +156,24 @@ module _ {T : Type 0} {t : Table T} {N n : ℕ} {b : List ℕ} {x : List T} (h :
       ∙ ap (λ (q : List ℕ). flat (t .row .enc) (removeAt i x) ++ q)
       (ap (λ (q : ℕ). zeros w ++ zeros (N - q * w)) p ∙ sym (zeros-row N (m - 1) w (omega arith)) ∙ ap (λ (q : ℕ). zeros (N - q * w)) (sym (length-removeAt i x j)))))
 
+  -- the rows from i on made zero, where zeros are the content of z
+  pub fill-held : (i : ℕ) (z : T) (b′ : List ℕ) → i ≤ n → t .row .enc z ≡ zeros w → t .row .good z ≡ true → t .rule (fillFrom i z x) ≡ true
+      → b′ ≡ sets b (8 * (i * w)) (zeros (8 * (n * w) - 8 * (i * w)))
+      → Held t N n b′ (fillFrom i z x)
+  fill-held i z b′ k ez gz r e =
+      let f = held-rows in
+      let m : ℕ = length x in
+      let j : i ≤ m = rw (f .count) k in
+      let o : m * w ≤ N = rw (f .count) (f .room) in
+      let s : i * w ≤ m * w = row-start i m w j in
+      let d : 8 * (m * w) - 8 * (i * w) ≡ 8 * (m * w - i * w) = omega arith in
+      let l : length (fillFrom i z x) ≡ m = length-fillFrom i z x j in
+      makes n (fillFrom i z x) b′ (f .room) (l ∙ f .count) (every-fillFrom (t .row .good) i x (f .each) z gz) r
+      (e ∙ ap₂ (λ (c : ℕ) (v : List ℕ). sets v (8 * (i * w)) (zeros (8 * (c * w) - 8 * (i * w)))) (sym (f .count)) (h .holds .is)
+      ∙ ap (sets (bytes (lay (t .row) N x)) (8 * (i * w))) (ap zeros d ∙ sym (bytes-zeros (m * w - i * w)))
+      ∙ sets-whole (lay (t .row) N x) (zeros (m * w - i * w)) (i * w) (omega (arith, words-long, length-replicate (m * w - i * w) zero))
+      ∙ ap bytes (fill-rows (t .row) x (f .each) (zeros (N - m * w)) i z j ez ∙ ap (λ (c : ℕ). flat (t .row .enc) (fillFrom i z x) ++ zeros (N - c * w)) (sym l)))
+
   -- all rows made zero
   pub clear-held : (b′ : List ℕ) → t .rule [] ≡ true → b′ ≡ sets b 0 (zeros (8 * (n * w))) → Held t N 0 b′ []
   clear-held b′ r e =
@@ -182,6 +199,10 @@ empty-held t N b l r z =
         is = zeros-allz b z ∙ ap zeros l ∙ sym (bytes-zeros N) ∙ ap (λ (q : ℕ). bytes (zeros q)) e;
       };
     }
+
+-- an answer that is right of the rows that the bytes say
+pub gives : {T R : Type 0} (t : Table T) (n : ℕ) (b : List ℕ) (r : R) (f : List T → R) → r ≡ f (rowsIn (t .row) n b) → Gives t n b r f
+gives t n b r f e = record { to = λ N x h. e ∙ ap f (rows-are h) }
 
 -- one move after another
 pub then : {T : Type 0} {t : Table T} {n m k : ℕ} {b c d : List ℕ} {f g : List T → List T} → Becomes t n m b c f → Becomes t m k c d g → Becomes t n k b d (λ x. g (f x))
@@ -266,6 +287,10 @@ module _ {T : Type 0} (t : Table T) (n : ℕ) (b : List ℕ) (B : Bytes b) where
     no = λ y k. false-true (sym y ∙ e″ ∙ is-ruled k);
   }
 
+  -- where the rule takes every list, the rows' own tests are the last
+  pub check-free : (p q : Bool) → p ≡ padded w′ n b → not p ≡ false → q ≡ okN (t .row) n (W b) → ((x : List T) → t .rule x ≡ true) → Decides q (Tabled t n b)
+  check-free p q e f e′ r = record { yes = λ y. tabled (sym e ∙ not-false p f) (sym e′ ∙ y) (r (rowsIn (t .row) n b)); no = λ y k. false-true (sym y ∙ e′ ∙ is-rows k) }
+
 -- what `padding` shows where it says yes
 pub padding-room : (w n : ℕ) (b : List ℕ) (p : Bool) → p ≡ padded w n b → not p ≡ false → 8 * (n * w) ≤ length b
 unfolding padded
@@ -273,7 +298,7 @@ padding-room w n b p e f =
     let l : n * w ≤ length b / 8 = leb-true _ _ (and-left _ _ (and-right _ _ (sym e ∙ not-false p f))) in
     omega arith
 
-pub ruleset checks = (check-padding, check-rows, check-rule, padding-room)
+pub ruleset checks = (check-padding, check-rows, check-rule, check-free, padding-room)
 
 -- ---- the loop over the rows' own tests: those before row i say yes
 

@@ -4,7 +4,7 @@
 use mathlib.Core.Path.{_≡_}
 use mathlib.Core.Bool.{Bool, true}
 use mathlib.Core.List.{List, [], _∷_, _++_}
-use Prim.Native.Nat.{ℕ, zero, suc, _+_, _-_, _*_, _/_, _%_}
+use Prim.Native.Nat.{ℕ, suc, _+_, _-_, _*_, _/_, _%_}
 use lib.Dec.{eqb, leb}
 use lib.ListN.{length, take, drop, replicate}
 use lib.Seq.{sets}
@@ -70,6 +70,10 @@ append a x = x ++ a ∷ []
 -- The list without element i.
 unfoldable pub removeAt : {T : Type 0} → ℕ → List T → List T
 removeAt i x = take i x ++ drop (suc i) x
+
+-- The list with z from element i on.
+unfoldable pub fillFrom : {T : Type 0} → ℕ → T → List T → List T
+fillFrom i z x = take i x ++ replicate (length x - i) z
 
 -- The rows from row i on are moved up by one: what stands in row i is as it was.
 unfoldable pub opened : ℕ → ℕ → ℕ → List ℕ → List ℕ

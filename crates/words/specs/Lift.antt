@@ -1,7 +1,7 @@
 -- From bytes to words. `bytes` (words to bytes) is the easy direction: what is said of words is carried to bytes by it, once, so that
 -- above this crate offsets are in words and nothing speaks of bytes. Assumes nothing.
-use mathlib.Core.Path.{_≡_, refl, sym, ap, ap₂, _∙_, subst}
-use mathlib.Core.Bool.{Bool, true}
+use mathlib.Core.Path.{_≡_, refl, sym, ap, ap₂, _∙_}
+use mathlib.Core.Bool.{Bool}
 use mathlib.Core.List.{List, [], _∷_, _++_, append-assoc, append-nil}
 use Prim.Native.Nat.{ℕ, zero, suc, _+_, _*_, _-_, _/_, _%_, _^_, _≤_, _<_}
 use native.Mathlib.Nat.{pow-zero, pow-suc, zero-add, suc-add}
@@ -10,7 +10,6 @@ use native.Mathlib.Omega.{arith}
 use lib.Dec.{eqb}
 use lib.ListN.{length, getD, take, drop, set, replicate, length-append, length-drop, take-append-drop}
 use lib.Seq.{sets, take-at, drop-at, drop-drop, take-suc, take-all, length-take-le, length-sets}
-use mir.Syntax.{w64}
 use borrow.Author.Tests.{eq-eqb, ne-eqb}
 use Rattle.laws.specs.Bools.{_and_, true-and, no-and}
 use Rattle.words.specs.Words.{le, bytesOf, leAt, bytes, words, W, allz, Bytes, Fit}
