@@ -56,10 +56,10 @@ puts M x b b′ e = record {
 -- ---- reading
 
 module _ {X : Type 0} (M : Marking X) (p : ℕ) {s : List ℕ} {x : X} (h : Holds (marked M p) s x) where
-  mark-read : getD (W s) 0 0 ≡ M .mark x
+  pub mark-read : getD (W s) 0 0 ≡ M .mark x
   mark-read = ap (λ (l : List ℕ). getD l 0 0) (holds-W h)
 
-  body-read : (n : ℕ) → n ≡ length (M .body x) → take (8 + n - 8) (drop 8 s) ≡ M .body x
+  pub body-read : (n : ℕ) → n ≡ length (M .body x) → take (8 + n - 8) (drop 8 s) ≡ M .body x
   unfolding paddedTo
   body-read n e =
       let t : Sound M p x = sound M p x (h .good) in

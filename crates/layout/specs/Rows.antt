@@ -35,6 +35,10 @@ module _ {A : Type 0} (f : A → Bool) (i : ℕ) (x : List A) (h : every f x ≡
   pub every-drop : every f (drop i x) ≡ true
   every-drop = and-right _ _ (sym (every-append f (take i x) (drop i x)) ∙ parts)
 
+pub every-replicate : {A : Type 0} (f : A → Bool) (n : ℕ) (a : A) → f a ≡ true → every f (replicate n a) ≡ true
+every-replicate f zero a k = refl
+every-replicate f (suc n) a k = and-both _ _ k (every-replicate f n a k)
+
 module _ {A : Type 0} (f : A → Bool) (i : ℕ) (x : List A) (h : every f x ≡ true) where
   pub every-insertAt : (a : A) → f a ≡ true → every f (insertAt i a x) ≡ true
   unfolding insertAt
@@ -44,13 +48,9 @@ module _ {A : Type 0} (f : A → Bool) (i : ℕ) (x : List A) (h : every f x ≡
   unfolding removeAt
   every-removeAt = every-append f (take i x) (drop (suc i) x) ∙ and-both _ _ (every-take f i x h) (every-drop f (suc i) x h)
 
-  every-replicate : (n : ℕ) (a : A) → f a ≡ true → every f (replicate n a) ≡ true
-  every-replicate zero a k = refl
-  every-replicate (suc n) a k = and-both _ _ k (every-replicate n a k)
-
   pub every-fillFrom : (a : A) → f a ≡ true → every f (fillFrom i a x) ≡ true
   unfolding fillFrom
-  every-fillFrom a k = every-append f (take i x) (replicate (length x - i) a) ∙ and-both _ _ (every-take f i x h) (every-replicate (length x - i) a k)
+  every-fillFrom a k = every-append f (take i x) (replicate (length x - i) a) ∙ and-both _ _ (every-take f i x h) (every-replicate f (length x - i) a k)
 
 pub length-insertAt : {A : Type 0} (i : ℕ) (a : A) (x : List A) → i ≤ length x → length (insertAt i a x) ≡ length x + 1
 unfolding insertAt
@@ -69,6 +69,13 @@ length-fillFrom i a x h = omega (arith, length-append (take i x) (replicate (len
 pub flat-append : {A : Type 0} (f : A → List ℕ) (xs ys : List A) → flat f (xs ++ ys) ≡ flat f xs ++ flat f ys
 flat-append f [] ys = refl
 flat-append f (x ∷ xs) ys = rw (flat-append f xs ys, append-assoc)
+
+-- rows whose content is zeros
+pub flat-zeros : {T : Type 0} (c : Code T) (k : ℕ) (a : T) → c .enc a ≡ zeros (c .size) → flat (c .enc) (replicate k a) ≡ zeros (k * c .size)
+flat-zeros c zero a e = ap zeros (sym (zero-mul (c .size)))
+flat-zeros c (suc k) a e =
+    let d : c .size + k * c .size ≡ suc k * c .size = omega (arith, suc-mul k (c .size)) in
+    ap₂ (λ (u v : List ℕ). u ++ v) e (flat-zeros c k a e) ∙ replicate-append-replicate (c .size) (k * c .size) zero ∙ ap zeros d
 
 module _ {T : Type 0} (c : Code T) (x : List T) (g : every (c .good) x ≡ true) where
   abbrev w : ℕ
@@ -150,11 +157,6 @@ module _ {T : Type 0} (c : Code T) (x : List T) (g : every (c .good) x ≡ true)
       ∙ sym (ap (λ (l : List ℕ). l ++ (zeros w ++ z)) (flat-append (c .enc) (take i x) (drop (suc i) x)) ∙ append-assoc p q (zeros w ++ z))
 
   -- the rows from i on made zero, where zeros are the content of a
-  flat-zeros : (k : ℕ) (a : T) → c .enc a ≡ zeros w → flat (c .enc) (replicate k a) ≡ zeros (k * w)
-  flat-zeros zero a e = ap zeros (sym (zero-mul w))
-  flat-zeros (suc k) a e =
-      ap₂ (λ (u v : List ℕ). u ++ v) e (flat-zeros k a e) ∙ replicate-append-replicate w (k * w) zero ∙ ap zeros (let d : w + k * w ≡ suc k * w = omega (arith, suc-mul k w) in d)
-
   pub fill-rows : (z : List ℕ) (i : ℕ) (a : T) → i ≤ length x → c .enc a ≡ zeros w → sets (flat (c .enc) x ++ z) (i * w) (zeros (length x * w - i * w)) ≡ flat (c .enc) (fillFrom i a x) ++ z
   unfolding fillFrom
   fill-rows z i a h e =
@@ -164,7 +166,7 @@ module _ {T : Type 0} (c : Code T) (x : List T) (g : every (c .good) x ≡ true)
       let r : (length x - i) * w ≡ length x * w - i * w = ap (λ (k : ℕ). k * w) (sym (length-drop i x)) ∙ sym (length-flat c (drop i x) (every-drop (c .good) i x g)) ∙ lq in
       ap (λ (l : List ℕ). sets l (i * w) (zeros (length x * w - i * w))) (cut-at z i)
       ∙ sets-at p (flat (c .enc) (drop i x)) z (zeros (length x * w - i * w)) (i * w) (before i h) (length-replicate (length x * w - i * w) zero ∙ sym lq)
-      ∙ ap (λ (l : List ℕ). p ++ (l ++ z)) (sym (flat-zeros (length x - i) a e ∙ ap zeros r))
+      ∙ ap (λ (l : List ℕ). p ++ (l ++ z)) (sym (flat-zeros c (length x - i) a e ∙ ap zeros r))
       ∙ sym (ap (λ (l : List ℕ). l ++ z) (flat-append (c .enc) (take i x) y) ∙ append-assoc p (flat (c .enc) y) z)
 
   -- a row after the last

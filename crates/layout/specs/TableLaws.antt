@@ -7,8 +7,8 @@ use Prim.Native.Nat.{ℕ, zero, suc, _+_, _-_, _*_, _/_, _%_, _≤_, _<_}
 use native.Mathlib.Nat.{zero-mul, suc-mul}
 use native.Mathlib.Numerals.{add-one}
 use native.Mathlib.Omega.{arith}
-use lib.ListN.{length, getD, set, take, drop, length-append, length-drop, length-set, length-replicate, replicate-append-replicate}
-use lib.Seq.{sets, length-sets, take-all, drop-drop}
+use lib.ListN.{length, getD, set, take, drop, replicate, length-append, length-drop, length-set, length-replicate, replicate-append-replicate}
+use lib.Seq.{sets, length-sets, take-all, drop-drop, getD-drop, getD-take}
 use borrow.Author.Tests.{eqb-true, eq-eqb, leb-true, not-true, not-false}
 use Rattle.laws.specs.Bools.{_and_, and-left, and-right, and-both, true-and, no-and, every, every-append, every-get, every-set}
 use Rattle.laws.specs.Decides.{Decides, fails, false-true}
@@ -18,8 +18,8 @@ use Rattle.words.specs.Zero.{zeros-allz}
 use Rattle.words.specs.Lift.{bytes-zeros, length-W, part-whole, sets-whole}
 use Rattle.layout.specs.Code.{Code, zeros, flat, lay, okN, parseN, length-flat, length-lay, length-parseN, Fitting, fitting, fitted}
 use Rattle.layout.specs.Tables.{Holds, Table, Held, Tabled, content, Becomes, Gives, rowsIn, insertAt, removeAt, fillFrom, append, opened, removed, padded}
-use Rattle.layout.specs.Contents.{holds-length, holds-ok, holds-parse, parse-holds}
-use Rattle.layout.specs.Rows.{row-start, row-end, every-insertAt, every-removeAt, every-fillFrom, length-insertAt, length-removeAt, length-fillFrom, row-at, fill-rows, put-row, insert-row, remove-row, append-row, zeros-row, opened-bytes, removed-bytes}
+use Rattle.layout.specs.Contents.{holds-length, holds-W, holds-ok, holds-parse, parse-holds}
+use Rattle.layout.specs.Rows.{row-start, row-end, every-replicate, flat-zeros, every-insertAt, every-removeAt, every-fillFrom, length-insertAt, length-removeAt, length-fillFrom, row-at, fill-rows, put-row, insert-row, remove-row, append-row, zeros-row, opened-bytes, removed-bytes}
 
 -- ---- the rows that bytes say
 
@@ -81,6 +81,13 @@ module _ {T : Type 0} {t : Table T} {N n : ℕ} {b : List ℕ} {x : List T} (h :
             ∙ part-whole (lay (t .row) N x) (i * w) w (omega (arith, words-long, row-end i n w k, f .room))
             ∙ ap bytes (row-at (t .row) x (f .each) (zeros (N - length x * w)) i d (rw (f .count) k));
       }
+
+  -- word j of row i
+  pub row-word : (i j : ℕ) (d : T) → i < n → j < w → getD (W b) (i * w + j) 0 ≡ getD (t .row .enc (getD x i d)) j 0
+  row-word i j d k l =
+      let f = held-rows in
+      sym (getD-drop (i * w) (W b) j 0) ∙ sym (getD-take w (drop (i * w) (W b)) j 0 l) ∙ ap (λ (v : List ℕ). getD (take w (drop (i * w) v)) j 0) (holds-W (h .holds))
+      ∙ ap (λ (v : List ℕ). getD v j 0) (row-at (t .row) x (f .each) (zeros (N - length x * w)) i d (rw (f .count) k))
 
   -- row i replaced by a
   pub put-held : (i : ℕ) (a : T) (b′ : List ℕ) → i < n → t .row .good a ≡ true → t .rule (set x i a) ≡ true → b′ ≡ sets b (8 * (i * w)) (bytes (t .row .enc a)) → Held t N n b′ (set x i a)
@@ -197,6 +204,21 @@ empty-held t N b l r z =
       holds = record {
         good = and-both _ _ (fitted (t .row) N 0 [] (record { room = omega (arith, zero-mul (t .row .size)); count = refl; each = refl })) r;
         is = zeros-allz b z ∙ ap zeros l ∙ sym (bytes-zeros N) ∙ ap (λ (q : ℕ). bytes (zeros q)) e;
+      };
+    }
+
+-- bytes that are all zero are n rows z, where zeros are the content of z
+pub blank-held : {T : Type 0} (t : Table T) (N n : ℕ) (z : T) (b : List ℕ) → length b ≡ 8 * N → n * t .row .size ≤ N → t .row .enc z ≡ zeros (t .row .size) → t .row .good z ≡ true
+    → t .rule (replicate n z) ≡ true → b ≡ zeros (length b)
+    → Held t N n b (replicate n z)
+blank-held t N n z b l h e g r o =
+    let k : ℕ = n * t .row .size in
+    let m : k + (N - k) ≡ N = omega arith in
+    record {
+      holds = record {
+        good = and-both _ _ (fitted (t .row) N n (replicate n z) (record { room = h; count = length-replicate n z; each = every-replicate (t .row .good) n z g })) r;
+        is = o ∙ ap zeros l ∙ sym (bytes-zeros N)
+            ∙ ap bytes (ap zeros (sym m) ∙ sym (replicate-append-replicate k (N - k) zero) ∙ ap₂ (λ (u : List ℕ) (c : ℕ). u ++ zeros (N - c * t .row .size)) (sym (flat-zeros (t .row) n z e)) (sym (length-replicate n z)));
       };
     }
 

@@ -1,0 +1,16 @@
+-- Made by tools/uniform from proofs.txt, not by hand: 150de402cba7aab4
+use Rattle.layout.specs.TableLaws.{checks}
+use borrow.Author.Needs.{needs}
+use Rattle.log.proofs.check.Statement.{statement}
+use Rattle.log.proofs.check.Tie as tie
+
+pub check-spec : {M : Type 1} → statement M
+check-spec =
+    tie.close
+    (tie.spec
+    (λ c. search (checks, needs))  -- add-w
+    (λ c. search (checks, needs))  -- add-w-2
+    (λ c κs. search (checks, needs))  -- padding-requires
+    (λ c. search (checks, needs))  -- returns
+    (λ c κs. search (checks, needs))  -- check-places-requires
+    (λ c. search (checks, needs)))  -- returns-2

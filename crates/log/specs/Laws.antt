@@ -1,0 +1,630 @@
+-- What the proofs of lib.rt cite. Assumes nothing.
+use mathlib.Core.Path.{_≡_, refl, sym, ap, ap₂, _∙_, subst}
+use mathlib.Core.Bool.{Bool, true, false, not}
+use mathlib.Core.List.{List, [], _∷_, _++_, append-nil}
+use mathlib.Core.Option.{Option, none, some}
+use Prim.Native.Nat.{ℕ, zero, suc, _+_, _-_, _*_, _^_, _≤_, _<_}
+use native.Mathlib.Nat.{add-zero, zero-mul}
+use native.Mathlib.Numerals.{add-one}
+use native.Mathlib.Omega.{arith}
+use lib.Dec.{eqb, leb}
+use lib.ListN.{length, getD, set, take, drop, replicate, length-append, length-drop, length-replicate, replicate-append-replicate, drop-of-length-le}
+use lib.Seq.{sets, getD-at, take-take, take-all, take-at, take-suc, drop-cons, getD-drop, getD-take, length-take-le, drop-length}
+use mir.Syntax.{w64}
+use mir.Val.{Fits}
+use borrow.Author.Tests.{eq-eqb, ne-eqb, eqb-true, eqb-false, lt-ltb, leb-true, leb-false}
+use Rattle.laws.specs.Bools.{pick, cases, _and_, and-left, and-right, and-both, and-true}
+use Rattle.laws.specs.Lists.{isSome, sameList}
+use Rattle.laws.specs.Decides.{Decides, false-true}
+use Rattle.units.specs.Types.{Payload, noop, command, Entry, samePayload}
+use Rattle.units.specs.declared.Term.{Term}
+use Rattle.words.specs.Words.{bytes, bytesOf, W, Bytes, allz}
+use Rattle.words.specs.Sets.{sets-at, sets-append, part-part}
+use Rattle.words.specs.Lift.{bytes-append, bytes-one, length-bytes, length-W, W-fit, W-whole, W-part, allz-bytes}
+use Rattle.layout.specs.Code.{Code, zeros, okN, optional}
+use Rattle.layout.specs.Tables.{Holds, Held, Becomes, Gives, rowsIn, fillFrom}
+use Rattle.layout.specs.Contents.{decides-same, ok-prefix}
+use Rattle.layout.specs.Rows.{row-end}
+use Rattle.layout.specs.TableLaws.{rows-are, row-word, row-held, row-parsed, length-rowsIn, fill-held, blank-held, puts, rowed-start, rowed-done, held-rows}
+use Rattle.layout.specs.Marked.{wordsFor, Sound, sound, sounds}
+use Rattle.layout.specs.Payload.{payload, payloadMarking, markOf, bodyOf}
+use Rattle.layout.specs.MarkedCalls.{Puts}
+use Rattle.layout.specs.MarkedLaws.{mark-read, body-read}
+use Rattle.layout.specs.Parts.{lentRow, backRow, length-lentRow, row-back, lent-fine, lent-fails}
+use Rattle.log.specs.declared.Place.{Place}
+use Rattle.log.specs.declared.Place.the-variants.{None, Noop, Command}
+use Rattle.log.specs.Log.{Log, emptyLog, entryAt, putAt, truncateAt, count, lastIndex, gaps, removedBy}
+use Rattle.log.specs.Places.{one-more, entryCode, place, places, kindIn, placeOf, placeAt, said, lengthOf, presence, bytesIn, ReadsEntry, Truncates, Clears, Compares, isPayload, holdsAt, samePayloads, putEntry}
+
+-- ---- what a row's words say
+
+pub said-none : (m : ℕ) (t : Term) → m < 1 → None ≡ said m t
+unfolding said
+said-none m t h = sym (ap (λ (b : Bool). pick b None (pick (eqb m 1) (Noop t) (Command t (m - 2)))) (eq-eqb m 0 (omega arith)))
+
+pub said-noop : (m : ℕ) (t : Term) → 1 ≤ m → m < 2 → Noop t ≡ said m t
+unfolding said
+said-noop m t h k =
+    sym (ap₂ (λ (b c : Bool). pick b None (pick c (Noop t) (Command t (m - 2)))) (ne-eqb m 0 (omega arith)) (eq-eqb m 1 (omega arith)))
+
+pub said-command : (m : ℕ) (t : Term) → 1 ≤ m → 2 ≤ m → Command t (m - 2) ≡ said m t
+unfolding said
+said-command m t h k =
+    sym (ap₂ (λ (b c : Bool). pick b None (pick c (Noop t) (Command t (m - 2)))) (ne-eqb m 0 (omega arith)) (ne-eqb m 1 (omega arith)))
+
+pub ruleset saying = (said-none, said-noop, said-command)
+
+pub presence-none : (m : ℕ) → m < 1 → 0 ≡ presence m
+unfolding presence
+presence-none m h = sym (ap (λ (b : Bool). pick b 0 1) (eq-eqb m 0 (omega arith)))
+
+pub presence-some : (m : ℕ) → 1 ≤ m → 1 ≡ presence m
+unfolding presence
+presence-some m h = sym (ap (λ (b : Bool). pick b 0 1) (ne-eqb m 0 (omega arith)))
+
+pub ruleset presences = (presence-none, presence-some)
+
+-- the first word of a place and its last
+abbrev pub markIn : Option Entry → ℕ
+markIn none = 0
+markIn (some e) = markOf (e .payload)
+
+first-zero : (n : ℕ) → getD (zeros n) 0 0 ≡ 0
+first-zero zero = refl
+first-zero (suc n) = refl
+
+first-word : (p : ℕ) (o : Option Entry) → getD (place p .enc o) 0 0 ≡ markIn o
+first-word p none = first-zero (2 + wordsFor p)
+first-word p (some e) = refl
+
+said-entry : (m : ℕ) (t : ℕ) (e : Entry) → m ≡ markOf (e .payload) → t ≡ e .term .0 → said m (record { 0 = t }) ≡ placeOf (some e)
+said-entry m t e a b = by (e .payload) a
+  where
+    by : (y : Payload) → m ≡ markOf y → said m (record { 0 = t }) ≡ placeOf (some (record { term = e .term; payload = y }))
+    by noop a = sym (said-noop m (record { 0 = t }) (omega arith) (omega arith)) ∙ ap (λ (u : ℕ). Noop (record { 0 = u })) b
+    by (command bs) a =
+        let l : m - 2 ≡ length bs = omega arith in
+        sym (said-command m (record { 0 = t }) (omega arith) (omega arith)) ∙ ap₂ (λ (u k : ℕ). Command (record { 0 = u }) k) b l
+
+-- ---- indexes
+
+entry-place : (x : Log) (i : ℕ) → 1 ≤ i → entryAt x i ≡ getD x (i - 1) none
+unfolding entryAt
+entry-place x zero h = absurd (omega arith)
+entry-place x (suc i) h = ap (λ (k : ℕ). getD x k none) (let e : i ≡ suc i - 1 = omega arith in e)
+
+get-past : {A : Type 0} (x : List A) (i : ℕ) (d : A) → length x ≤ i → getD x i d ≡ d
+get-past [] i d h = refl
+get-past (a ∷ x) zero d h = absurd (omega arith)
+get-past (a ∷ x) (suc i) d h = get-past x i d (omega arith)
+
+none-at : (x : Log) (n i : ℕ) → length x ≡ n → n < i → entryAt x i ≡ none
+none-at x n i l h = entry-place x i (omega arith) ∙ get-past x (i - 1) none (omega arith)
+
+-- ---- the payload and the term of a place
+
+abbrev pub payloadIn : Option Entry → Option Payload
+payloadIn none = none
+payloadIn (some e) = some (e .payload)
+
+payload-size : (k : ℕ) → 0 < 1 + k
+payload-size k = omega arith
+
+payload-marked : (p : ℕ) (y : Payload) (r : List ℕ) → payload p .good y ≡ true → 0 < getD (payload p .enc y ++ r) 0 0
+payload-marked p noop r h = omega arith
+payload-marked p (command bs) r h = omega arith
+
+abbrev payloadCode : ℕ → Code (Option Payload)
+payloadCode p = optional (payload p) (payload-size (wordsFor p)) (payload-marked p)
+
+abbrev lastIn : Option Entry → List ℕ
+lastIn none = 0 ∷ []
+lastIn (some e) = e .term .0 ∷ []
+
+place-parts : (p : ℕ) (o : Option Entry) → place p .enc o ≡ payloadCode p .enc (payloadIn o) ++ lastIn o
+place-parts p none =
+    let e : 2 + wordsFor p ≡ 1 + wordsFor p + 1 = omega arith in
+    ap zeros e ∙ sym (replicate-append-replicate (1 + wordsFor p) 1 zero)
+place-parts p (some e) = refl
+
+payload-good : (p : ℕ) (o : Option Entry) → place p .good o ≡ true → payloadCode p .good (payloadIn o) ≡ true
+payload-good p none h = refl
+payload-good p (some e) h = and-left _ _ h
+
+last-word : (p : ℕ) (e : Entry) → entryCode p .good e ≡ true → getD (entryCode p .enc e) (1 + wordsFor p) 0 ≡ e .term .0
+last-word p e h = getD-at (payload p .enc (e .payload)) (e .term .0) [] 0 (1 + wordsFor p) (payload p .size-enc (e .payload) (and-left _ _ h))
+
+module _ (p n : ℕ) {N : ℕ} {s : List ℕ} {x : Log} (h : Held (places p) N n s x) (i at : ℕ) (k : i < n) (e : at ≡ i * (2 + wordsFor p)) where
+  abbrev here : Option Entry
+  here = getD x i none
+
+  mark-here : getD (W s) at 0 ≡ markIn here
+  mark-here =
+      let a : at ≡ i * (2 + wordsFor p) + 0 = omega arith in
+      ap (λ (j : ℕ). getD (W s) j 0) a ∙ row-word h i 0 none k (omega arith) ∙ first-word p here
+
+  term-here : (d : Entry) → here ≡ some d → getD (W s) (at + (2 + wordsFor p) - 1) 0 ≡ d .term .0
+  term-here d q =
+      let a : at + (2 + wordsFor p) - 1 ≡ i * (2 + wordsFor p) + (1 + wordsFor p) = omega arith in
+      ap (λ (j : ℕ). getD (W s) j 0) a ∙ row-word h i (1 + wordsFor p) none k (omega arith) ∙ ap (λ (o : Option Entry). getD (place p .enc o) (1 + wordsFor p) 0) q
+      ∙ last-word p d (ap (place p .good) (sym q) ∙ row-held h i none k .good)
+
+  -- the words of the payload alone
+  payload-here : Holds (payloadCode p) (lentRow at (1 + wordsFor p) s) (payloadIn here)
+  payload-here =
+      let row : List ℕ = take (8 * (2 + wordsFor p)) (drop (8 * at) s) in
+      let g : payloadCode p .good (payloadIn here) ≡ true = payload-good p here (row-held h i none k .good) in
+      let l : length (payloadCode p .enc (payloadIn here)) ≡ 1 + wordsFor p = payloadCode p .size-enc (payloadIn here) g in
+      let c : 8 * (at + (1 + wordsFor p)) - 8 * at ≡ 8 * (1 + wordsFor p) = omega arith in
+      let r : row ≡ bytes (place p .enc here) = ap (λ (j : ℕ). take (8 * (2 + wordsFor p)) (drop (8 * j) s)) e ∙ row-held h i none k .is in
+      record {
+        good = g;
+        is = ap (λ (j : ℕ). take j (drop (8 * at) s)) c ∙ sym (take-take (8 * (1 + wordsFor p)) (8 * (2 + wordsFor p)) (drop (8 * at) s) (omega arith))
+            ∙ ap (take (8 * (1 + wordsFor p))) (r ∙ ap bytes (place-parts p here) ∙ bytes-append (payloadCode p .enc (payloadIn here)) (lastIn here))
+            ∙ take-at (bytes (payloadCode p .enc (payloadIn here))) (bytes (lastIn here)) (8 * (1 + wordsFor p)) (length-bytes (payloadCode p .enc (payloadIn here)) ∙ ap (λ (j : ℕ). 8 * j) l);
+      }
+
+  -- the bytes of a command
+  body-here : (d : Entry) → here ≡ some d → (m : ℕ) → m ≡ length (bodyOf (d .payload)) → m ≤ p → take (8 * (at + 1) + m - 8 * (at + 1)) (drop (8 * (at + 1)) s) ≡ bodyOf (d .payload)
+  body-here d q m l b =
+      let o : Holds (payloadCode p) (lentRow at (1 + wordsFor p) s) (some (d .payload)) = subst (λ (y : Option Entry). Holds (payloadCode p) (lentRow at (1 + wordsFor p) s) (payloadIn y)) q payload-here in
+      let f : Holds (payload p) (lentRow at (1 + wordsFor p) s) (d .payload) = record { good = o .good; is = o .is } in
+      let c : 8 * (at + 1) + m - 8 * (at + 1) ≡ 8 + m - 8 = omega arith in
+      let a : 8 * (at + 1) ≡ 8 * at + 8 = omega arith in
+      ap₂ (λ (u v : ℕ). take u (drop v s)) c a ∙ sym (part-part s (8 * at) (8 * (at + (1 + wordsFor p)) - 8 * at) 8 (8 + m - 8) (omega arith)) ∙ body-read payloadMarking p f m l
+
+-- ---- entry
+
+pub at-zero : (p n i : ℕ) (b : List ℕ) → i < 1 → Gives (places p) n b None (placeAt i)
+unfolding placeAt entryAt
+at-zero p n zero b h = record { to = λ N x k. refl }
+at-zero p n (suc i) b h = absurd (omega arith)
+
+pub at-past : (p n i : ℕ) (b : List ℕ) → n < i → Gives (places p) n b None (placeAt i)
+unfolding placeAt
+at-past p n i b h = record { to = λ N x k. sym (ap placeOf (none-at x n i (held-rows k .count) h)) }
+
+pub at-place : (p n i at m t : ℕ) (b : List ℕ) (r : Place) → 1 ≤ i → i ≤ n → at ≡ (i - 1) * (2 + wordsFor p) → m ≡ getD (W b) at 0 → t ≡ getD (W b) (at + (2 + wordsFor p) - 1) 0
+    → r ≡ said m (record { 0 = t })
+    → Gives (places p) n b r (placeAt i)
+unfolding placeAt
+at-place p n i at m t b r lo hi e em et er = record { to = λ N x h. er ∙ by h (getD x (i - 1) none) refl ∙ ap placeOf (sym (entry-place x i lo)) }
+  where
+    by : {N : ℕ} {x : Log} → Held (places p) N n b x → (o : Option Entry) → getD x (i - 1) none ≡ o → said m (record { 0 = t }) ≡ placeOf o
+    by h none q =
+        let z : m ≡ 0 = em ∙ mark-here p n h (i - 1) at (omega arith) e ∙ ap markIn q in
+        sym (said-none m (record { 0 = t }) (omega arith))
+    by h (some d) q =
+        said-entry m t d (em ∙ mark-here p n h (i - 1) at (omega arith) e ∙ ap markIn q) (et ∙ term-here p n h (i - 1) at (omega arith) e d q)
+
+pub ruleset entries = (at-zero, at-past, at-place)
+
+-- ---- read_entry
+
+command-most : (p : ℕ) (o : Option Entry) → place p .good o ≡ true → lengthOf (placeOf o) ≤ p
+command-most p none h = omega arith
+command-most p (some e) h = by (e .payload) (sound payloadMarking p (e .payload) (and-left _ _ h))
+  where
+    by : (y : Payload) → Sound payloadMarking p y → lengthOf (kindIn (e .term) y) ≤ p
+    by noop s = omega arith
+    by (command bs) s = s .short
+
+length-bytesIn : (o : Option Entry) → lengthOf (placeOf o) ≡ length (bytesIn o)
+length-bytesIn none = refl
+length-bytesIn (some e) = by (e .payload)
+  where
+    by : (y : Payload) → lengthOf (kindIn (e .term) y) ≡ length (bodyOf y)
+    by noop = refl
+    by (command bs) = refl
+
+module _ (p n i : ℕ) (s b : List ℕ) where
+  pub read-zero : i < 1 → ReadsEntry p n i None s b b
+  unfolding entryAt
+  read-zero h = record { place = at-zero p n i s h .to; copied = λ N x k. ap (λ (o : Option Entry). sets b 0 (bytesIn o)) (sym (none-zero x i h)) }
+    where
+      none-zero : (x : Log) (i : ℕ) → i < 1 → entryAt x i ≡ none
+      none-zero x zero h = refl
+      none-zero x (suc i) h = absurd (omega arith)
+
+  pub read-past : n < i → ReadsEntry p n i None s b b
+  read-past h = record { place = at-past p n i s h .to; copied = λ N x k. ap (λ (o : Option Entry). sets b 0 (bytesIn o)) (sym (none-at x n i (held-rows k .count) h)) }
+
+  module _ (lo : 1 ≤ i) (hi : i ≤ n) (at : ℕ) (e : at ≡ (i - 1) * (2 + wordsFor p)) (r : Place) (g : Gives (places p) n s r (placeAt i)) (m : ℕ) (q : m ≡ lengthOf r) where
+    is-length : {N : ℕ} {x : Log} → Held (places p) N n s x → m ≡ lengthOf (placeOf (getD x (i - 1) none))
+    unfolding placeAt
+    is-length {N} {x} h = q ∙ ap lengthOf (g .to N x h) ∙ ap (λ (o : Option Entry). lengthOf (placeOf o)) (entry-place x i lo)
+
+    never : {N : ℕ} {x : Log} → Held (places p) N n s x → p < m → ⊥
+    never {N} {x} h l = omega (arith, is-length h, command-most p (getD x (i - 1) none) (row-held h (i - 1) none (omega arith) .good))
+
+    pub read-long : p < m → ReadsEntry p n i None s b b
+    read-long l = record { place = λ N x h. absurd (never h l); copied = λ N x h. absurd (never h l) }
+
+    pub read-here : m ≤ p → (b′ : List ℕ) → b′ ≡ sets b 0 (take (8 * (at + 1) + m - 8 * (at + 1)) (drop (8 * (at + 1)) s)) → ReadsEntry p n i r s b b′
+    read-here l b′ c = record {
+      place = g .to;
+      copied = λ N x h. c ∙ ap (sets b 0) (by h (getD x (i - 1) none) refl ∙ ap bytesIn (sym (entry-place x i lo)));
+    }
+      where
+        by : {N : ℕ} {x : Log} → Held (places p) N n s x → (o : Option Entry) → getD x (i - 1) none ≡ o → take (8 * (at + 1) + m - 8 * (at + 1)) (drop (8 * (at + 1)) s) ≡ bytesIn o
+        by h none o =
+            let z : m ≡ 0 = is-length h ∙ ap (λ (y : Option Entry). lengthOf (placeOf y)) o in
+            let y : 8 * (at + 1) + m - 8 * (at + 1) ≡ 0 = omega arith in
+            ap (λ (k : ℕ). take k (drop (8 * (at + 1)) s)) y
+        by h (some d) o =
+            body-here p n h (i - 1) at (omega arith) e d o m (is-length h ∙ ap (λ (y : Option Entry). lengthOf (placeOf y)) o ∙ length-bytesIn (some d)) l
+
+pub ruleset reading = (read-zero, read-past, read-long, read-here)
+
+-- ---- the last index of a list of places
+
+last-some : (y : Log) (o : Option Entry) → isSome o ≡ true → lastIndex (y ++ (o ∷ [])) ≡ suc (length y)
+unfolding lastIndex
+last-some [] o h = ap (λ (b : Bool). pick b 1 0) h
+last-some (a ∷ y) o h =
+    ap (λ (j : ℕ). pick (eqb j 0) (pick (isSome a) 1 0) (suc j)) (last-some y o h) ∙ ap (λ (b : Bool). pick b (pick (isSome a) 1 0) (suc (suc (length y)))) (ne-eqb (suc (length y)) 0 (omega arith))
+
+last-none : (y : Log) (o : Option Entry) → isSome o ≡ false → lastIndex (y ++ (o ∷ [])) ≡ lastIndex y
+unfolding lastIndex
+last-none [] o h = ap (λ (b : Bool). pick b 1 0) h
+last-none (a ∷ y) o h = ap (λ (j : ℕ). pick (eqb j 0) (pick (isSome a) 1 0) (suc j)) (last-none y o h)
+
+count-last : (x : Log) → count x ≤ lastIndex x
+unfolding count lastIndex
+count-last [] = omega arith
+count-last (a ∷ x) = by (isSome a) (eqb (lastIndex x) 0) refl (count-last x)
+  where
+    by : (t u : Bool) → eqb (lastIndex x) 0 ≡ u → count x ≤ lastIndex x → pick t 1 0 + count x ≤ pick u (pick t 1 0) (suc (lastIndex x))
+    by true true e h = omega (arith, eqb-true (lastIndex x) 0 e)
+    by false true e h = omega (arith, eqb-true (lastIndex x) 0 e)
+    by true false e h = omega arith
+    by false false e h = omega arith
+
+-- ---- counting
+
+module _ (p n : ℕ) (s : List ℕ) where
+  abbrev log : Log
+  log = rowsIn (place p) n s
+
+  log-long : length log ≡ n
+  log-long = length-rowsIn (place p) n s
+
+  -- a row's first word says whether an entry is there
+  there : (i at m : ℕ) → i < n → at ≡ i * (2 + wordsFor p) → m ≡ getD (W s) at 0 → isSome (getD log i none) ≡ not (eqb m 0)
+  there i at m k e q =
+      ap isSome (row-parsed (place p) n s i none k)
+      ∙ by (eqb (getD (drop (i * (2 + wordsFor p)) (W s)) 0 0) 0)
+      ∙ ap (λ (j : ℕ). not (eqb j 0)) (getD-drop (i * (2 + wordsFor p)) (W s) 0 0 ∙ ap (λ (j : ℕ). getD (W s) j 0) (add-zero (i * (2 + wordsFor p)) ∙ sym e) ∙ sym q)
+    where
+      by : (b : Bool) → isSome (pick b none (some (entryCode p .parse (drop (i * (2 + wordsFor p)) (W s))))) ≡ not b
+      by true = refl
+      by false = refl
+
+  -- r entries from place `from` up to place i
+  pub record Counting (from r i : ℕ) : Type 0 where
+    pub is : count (drop from log) ≡ r + count (drop i log)
+    pub upto : i ≤ n
+    pub most : r + from ≤ i
+
+  pub counting-start : (from : ℕ) → from ≤ n → Counting from 0 from
+  counting-start from h = record { is = omega arith; upto = h; most = omega arith }
+
+  pub counting-turn : (from r i at m d : ℕ) → Counting from r i → i < n → at ≡ i * (2 + wordsFor p) → m ≡ getD (W s) at 0 → d ≡ presence m → d ≤ 1 → Counting from (r + d) (i + 1)
+  unfolding presence count
+  counting-turn from r i at m d c k e q f l =
+      let v : pick (isSome (getD log i none)) 1 0 ≡ d = ap (λ (b : Bool). pick b 1 0) (there i at m k e q) ∙ by (eqb m 0) ∙ sym f in
+      let a : count (drop i log) ≡ d + count (drop (i + 1) log) =
+      ap count (drop-cons log i none (omega (arith, log-long))) ∙ ap₂ (λ (j o : ℕ). j + count (drop o log)) v (sym (add-one i)) in
+      record { is = omega (arith, c .is); upto = omega arith; most = omega (arith, c .most) }
+    where
+      by : (b : Bool) → _≡_ {A = ℕ} (pick (not b) 1 0) (pick b 0 1)
+      by true = refl
+      by false = refl
+
+  pub counting-done : (from r i : ℕ) → Counting from r i → n ≤ i → r ≡ count (drop from log)
+  unfolding count
+  counting-done from r i c h =
+      let z : count (drop i log) ≡ 0 = ap count (drop-of-length-le log {i = i} (omega (arith, log-long))) in
+      omega (arith, c .is)
+
+  -- no entry from place i on
+  pub record Seeking (i : ℕ) : Type 0 where
+    pub is : lastIndex log ≡ lastIndex (take i log)
+    pub upto : i ≤ n
+
+  pub seeking-start : Seeking n
+  seeking-start = record { is = ap lastIndex (sym (take-all n log (omega (arith, log-long)))); upto = omega arith }
+
+  module _ (i at m : ℕ) (c : Seeking i) (k : 0 < i) (e : at ≡ (i - 1) * (2 + wordsFor p)) (q : m ≡ getD (W s) at 0) where
+    split : take i log ≡ take (i - 1) log ++ (getD log (i - 1) none ∷ [])
+    split =
+        let a : i ≡ suc (i - 1) = omega arith in
+        ap (λ (j : ℕ). take j log) a ∙ take-suc log (i - 1) none (omega (arith, log-long, c .upto))
+
+    pub seeking-found : 0 < m → i ≡ lastIndex log
+    seeking-found l =
+        let f : length (take (i - 1) log) ≡ i - 1 = length-take-le (i - 1) log (omega (arith, log-long, c .upto)) in
+        let t : isSome (getD log (i - 1) none) ≡ true = there (i - 1) at m (omega (arith, c .upto)) e q ∙ ap not (ne-eqb m 0 (omega arith)) in
+        let a : i ≡ suc (length (take (i - 1) log)) = omega arith in
+        a ∙ sym (c .is ∙ ap lastIndex split ∙ last-some (take (i - 1) log) (getD log (i - 1) none) t)
+
+    pub seeking-turn : m ≤ 0 → Seeking (i - 1)
+    seeking-turn l =
+        let t : isSome (getD log (i - 1) none) ≡ false = there (i - 1) at m (omega (arith, c .upto)) e q ∙ ap not (eq-eqb m 0 (omega arith)) in
+        record { is = c .is ∙ ap lastIndex split ∙ last-none (take (i - 1) log) (getD log (i - 1) none) t; upto = omega (arith, c .upto) }
+
+  pub seeking-done : (i : ℕ) → Seeking i → i ≤ 0 → 0 ≡ lastIndex log
+  unfolding lastIndex
+  seeking-done i c h = sym (c .is ∙ ap (λ (j : ℕ). lastIndex (take j log)) (let z : i ≡ 0 = omega arith in z))
+
+  pub gap-fits : (a b : ℕ) → a ≡ lastIndex log → b ≡ count log → b ≤ a
+  gap-fits a b e f = omega (arith, count-last log)
+
+  pub gap-is : (a b : ℕ) → a ≡ lastIndex log → b ≡ count log → a - b ≡ gaps log
+  unfolding gaps
+  gap-is a b e f = ap₂ (λ (u v : ℕ). u - v) e f
+
+pub ruleset counts = (counting-start, counting-turn, counting-done)
+
+pub ruleset seeks = (seeking-start, seeking-found, seeking-turn, seeking-done)
+
+pub ruleset gapped = (gap-fits, gap-is)
+
+-- ---- put
+
+put-place : (x : Log) (i : ℕ) (e : Entry) → 1 ≤ i → set x (i - 1) (some e) ≡ putAt x i e
+unfolding putAt
+put-place x zero e h = absurd (omega arith)
+put-place x (suc i) e h = ap (λ (k : ℕ). set x k (some e)) (let q : suc i - 1 ≡ i = omega arith in q)
+
+module _ (p n i at : ℕ) (term : Term) (b ys b′ : List ℕ) (lo : 1 ≤ i) (hi : i ≤ n) (room : 8 * (n * (2 + wordsFor p)) ≤ length b) (f : Fits w64 (term .0)) (a : at ≡ (i - 1) * (1 + wordsFor p + 1))
+  where
+    put-row : (y : Payload) → Sound payloadMarking p y → Puts payloadMarking y (lentRow at (1 + wordsFor p) b) ys
+        → b′ ≡ sets (backRow at (1 + wordsFor p) b ys) (8 * (at + (1 + wordsFor p))) (bytesOf 8 (term .0))
+        → Becomes (places p) n n b b′ (putEntry i (record { term = term; payload = y }))
+    unfolding putEntry
+    put-row y s h e =
+        let d : Entry = record { term = term; payload = y } in
+        let at-is : at ≡ (i - 1) * (2 + wordsFor p) = a ∙ ap (λ (k : ℕ). (i - 1) * k) (one-more (wordsFor p)) in
+        let fits : 8 * (at + (1 + wordsFor p)) ≤ length b = omega (arith, row-end (i - 1) n (2 + wordsFor p) (omega arith)) in
+        let k : Holds (payload p) ys y = h .to p (length-lentRow at (1 + wordsFor p) b fits) (sounds payloadMarking p y s) in
+        let l : 8 * at + length (bytes (payload p .enc y)) ≡ 8 * (at + (1 + wordsFor p)) = omega (arith, length-bytes (payload p .enc y), payload p .size-enc y (k .good)) in
+        let q : b′ ≡ sets b (8 * ((i - 1) * (2 + wordsFor p))) (bytes (entryCode p .enc d)) =
+        e ∙ ap (λ (v : List ℕ). sets v (8 * (at + (1 + wordsFor p))) (bytesOf 8 (term .0))) (row-back (payload p) b ys at y fits k)
+        ∙ sets-append (bytes (payload p .enc y)) b (bytesOf 8 (term .0)) (8 * at) (8 * (at + (1 + wordsFor p))) l
+        ∙ ap (sets b (8 * at)) (ap (λ (v : List ℕ). bytes (payload p .enc y) ++ v) (sym (bytes-one (term .0))) ∙ sym (bytes-append (payload p .enc y) (term .0 ∷ [])))
+        ∙ ap (λ (j : ℕ). sets b (8 * j) (bytes (entryCode p .enc d))) at-is in
+        let z : Becomes (places p) n n b b′ (λ x. set x (i - 1) (some d)) =
+        puts (places p) n b (i - 1) (some d) b′ (omega arith) (and-both _ _ (k .good) (lt-ltb (term .0) (2 ^ 64) (f .fits))) (λ x r. refl) q in
+        record { to = λ N x g. subst (Held (places p) N n b′) (put-place x i d lo) (z .to N x g) }
+
+    pub put-noop : Puts payloadMarking noop (lentRow at (1 + wordsFor p) b) ys → b′ ≡ sets (backRow at (1 + wordsFor p) b ys) (8 * (at + (1 + wordsFor p))) (bytesOf 8 (term .0))
+        → Becomes (places p) n n b b′ (putEntry i (record { term = term; payload = noop }))
+    put-noop h e = put-row noop (record { marked = omega arith; short = omega arith; each = λ k. omega arith }) h e
+
+    pub put-command : (src : List ℕ) → p ≤ 256 → length src ≤ p → Bytes src → Puts payloadMarking (command src) (lentRow at (1 + wordsFor p) b) ys
+        → b′ ≡ sets (backRow at (1 + wordsFor p) b ys) (8 * (at + (1 + wordsFor p))) (bytesOf 8 (term .0))
+        → Becomes (places p) n n b b′ (putEntry i (record { term = term; payload = command src }))
+    put-command src q l B h e = put-row (command src) (record { marked = omega arith; short = l; each = B }) h e
+
+pub ruleset putting = (put-noop, put-command)
+
+-- ---- truncate: i is the first place that is removed, or the count of places
+
+module _ {A : Type 0} (x : List A) (i j : ℕ) (h : i ≤ length x) (k : i ≤ j) (l : j ≤ i + (j - length x)) where
+  cut-take : (d : A) → take i x ++ replicate (length x - i) d ≡ take j x ++ replicate (length x - j) d
+  cut-take d = cases (leb j (length x)) inside past
+    where
+      inside : leb j (length x) ≡ true → take i x ++ replicate (length x - i) d ≡ take j x ++ replicate (length x - j) d
+      inside t = ap (λ (m : ℕ). take m x ++ replicate (length x - m) d) (let e : i ≡ j = omega (arith, leb-true j (length x) t) in e)
+
+      past : leb j (length x) ≡ false → take i x ++ replicate (length x - i) d ≡ take j x ++ replicate (length x - j) d
+      past t =
+          let a : length x - i ≡ length x - j = omega (arith, leb-false j (length x) t) in
+          ap₂ (λ (u : List A) (m : ℕ). u ++ replicate m d) (take-all i x (omega (arith, leb-false j (length x) t)) ∙ sym (take-all j x (omega (arith, leb-false j (length x) t)))) a
+
+  cut-drop : drop i x ≡ drop j x
+  cut-drop = cases (leb j (length x)) inside past
+    where
+      inside : leb j (length x) ≡ true → drop i x ≡ drop j x
+      inside t = ap (λ (m : ℕ). drop m x) (let e : i ≡ j = omega (arith, leb-true j (length x) t) in e)
+
+      past : leb j (length x) ≡ false → drop i x ≡ drop j x
+      past t = drop-of-length-le x {i = i} (omega (arith, leb-false j (length x) t)) ∙ sym (drop-of-length-le x {i = j} (omega (arith, leb-false j (length x) t)))
+
+pub truncated : (p n from i r at end : ℕ) (b b′ : List ℕ) → i ≤ n → i ≤ from - 1 → from - 1 ≤ i + (from - 1 - n) → r ≡ count (drop i (rowsIn (place p) n b))
+    → at ≡ i * (2 + wordsFor p) → end ≡ n * (2 + wordsFor p) → b′ ≡ sets b (8 * at) (zeros (8 * end - 8 * at))
+    → Truncates p n from r b b′
+unfolding truncateAt removedBy fillFrom
+truncated p n from i r at end b b′ h k l c ea ee e = record {
+  kept = record {
+    to = λ N x g.
+        let m : length x ≡ n = held-rows g .count in
+        let q : b′ ≡ sets b (8 * (i * (2 + wordsFor p))) (zeros (8 * (n * (2 + wordsFor p)) - 8 * (i * (2 + wordsFor p)))) =
+        e ∙ ap₂ (λ (u v : ℕ). sets b (8 * u) (zeros (8 * v - 8 * u))) ea ee in
+        subst (Held (places p) N n b′) (cut-take x i (from - 1) (omega arith) k (rw m l) none) (fill-held g i none b′ h refl refl refl q);
+  };
+  removed = c ∙ ap count (cut-drop (rowsIn (place p) n b) i (from - 1) (omega (arith, length-rowsIn (place p) n b)) k (rw (length-rowsIn (place p) n b) l));
+}
+
+-- ---- clear, copy
+
+whole : (b v : List ℕ) → length v ≡ length b → sets b 0 v ≡ v
+whole b v l = ap (λ (u : List ℕ). sets u 0 v) (sym (append-nil b)) ∙ sets-at [] b [] v 0 refl l ∙ append-nil v
+
+pub cleared : (p n : ℕ) (b b′ : List ℕ) → b′ ≡ sets b 0 (zeros (length b - 0)) → Clears p n b b′
+cleared p n b b′ e =
+    let z : length b - 0 ≡ length b = omega arith in
+    let q : b′ ≡ zeros (length b) = e ∙ ap (λ (k : ℕ). sets b 0 (zeros k)) z ∙ whole b (zeros (length b)) (length-replicate (length b) zero) in
+    let l : length b′ ≡ length b = ap length q ∙ length-replicate (length b) zero in
+    record { to = λ N m h. blank-held (places p) N n none b′ (l ∙ m) h refl refl refl (q ∙ ap zeros (sym l)) }
+
+pub copied-over : (b src b′ : List ℕ) → length b ≡ length src → b′ ≡ sets b 0 src → b′ ≡ src
+copied-over b src b′ l e = e ∙ whole b src (sym l)
+
+-- ---- comparing
+
+-- a test that decides is any other that does
+decided : {P : Type 0} (r t : Bool) → Decides r P → (t ≡ true → P) → (P → t ≡ true) → r ≡ t
+decided true t d f g = sym (g (d .yes refl))
+decided {P} false t d f g = by t refl
+  where
+    by : (u : Bool) → t ≡ u → false ≡ u
+    by true e = absurd (d .no refl (f e))
+    by false e = refl
+
+same-list : (a : List ℕ) → sameList a a ≡ true
+unfolding sameList
+same-list [] = refl
+same-list (x ∷ a) = and-both _ _ (eq-eqb x x refl) (same-list a)
+
+list-same : (a b : List ℕ) → sameList a b ≡ true → a ≡ b
+unfolding sameList
+list-same [] [] h = refl
+list-same [] (y ∷ b) h = absurd (false-true h)
+list-same (x ∷ a) [] h = absurd (false-true h)
+list-same (x ∷ a) (y ∷ b) h = ap₂ (λ (u : ℕ) (v : List ℕ). u ∷ v) (eqb-true x y (and-left _ _ h)) (list-same a b (and-right _ _ h))
+
+same-payload : (x : Payload) → samePayload x x ≡ true
+unfolding samePayload
+same-payload noop = refl
+same-payload (command a) = same-list a
+
+payload-same : (x y : Payload) → samePayload x y ≡ true → x ≡ y
+unfolding samePayload
+payload-same noop noop h = refl
+payload-same noop (command b) h = absurd (false-true h)
+payload-same (command a) noop h = absurd (false-true h)
+payload-same (command a) (command b) h = ap command (list-same a b h)
+
+same-payloads : (a b : Option Entry) → payloadIn a ≡ payloadIn b → samePayloads a b ≡ true
+same-payloads none none h = refl
+same-payloads none (some e) h = let z : _≡_ {A = ℕ} 0 1 = cc in absurd (omega arith)
+same-payloads (some d) none h = let z : _≡_ {A = ℕ} 0 1 = cc in absurd (omega arith)
+same-payloads (some d) (some e) h =
+    let q : d .payload ≡ e .payload = cc in
+    ap (λ (y : Payload). samePayload (d .payload) y) (sym q) ∙ same-payload (d .payload)
+
+payloads-same : (a b : Option Entry) → samePayloads a b ≡ true → payloadIn a ≡ payloadIn b
+payloads-same none none h = refl
+payloads-same none (some e) h = absurd (false-true h)
+payloads-same (some d) none h = absurd (false-true h)
+payloads-same (some d) (some e) h = ap some (payload-same (d .payload) (e .payload) h)
+
+pub compared : (p n i j at at₂ : ℕ) (r : Bool) (s t : List ℕ) → 1 ≤ i → i ≤ n → 1 ≤ j → j ≤ n → at ≡ (i - 1) * (1 + wordsFor p + 1) → at₂ ≡ (j - 1) * (1 + wordsFor p + 1)
+    → Decides r (lentRow at (1 + wordsFor p) s ≡ lentRow at₂ (1 + wordsFor p) t)
+    → Compares p n i j r s t
+compared p n i j at at₂ r s t li hi lj hj e e₂ d = record {
+  to = λ N M x y g h.
+      let a : at ≡ (i - 1) * (2 + wordsFor p) = e ∙ ap (λ (k : ℕ). (i - 1) * k) (one-more (wordsFor p)) in
+      let c : at₂ ≡ (j - 1) * (2 + wordsFor p) = e₂ ∙ ap (λ (k : ℕ). (j - 1) * k) (one-more (wordsFor p)) in
+      decided r (samePayloads (getD x (i - 1) none) (getD y (j - 1) none)) (decides-same (payload-here p n g (i - 1) at (omega arith) a) (payload-here p n h (j - 1) at₂ (omega arith) c) d)
+      (payloads-same (getD x (i - 1) none) (getD y (j - 1) none)) (same-payloads (getD x (i - 1) none) (getD y (j - 1) none))
+      ∙ ap₂ samePayloads (sym (entry-place x i li)) (sym (entry-place y j lj));
+}
+
+-- a noop at a place, by what stands there
+abbrev isNoop : Place → Bool
+isNoop None = false
+isNoop (Noop t) = true
+isNoop (Command t k) = false
+
+noop-place : (o : Option Entry) → isNoop (placeOf o) ≡ isPayload o noop
+unfolding samePayload
+noop-place none = refl
+noop-place (some e) = by (e .payload)
+  where
+    by : (y : Payload) → isNoop (kindIn (e .term) y) ≡ samePayload y noop
+    by noop = refl
+    by (command bs) = refl
+
+module _ (p n i : ℕ) (s : List ℕ) (r : Place) (g : Gives (places p) n s r (placeAt i)) where
+  noop-read : (b : Bool) → isNoop r ≡ b → Gives (places p) n s b (holdsAt i noop)
+  unfolding placeAt holdsAt
+  noop-read b e = record { to = λ N x h. sym e ∙ ap isNoop (g .to N x h) ∙ noop-place (entryAt x i) }
+
+  pub noop-none : r ≡ None → Gives (places p) n s false (holdsAt i noop)
+  noop-none e = noop-read false (ap isNoop e)
+
+  pub noop-noop : (t : Term) → r ≡ Noop t → Gives (places p) n s true (holdsAt i noop)
+  noop-noop t e = noop-read true (ap isNoop e)
+
+  pub noop-command : (t : Term) (k : ℕ) → r ≡ Command t k → Gives (places p) n s false (holdsAt i noop)
+  noop-command t k e = noop-read false (ap isNoop e)
+
+pub ruleset noops = (noop-none, noop-noop, noop-command)
+
+module _ (p n i : ℕ) (s src : List ℕ) where
+  pub command-zero : i < 1 → Gives (places p) n s false (holdsAt i (command src))
+  unfolding holdsAt entryAt
+  command-zero h = record { to = λ N x k. by x i h }
+    where
+      by : (x : Log) (i : ℕ) → i < 1 → false ≡ isPayload (entryAt x i) (command src)
+      by x zero h = refl
+      by x (suc i) h = absurd (omega arith)
+
+  pub command-past : n < i → Gives (places p) n s false (holdsAt i (command src))
+  unfolding holdsAt
+  command-past h = record { to = λ N x k. ap (λ (o : Option Entry). isPayload o (command src)) (sym (none-at x n i (held-rows k .count) h)) }
+
+  module _ (lo : 1 ≤ i) (hi : i ≤ n) (at m : ℕ) (e : at ≡ (i - 1) * (2 + wordsFor p)) (em : m ≡ getD (W s) at 0) where
+    command-if : {N : ℕ} {x : Log} (b : Bool) → Held (places p) N n s x
+        → ((o : Option Entry) → getD x (i - 1) none ≡ o → m ≡ markIn o → b ≡ isPayload o (command src)) → b ≡ holdsAt i (command src) x
+    unfolding holdsAt
+    command-if {N} {x} b h f =
+        f (getD x (i - 1) none) refl (em ∙ mark-here p n h (i - 1) at (omega arith) e) ∙ ap (λ (o : Option Entry). isPayload o (command src)) (sym (entry-place x i lo))
+
+    pub command-other : (m ≡ 2 + length src → ⊥) → Gives (places p) n s false (holdsAt i (command src))
+    unfolding samePayload
+    command-other f = record { to = λ N x h. command-if false h (λ o q. by o) }
+      where
+        by : (o : Option Entry) → m ≡ markIn o → false ≡ isPayload o (command src)
+        by none l = refl
+        by (some d) l = kind (d .payload) l
+          where
+            kind : (y : Payload) → m ≡ markOf y → false ≡ samePayload y (command src)
+            kind noop l = refl
+            kind (command bs) l = no (sameList bs src) refl
+              where
+                no : (b : Bool) → sameList bs src ≡ b → false ≡ b
+                no true a = absurd (f (l ∙ ap (λ (v : List ℕ). 2 + length v) (list-same bs src a)))
+                no false a = refl
+
+    pub command-here : (r : Bool) → length src ≤ p → m ≡ 2 + length src → Decides r (take (8 * (at + 1) + length src - 8 * (at + 1)) (drop (8 * (at + 1)) s) ≡ src)
+        → Gives (places p) n s r (holdsAt i (command src))
+    unfolding samePayload
+    command-here r l f c = record { to = λ N x h. command-if r h (by h) }
+      where
+        by : {N : ℕ} {x : Log} → Held (places p) N n s x → (o : Option Entry) → getD x (i - 1) none ≡ o → m ≡ markIn o → r ≡ isPayload o (command src)
+        by h none q k = absurd (omega arith)
+        by h (some d) q k = kind (d .payload) refl (k ∙ refl)
+          where
+            kind : (y : Payload) → d .payload ≡ y → m ≡ markOf y → r ≡ samePayload y (command src)
+            kind noop a k = absurd (omega arith)
+            kind (command bs) a k =
+                let z : length src ≡ length (bodyOf (d .payload)) = let w : length src ≡ length bs = omega arith in w ∙ ap (λ (y : Payload). length (bodyOf y)) (sym a) in
+                let b : take (8 * (at + 1) + length src - 8 * (at + 1)) (drop (8 * (at + 1)) s) ≡ bs = body-here p n h (i - 1) at (omega arith) e d q (length src) z l ∙ ap bodyOf a in
+                decided r (sameList bs src) (subst (λ (v : List ℕ). Decides r (v ≡ src)) b c) (list-same bs src) (λ o. ap (λ (v : List ℕ). sameList v src) o ∙ same-list src)
+
+pub ruleset commands = (command-zero, command-past, command-other, command-here)
+
+-- ---- check
+
+pub place-zeros : (p m : ℕ) (s : List ℕ) (r : Bool) → Bytes s → length s ≡ 8 * (2 + wordsFor p) → m ≡ getD (W s) 0 0 → m < 1 → r ≡ allz s → r ≡ place p .ok (W s)
+place-zeros p m s r B l e h z =
+    z ∙ ap allz (sym (W-whole s (2 + wordsFor p) B l)) ∙ allz-bytes (W s) (W-fit s B) ∙ ap allz (sym (take-all (2 + wordsFor p) (W s) (omega (arith, length-W s))))
+    ∙ sym (ap (λ (b : Bool). pick b (allz (take (2 + wordsFor p) (W s))) (entryCode p .ok (W s))) (eq-eqb (getD (W s) 0 0) 0 (omega arith)))
+
+pub place-entry : (p m : ℕ) (s : List ℕ) (r : Bool) → Bytes s → length s ≡ 8 * (2 + wordsFor p) → m ≡ getD (W s) 0 0 → 1 ≤ m
+    → r ≡ payload p .ok (W (take (8 * (1 + wordsFor p) - 0) (drop 0 s)))
+    → r ≡ place p .ok (W s)
+place-entry p m s r B l e h z =
+    let k : 8 * (1 + wordsFor p) - 0 ≡ 8 * (1 + wordsFor p) - 8 * 0 = omega arith in
+    let j : 1 + wordsFor p - 0 ≡ 1 + wordsFor p = omega arith in
+    z ∙ ap (λ (v : ℕ). payload p .ok (W (take v s))) k ∙ ap (payload p .ok) (W-part s 0 (1 + wordsFor p) B (omega arith) (omega arith) ∙ ap (λ (v : ℕ). take v (W s)) j)
+    ∙ ok-prefix (payload p) (W s) (W-fit s B) (omega (arith, length-W s)) ∙ sym (and-true (payload p .ok (W s)))
+    ∙ sym (ap (λ (b : Bool). pick b (allz (take (2 + wordsFor p) (W s))) (entryCode p .ok (W s))) (ne-eqb (getD (W s) 0 0) 0 (omega arith)))
+
+pub ruleset place-tests = (place-zeros, place-entry)
+
+pub ruleset place-rows = (rowed-start, lent-fine, lent-fails, rowed-done)
