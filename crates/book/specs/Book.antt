@@ -72,6 +72,7 @@ pub data Open : Type 0 where
   unsealed : Open
   sealedBySync : Open
 
+-- What the book holds.
 pub record Book : Type 0 where
   -- the last log index that there is, from the latest fresh start
   pub lastIndex : ℕ
@@ -161,6 +162,7 @@ abbrev pub askedOpening : Asked → Opening
 askedOpening (model.asked next) = next
 askedOpening model.stopped = noInput
 
+-- The input that an answer opened.
 abbrev pub openingOf : Answer → Opening
 openingOf (opened next) = next
 openingOf (stepped s) = s .opening
@@ -170,6 +172,7 @@ openingOf (no number) = noInput
 openingOf acted = noInput
 openingOf (got x) = noInput
 
+-- How an answer sealed, if its call was a seal.
 abbrev pub sealingOf : Answer → Option Sealing
 sealingOf (sealed s) = some (s .sealing)
 sealingOf (no number) = none
@@ -179,6 +182,7 @@ sealingOf (stepped s) = none
 sealingOf (asked a) = none
 sealingOf (got x) = none
 
+-- Whether an answer accepts its call.
 abbrev pub accepted : Answer → Bool
 accepted (no number) = false
 accepted acted = true

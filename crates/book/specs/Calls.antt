@@ -115,6 +115,7 @@ module _ (fits : State → Bool) where
   afterWrite s (put index term kind bytes) = finish (λ _. acted) s (model.writePutCall index term kind bytes s)
   afterWrite s (truncate from) = finish (λ _. acted) s (model.writeTruncateCall from s)
 
+  -- What an output answers and leaves.
   unfoldable pub afterOutput : State → OutputCall → After
   afterOutput s (send to message entries) = finish (λ _. acted) s (model.outputSend to message entries s)
   afterOutput s (setTimer timer duration) = finish (λ _. acted) s (model.outputSetTimer timer duration s)
@@ -123,6 +124,7 @@ module _ (fits : State → Bool) where
   afterOutput s (confirmed request readIndex) = finish (λ _. acted) s (model.outputConfirmed request readIndex s)
   afterOutput s (lost request) = finish (λ _. acted) s (model.outputLost request s)
 
+  -- What a read answers; it leaves the state as it was.
   unfoldable pub afterRead : State → ReadCall → After
   afterRead s (readStatus server) = finish (λ x. got (gotStatus x)) s (reads.readStatus server s)
   afterRead s (readHardState server) = finish (λ x. got (gotHardState x)) s (reads.readHardState server s)

@@ -56,15 +56,19 @@ pub record Checker : Type 0 where
   -- how many violations there were
   pub total : ℕ
 
+-- Nothing seen yet (Checker::new).
 abbrev pub newChecker : Checker
 newChecker = record { leaders = []; applied = []; entries = []; violations = []; total = 0 }
 
+-- What the checks remember, with other leaders.
 abbrev pub withLeaders : Checker → List TermLeader → Checker
 withLeaders c l = record { leaders = l; applied = c .applied; entries = c .entries; violations = c .violations; total = c .total }
 
+-- With other applied payloads.
 abbrev pub withApplied : Checker → List Payload → Checker
 withApplied c a = record { leaders = c .leaders; applied = a; entries = c .entries; violations = c .violations; total = c .total }
 
+-- With other entries seen.
 abbrev pub withEntries : Checker → List Seen → Checker
 withEntries c e = record { leaders = c .leaders; applied = c .applied; entries = e; violations = c .violations; total = c .total }
 
@@ -115,6 +119,7 @@ onApply c time server index payload expected =
 
 -- ---- written entries
 
+-- What entries seen are sorted by: index, then term.
 abbrev pub seenKey : Seen → ℕ × ℕ
 seenKey s = (s .index .0, s .term .0)
 
@@ -142,6 +147,7 @@ onWrites c time server log (index ∷ indexes) = onWrites (onWrite c time server
 
 -- ---- status
 
+-- What leaders are sorted by: the term.
 abbrev pub leaderKey : TermLeader → ℕ
 leaderKey l = l .term .0
 
@@ -161,6 +167,7 @@ unfoldable pub firstMissing : Log → ℕ → List Payload → Option ℕ
 firstMissing log index [] = none
 firstMissing log index (payload ∷ payloads) = pick (holds (entryAt log index) payload) (firstMissing log (suc index) payloads) (some index)
 
+-- The missing index reported, if there is one.
 abbrev pub reportMissing : Option ℕ → Checker → SimTime → NodeId → Term → Checker
 reportMissing none c time server term = c
 reportMissing (some index) c time server term = report c time LeaderCompleteness (server .0 ∷ term .0 ∷ index ∷ [])
@@ -193,6 +200,7 @@ onStatus raftChecks c time server status log leading =
 
 -- ---- log matching
 
+-- Whether two places hold equal entries, or neither holds one.
 abbrev pub sameEntry : Option Entry → Option Entry → Bool
 sameEntry none none = true
 sameEntry none (some y) = false
@@ -234,6 +242,7 @@ mismatchFrom (suc left) index difference a b =
 unfoldable pub logMatchingFailure : Log → Log → Option Mismatch
 logMatchingFailure a b = mismatchFrom (min (lastIndex a) (lastIndex b)) 1 none a b
 
+-- The mismatch of two servers' logs reported, if there is one.
 abbrev pub reportMismatch : Option Mismatch → Checker → SimTime → NodeId → NodeId → Checker
 reportMismatch none c time a b = c
 reportMismatch (some m) c time a b = report c time LogMatching (a .0 ∷ b .0 ∷ m .term ∷ m .index ∷ m .difference ∷ [])
@@ -265,6 +274,7 @@ pub record AppliedUpTo : Type 0 where
   pub server : NodeId
   pub upTo : ℕ
 
+-- Whether a payload is there and equal to another.
 abbrev pub isPayload : Option Payload → Payload → Bool
 isPayload none payload = false
 isPayload (some first) payload = samePayload first payload
@@ -278,6 +288,7 @@ checkAcknowledged c time (a ∷ more) =
     time
     more
 
+-- The highest acknowledged index, or 0.
 unfoldable pub highestOf : List Acknowledged → ℕ
 highestOf [] = 0
 highestOf (a ∷ more) = max (a .index .0) (highestOf more)

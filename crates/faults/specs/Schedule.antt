@@ -36,6 +36,7 @@ then d f =
     let e = f (d .result) (d .next) in
     record { result = e .result; draws = d .draws + e .draws; next = e .next }
 
+-- No draw.
 abbrev pub give : {A : Type 0} → A → Rng → Draws A
 give a g = record { result = a; draws = 0; next = g }
 
@@ -63,6 +64,7 @@ pub record Groups : Type 0 where
   pub first : List NodeId
   pub second : List NodeId
 
+-- The word of a partition between two groups.
 abbrev pub groupsWord : Groups → ℕ
 groupsWord groups = maskOf (groups .first) + 256 * maskOf (groups .second)
 
@@ -81,6 +83,7 @@ butLast [] = []
 butLast (x ∷ []) = []
 butLast (x ∷ y ∷ ys) = x ∷ butLast (y ∷ ys)
 
+-- The last element alone.
 unfoldable pub lastOnly : List NodeId → List NodeId
 lastOnly [] = []
 lastOnly (x ∷ []) = x ∷ []

@@ -10,6 +10,7 @@ use Rattle.laws.specs.Lists.{isSome}
 use Rattle.units.specs.Types.{Entry}
 use Rattle.units.specs.declared.LogIndex.{LogIndex}
 
+-- An entry or none at each index from 1 on.
 abbrev pub Log : Type 0
 Log = List (Option Entry)
 

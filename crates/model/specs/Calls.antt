@@ -57,6 +57,7 @@ nodeOption present id = pick (eqb present 1) (Some (record { 0 = id })) None
 abbrev pub timerOf : ℕ → Timer
 timerOf kind = getD (Election ∷ Heartbeat ∷ []) kind Election
 
+-- The role of a number.
 abbrev pub roleOf : ℕ → Role
 roleOf kind = getD (Follower ∷ Candidate ∷ Leader ∷ []) kind Follower
 
@@ -74,6 +75,7 @@ inCluster s id = leb 1 id and leb id (length (s .servers))
 
 -- ---- phases
 
+-- Whether no input is open.
 abbrev pub isClosed : Phase → Bool
 isClosed closed = true
 isClosed (writing slot input owed) = false
@@ -91,6 +93,7 @@ whileSending closed f = refused 6
 whileSending (writing slot input owed) f = refused 6
 whileSending (sending slot input verdict owed) f = f slot input verdict owed
 
+-- Whether the node took the input.
 abbrev pub isAccepted : Verdict → Bool
 isAccepted accepted = true
 isAccepted (notLeader hint) = false
@@ -210,17 +213,20 @@ schedule time kind a b groups s =
 abbrev pub written : State → ℕ → Write → Out (Unit {0})
 written s slot w = done tt (writeAt s slot w)
 
+-- Term and vote written; the flag says whether there is a vote (set_hard_state).
 unfoldable pub writeHardStateCall : Term → ℕ → ℕ → State → Out (Unit {0})
 writeHardStateCall term present vote s =
     whileWriting (s .phase)
     (λ slot input owed. ask (isFlag present) 9 (written s slot (writeHardState (record { term = term; «voted_for» = nodeOption present vote }))))
 
+-- An entry put at an index of the log (put).
 unfoldable pub writePutCall : LogIndex → Term → ℕ → List ℕ → State → Out (Unit {0})
 writePutCall index term kind bytes s =
     whileWriting (s .phase)
     (λ slot input owed. ask (leb 1 (index .0) and leb (index .0) (s .limits .«log_indexes»)) 8
     (ask (isPayload s kind bytes) 9 (written s slot (writePut index (record { term = term; payload = payloadOf kind bytes })))))
 
+-- The log truncated from an index on (truncate).
 unfoldable pub writeTruncateCall : LogIndex → State → Out (Unit {0})
 writeTruncateCall from s = whileWriting (s .phase) (λ slot input owed. written s slot (writeTruncate from))
 
@@ -262,6 +268,7 @@ sealed s slot input owed verdict =
     (done (record { sealing = cut; opening = cutting .opening }) (cutting .state))
     (done (record { sealing = pick (unsynced (v .storage)) synced nothingToSync; opening = noInput }) (syncInput s slot input verdict owed))
 
+-- The seal of the open input, told whether the node refused and which leader it named.
 unfoldable pub seal : ℕ → ℕ → ℕ → State → Out Sealed
 seal refusal present leader s =
     whileWriting (s .phase)
@@ -270,27 +277,33 @@ seal refusal present leader s =
 
 -- ---- outputs and the end
 
+-- A message sent to a server (Output::Send).
 unfoldable pub outputSend : ℕ → List ℕ → ℕ → State → Out (Unit {0})
 outputSend to message entries s =
     output (s .phase)
     (λ slot. ask (inCluster s to) 7
     (ask (leb (length message) (s .limits .message) and ltb entries (2 ^ 32)) 9 (done tt (send s slot (record { 0 = to }) message entries))))
 
+-- A timer set (Output::SetTimer).
 unfoldable pub outputSetTimer : ℕ → Duration → State → Out (Unit {0})
 outputSetTimer timer after s =
     output (s .phase) (λ slot. ask (isFlag timer and leb (after .0) (2 ^ 40)) 9 (done tt (setTimer s slot (timerOf timer) after)))
 
+-- A timer cancelled (Output::CancelTimer).
 unfoldable pub outputCancelTimer : ℕ → State → Out (Unit {0})
 outputCancelTimer timer s = output (s .phase) (λ slot. ask (isFlag timer) 9 (done tt (cancelTimer s slot (timerOf timer))))
 
+-- An entry applied (Output::Apply).
 unfoldable pub outputApply : LogIndex → ℕ → List ℕ → State → Out (Unit {0})
 outputApply index kind bytes s =
     output (s .phase)
     (λ slot. ask (leb (index .0) (s .limits .«log_indexes»)) 8 (ask (isPayload s kind bytes) 9 (done tt (apply s slot index (payloadOf kind bytes)))))
 
+-- Leadership confirmed, with the read index (Output::LeadershipConfirmed).
 unfoldable pub outputConfirmed : RequestId → LogIndex → State → Out (Unit {0})
 outputConfirmed request readIndex s = output (s .phase) (λ slot. done tt (confirm s request (some readIndex)))
 
+-- Leadership lost (Output::LeadershipLost).
 unfoldable pub outputLost : RequestId → State → Out (Unit {0})
 outputLost request s = output (s .phase) (λ slot. done tt (confirm s request none))
 
@@ -309,6 +322,7 @@ unfoldable pub logsFrom : ℕ → List Server → List ServerLog
 logsFrom slot [] = []
 logsFrom slot (v ∷ vs) = record { server = idOf slot; log = v .storage .current .log } ∷ logsFrom (suc slot) vs
 
+-- Log matching checked over every pair of logs (check_log_matching).
 unfoldable pub checkLogMatchingCall : State → Out (Unit {0})
 checkLogMatchingCall s = ask (isClosed (s .phase)) 6 (done tt (withChecker s (checkLogMatching (s .checker) (s .now) (logsFrom 0 (s .servers)))))
 
@@ -322,6 +336,7 @@ unfoldable pub appliedFrom : ℕ → List Server → List AppliedUpTo
 appliedFrom slot [] = []
 appliedFrom slot (v ∷ vs) = record { server = idOf slot; upTo = v .nextApply - 1 } ∷ appliedFrom (suc slot) vs
 
+-- Durability checked (check_durability).
 unfoldable pub checkDurabilityCall : State → Out (Unit {0})
 checkDurabilityCall s =
     ask (isClosed (s .phase)) 6

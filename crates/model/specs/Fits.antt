@@ -35,6 +35,7 @@ use Rattle.model.specs.State.{State, Server, Client, Outstanding, Reply,
 abbrev pub word : ℕ → Bool
 word n = ltb n (2 ^ 64)
 
+-- One byte.
 abbrev pub byte : ℕ → Bool
 byte n = ltb n 256
 
@@ -53,38 +54,46 @@ abbrev pub atMost : {A : Type 0} → ℕ → (A → Bool) → List A → Bool
 atMost room f xs = leb (length xs) room and every f xs
 
 module _ (s : State) where
-  -- The counts of document 01: servers S, clients C, log indexes L, payload P, message M, history H.
+  -- The counts by document 01's letters: servers.
   abbrev pub S : ℕ
   S = s .config .servers
 
+  -- Clients.
   abbrev pub C : ℕ
   C = s .config .clients
 
+  -- Log indexes.
   abbrev pub L : ℕ
   L = s .limits .«log_indexes»
 
+  -- History: the rows of a table.
   abbrev pub H : ℕ
   H = s .limits .history
 
-  -- A server by its place or its id, a client by its number.
+  -- A server by its place.
   abbrev pub slotFits : ℕ → Bool
   slotFits slot = ltb slot S
 
+  -- An id in the cluster.
   abbrev pub idFits : NodeId → Bool
   idFits id = leb 1 (id .0) and leb (id .0) S
 
+  -- A client's number.
   abbrev pub clientFits : ℕ → Bool
   clientFits c = ltb c C
 
   -- ---- storage
 
+  -- A command of at most P bytes.
   abbrev pub payloadFits : Payload → Bool
   payloadFits noop = true
   payloadFits (command bytes) = atMost (s .limits .payload) byte bytes
 
+  -- An entry of any term.
   abbrev pub entryFits : Entry → Bool
   entryFits e = word (e .term .0) and payloadFits (e .payload)
 
+  -- Any term, and a vote for anyone.
   abbrev pub hardStateFits : HardState → Bool
   hardStateFits h = word (h .term .0) and nodeFits (h .«voted_for»)
 
@@ -92,19 +101,23 @@ module _ (s : State) where
   abbrev pub diskFits : Disk → Bool
   diskFits d = hardStateFits (d .hardState) and eqb (length (d .log)) L and every (ifSome entryFits) (d .log)
 
+  -- A waiting write; only a put has an index with a range.
   abbrev pub writeFits : Write → Bool
   writeFits (writeHardState h) = hardStateFits h
   writeFits (writePut index e) = leb 1 (index .0) and leb (index .0) L and entryFits e
   writeFits (writeTruncate from) = word (from .0)
 
+  -- A server's disk, with at most W waiting writes.
   abbrev pub storageFits : Storage → Bool
   storageFits d = diskFits (d .current) and diskFits (d .durable) and atMost (s .limits .writes) writeFits (d .waiting) and word (d .discarded)
 
   -- ---- servers and clients
 
+  -- A status of any term and commit index.
   abbrev pub statusFits : Status → Bool
   statusFits status = word (status .term .0) and nodeFits (status .leader) and word (status .«commit_index» .0)
 
+  -- A pending key of a client.
   abbrev pub keyFits : ClientKey → Bool
   keyFits k = clientFits (k .client) and word (k .seq)
 
@@ -124,14 +137,17 @@ module _ (s : State) where
       ∷ ifSome (λ (term : Term). word (term .0)) (v .leading)
       ∷ [])
 
+  -- An outstanding command.
   abbrev pub outstandingFits : Outstanding → Bool
   outstandingFits o = word (o .seq) and word (o .firstSent .0)
 
+  -- A client, whose target is in the cluster.
   abbrev pub clientStateFits : Client → Bool
   clientStateFits k = slotFits (k .target) and word (k .nextSeq) and word (k .attempt) and ifSome outstandingFits (k .outstanding)
 
   -- ---- events
 
+  -- An event whose servers and client are in the simulation.
   abbrev pub eventFits : Event → Bool
   eventFits (event.Start slot) = slotFits slot
   eventFits (event.Deliver from to entries) = idFits from and idFits to and ltb entries (2 ^ 32)
@@ -157,6 +173,7 @@ module _ (s : State) where
   messageRoom (event.ClientReply c seq index) = 0
   messageRoom (event.ClientTimeout c attempt) = 0
 
+  -- A queued event with its time and message.
   abbrev pub scheduledFits : Scheduled → Bool
   scheduledFits e = word (e .time .0) and eventFits (e .event) and atMost (messageRoom (e .event)) byte (e .message)
 
@@ -166,14 +183,17 @@ module _ (s : State) where
   inOrder (e ∷ []) = true
   inOrder (e ∷ f ∷ q) = leb (e .time .0) (f .time .0) and inOrder (f ∷ q)
 
+  -- At most Q events, in order of time.
   abbrev pub queueFits : Queue → Bool
   queueFits q = atMost (s .limits .events) scheduledFits q and inOrder q
 
   -- ---- checks and records
 
+  -- The leader of a term.
   abbrev pub leaderFits : TermLeader → Bool
   leaderFits l = word (l .term .0) and idFits (l .server)
 
+  -- An entry seen.
   abbrev pub seenFits : Seen → Bool
   seenFits e = leb 1 (e .index .0) and leb (e .index .0) L and word (e .term .0) and payloadFits (e .payload)
 
@@ -181,6 +201,7 @@ module _ (s : State) where
   abbrev pub violationFits : Violation → Bool
   violationFits v = word (v .time .0) and atMost 5 word (v .detail)
 
+  -- What the checks remember.
   abbrev pub checkerFits : Checker → Bool
   checkerFits c =
       allb (
@@ -193,14 +214,17 @@ module _ (s : State) where
       ∷ word (c .total)
       ∷ [])
 
+  -- A reply to a client.
   abbrev pub replyFits : Reply → Bool
   replyFits r = word (r .sent .0) and word (r .received .0) and leb (r .index .0) L and clientFits (r .client) and word (r .seq)
 
+  -- A confirmation of any request and read index.
   abbrev pub confirmationFits : Confirmation → Bool
   confirmationFits c = word (c .request .0) and ifSome (λ index. word (index .0)) (c .readIndex)
 
   -- ---- the open input
 
+  -- An open input.
   abbrev pub inputFits : Input → Bool
   inputFits startInput = true
   inputFits messageInput = true
@@ -218,11 +242,13 @@ module _ (s : State) where
   verdictFits (proposeInput proposer) (notLeader hint) = nodeFits hint
   verdictFits confirmInput (notLeader hint) = nodeFits hint
 
+  -- What is owed, from a place up to the last server's.
   abbrev pub owedFits : Owed → Bool
   owedFits nothing = true
   owedFits (construction slot) = leb slot S
   owedFits (healing slot) = leb slot S
 
+  -- The phase with its input.
   abbrev pub phaseFits : Phase → Bool
   phaseFits closed = true
   phaseFits (writing slot input owed) = slotFits slot and inputFits input and owedFits owed
@@ -230,6 +256,7 @@ module _ (s : State) where
 
   -- ---- the whole
 
+  -- Every field of the state.
   unfoldable pub stateFits : Bool
   stateFits =
       allb (

@@ -41,6 +41,7 @@ pub record LogRead : Type 0 where
   pub last : ℕ
   pub missing : ℕ
 
+-- A server's log as written so far, in numbers.
 unfoldable pub readLog : ℕ → State → Out LogRead
 readLog id = ofServer id (λ v. let log = v .storage .current .log in record { entries = count log; last = lastIndex log; missing = gaps log })
 
@@ -70,6 +71,7 @@ readAppliedEntry index buffer s = ask (leb (s .limits .payload) buffer) 9 (done 
 unfoldable pub readMetrics : State → Out Metrics
 readMetrics s = done (s .metrics) s
 
+-- One server's messages.
 unfoldable pub readSentBy : ℕ → State → Out Counts
 readSentBy id s = ask (inCluster s id) 7 (done (sentBy (s .metrics) (record { 0 = id })) s)
 
@@ -77,9 +79,11 @@ readSentBy id s = ask (inCluster s id) 7 (done (sentBy (s .metrics) (record { 0 
 unfoldable pub readReply : ℕ → State → Out (Option Reply)
 readReply place s = done (at (s .replies) place) s
 
+-- A confirmation by its place from 0.
 unfoldable pub readConfirmation : ℕ → State → Out (Option Confirmation)
 readConfirmation place s = done (at (s .confirmations) place) s
 
+-- A kept violation by its place from 0.
 unfoldable pub readViolation : ℕ → State → Out (Option Violation)
 readViolation place s = done (at (s .checker .violations) place) s
 
@@ -101,6 +105,7 @@ pub record RunRead : Type 0 where
   pub queued : ℕ
   pub phase : Phase
 
+-- The run as a whole.
 unfoldable pub readRun : State → Out RunRead
 readRun s =
     done

@@ -83,6 +83,7 @@ pub record Arrival : Type 0 where
   pub state : State
   pub time : SimTime
 
+-- One delay drawn.
 abbrev pub arrival : State → Arrival
 arrival s =
     let d = network.delay (s .network) in
@@ -171,6 +172,7 @@ abbrev pub reportedStatus : ℕ → Option Status → List Reported → List Rep
 reportedStatus slot none more = more
 reportedStatus slot (some status) more = record { id = idOf slot; status = status } ∷ more
 
+-- The running servers of a list, the first of which has this place.
 unfoldable pub reportedFrom : ℕ → List Server → List Reported
 reportedFrom slot [] = []
 reportedFrom slot (v ∷ vs) = reportedStatus slot (v .status) (reportedFrom (suc slot) vs)
@@ -211,6 +213,7 @@ pub record Target : Type 0 where
   pub slot : ℕ
   pub state : State
 
+-- One draw below the number of servers.
 abbrev pub randomServer : State → Target
 randomServer s =
     let d = under (s .workload) (length (s .servers)) in
@@ -348,6 +351,7 @@ pub record Targets : Type 0 where
   pub clients : List Client
   pub next : Rng
 
+-- Clients with the targets drawn for them, in order.
 unfoldable pub drawTargets : ℕ → ℕ → Rng → Targets
 drawTargets servers zero g = record { clients = []; next = g }
 drawTargets servers (suc n) g =
@@ -438,12 +442,14 @@ pushCopy s from to entries message duplicate.None = s
 pushCopy s from to entries message (duplicate.After delay) =
     withQueue s (push (s .queue) (later (s .now) delay) (event.Deliver from to entries) message)
 
+-- A routed message pushed, its copy first; a dropped one is not.
 abbrev pub pushRouted : State → NodeId → NodeId → ℕ → List ℕ → Route → State
 pushRouted s from to entries message Dropped = s
 pushRouted s from to entries message (Delivered delay second) =
     let copied = pushCopy s from to entries message second in
     withQueue copied (push (copied .queue) (later (s .now) delay) (event.Deliver from to entries) message)
 
+-- A message sent by the server at a place.
 unfoldable pub send : State → ℕ → NodeId → List ℕ → ℕ → State
 send s slot to message entries =
     let from = idOf slot in
@@ -474,6 +480,7 @@ replyTo s slot index (decoded.Key k) =
     (pushEvent (a .state) (a .time) (event.ClientReply (k .client) (k .seq) index))
     s
 
+-- The reply that an applied payload makes due: only a command has a key.
 abbrev pub replyFor : State → ℕ → LogIndex → Payload → State
 replyFor s slot index noop = s
 replyFor s slot index (command bytes) = replyTo s slot index (decode bytes)

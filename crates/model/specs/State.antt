@@ -120,6 +120,7 @@ pub data Phase : Type 0 where
 
 -- ---- the whole
 
+-- A simulation between two calls.
 pub record State : Type 0 where
   pub config : SimConfig
   pub limits : Limits
@@ -154,5 +155,6 @@ clientAt s c = getD (s .clients) c (record { target = 0; nextSeq = 0; attempt = 
 abbrev pub idOf : ℕ → NodeId
 idOf slot = record { 0 = slot + 1 }
 
+-- The place of a server.
 abbrev pub slotOf : NodeId → ℕ
 slotOf id = id .0 - 1

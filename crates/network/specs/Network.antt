@@ -139,13 +139,15 @@ unblock n from to = withBlocked n (set (n .blocked) (link from to) false)
 abbrev pub healLinks : Network → Network
 healLinks n = withBlocked n noLinks
 
--- The loss rate, the duplication rate and the delay factor set; a factor of 0 acts as 1 (simulation.rs, apply_fault).
+-- The loss rate set (simulation.rs, apply_fault).
 abbrev pub setLoss : Network → ℕ → Network
 setLoss n rate = withRates n rate (n .«duplicate_ppm») (n .«delay_factor»)
 
+-- The duplication rate set.
 abbrev pub setDuplication : Network → ℕ → Network
 setDuplication n rate = withRates n (n .«loss_ppm») rate (n .«delay_factor»)
 
+-- The delay factor set; 0 acts as 1.
 abbrev pub setDelayFactor : Network → ℕ → Network
 setDelayFactor n factor = withRates n (n .«loss_ppm») (n .«duplicate_ppm») (max factor 1)
 
@@ -167,6 +169,7 @@ unfoldable pub countTrue : List Bool → ℕ
 countTrue [] = 0
 countTrue (b ∷ bs) = pick b 1 0 + countTrue bs
 
+-- The ordered pairs of servers whose link is blocked.
 abbrev pub blockedPairs : Network → ℕ
 blockedPairs n = countTrue (n .blocked)
 

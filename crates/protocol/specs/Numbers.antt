@@ -12,6 +12,7 @@ use Rattle.protocol.specs.declared.Role.the-variants.{Follower, Candidat
 use Rattle.protocol.specs.declared.RoleOption.{RoleOption}
 use Rattle.protocol.specs.declared.RoleOption.the-variants.{None as NoRole, Some as SomeRole}
 
+-- The number of a timer.
 abbrev pub timerNumber : Timer → ℕ
 timerNumber Election = 0
 timerNumber Heartbeat = 1
@@ -24,6 +25,7 @@ timers = Election ∷ Heartbeat ∷ []
 unfoldable pub timerOf : ℕ → TimerOption
 timerOf = kindOf timerNumber SomeTimer NoTimer timers
 
+-- The number of a role.
 abbrev pub roleNumber : Role → ℕ
 roleNumber Follower = 0
 roleNumber Candidate = 1

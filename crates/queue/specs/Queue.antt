@@ -12,9 +12,11 @@ pub record Scheduled : Type 0 where
   pub event : Event
   pub message : List ℕ
 
+-- Events in the order in which they leave.
 abbrev pub Queue : Type 0
 Queue = List Scheduled
 
+-- What events are sorted by.
 abbrev pub timeOf : Scheduled → ℕ
 timeOf s = s .time .0
 
@@ -27,6 +29,7 @@ pub data Popped : Type 0 where
   empty : Popped
   taken : Scheduled → Queue → Popped
 
+-- The first event, and those after it.
 abbrev pub pop : Queue → Popped
 pop [] = empty
 pop (s ∷ q) = taken s q

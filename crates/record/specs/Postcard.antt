@@ -36,6 +36,7 @@ abbrev pub shapeOf : Payload → PayloadShape
 shapeOf noop = Noop
 shapeOf (command bytes) = Command (length bytes)
 
+-- The payload of a shape, its bytes zeros.
 abbrev pub zeros : PayloadShape → Payload
 zeros Noop = noop
 zeros (Command n) = command (replicate n 0)
@@ -49,9 +50,11 @@ commandLength (Command n) = n
 unfoldable pub hardStateRecord : Term → NodeOption → List ℕ
 hardStateRecord term vote = varint 0 ++ (varint (term .0) ++ option vote)
 
+-- A put: 1, the index, the term and the payload.
 unfoldable pub putRecord : LogIndex → Entry → List ℕ
 putRecord index entry = varint 1 ++ (varint (index .0) ++ (varint (entry .term .0) ++ payload (entry .payload)))
 
+-- A truncation: 2 and its first index.
 unfoldable pub truncateRecord : LogIndex → List ℕ
 truncateRecord from = varint 2 ++ varint (from .0)
 
