@@ -5,6 +5,8 @@ use units::LogIndex;
 use units::NodeId;
 use units::NodeOption;
 
+pub mod numbers; // events as numbers
+
 // What happens next. A message's bytes stand beside its event.
 pub enum Event {
     Start {
