@@ -6,6 +6,7 @@ use units::NodeId;
 use units::NodeOption;
 
 pub mod numbers; // events as numbers
+pub mod range; // the ranges of an event
 
 // What happens next. A message's bytes stand beside its event.
 pub enum Event {
