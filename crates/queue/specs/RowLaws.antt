@@ -69,7 +69,7 @@ module _ (S C L M : ℕ) where
     unfolding messageRoom
     short-M = let l : length (x .message) ≤ messageRoom M (x .event) = leb-true _ _ short in le-leb _ M (omega (arith, l, room-upto M (eqb (wordsOf (x .event) .kind) 1)))
 
-    message-good : message M .good (x .message) ≡ true
+    pub message-good : message M .good (x .message) ≡ true
     message-good = and-both _ _ (and-left _ _ (and-right _ _ (and-right _ _ h))) (and-both _ _ short-M (and-right _ _ (and-right _ _ (and-right _ _ (and-right _ _ h)))))
 
     parts-good : parts M .good (partsOf x) ≡ true
@@ -83,7 +83,7 @@ module _ (S C L M : ℕ) where
     parts-tell : partsTell S C L M (partsOf x) ≡ true
     parts-tell = ap (λ o. told S C L M o (length (x .message))) (event-of-words (x .event) (rates-fit (x .event) range)) ∙ and-both _ _ range short
 
-    event-back : scheduledOf (partsOf x) ≡ x
+    pub event-back : scheduledOf (partsOf x) ≡ x
     event-back = ap (λ (e : Event). record { time = x .time; event = e; message = x .message }) (candidate-of-words (x .event) (rates-fit (x .event) range))
 
   module _ (p : Parts) (k : partsTell S C L M p ≡ true) where

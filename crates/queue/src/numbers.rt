@@ -145,7 +145,7 @@ fn arrival(slot: u64, client: u64, seq: u64, attempt: u64) -> Event
 }
 
 // The only event that may have these numbers.
-fn candidate(w: EventWords) -> Event
+pub fn candidate(w: EventWords) -> Event
     ensures { λ r. ⌜ r ≡ candidate w ⌝ }
 {
     let timer = timer_or(protocol::timer_of(w.b));
