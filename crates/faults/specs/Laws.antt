@@ -140,7 +140,7 @@ abbrev pub Others : ℕ → ℕ → Type 0
 Others kind zero = Unit {0}
 Others kind (suc n) = Others kind n × (kind ≡ n → ⊥)
 
-others-above : (kind n : ℕ) → Others kind n → n ≤ kind
+pub others-above : (kind n : ℕ) → Others kind n → n ≤ kind
 others-above kind zero h = omega arith
 others-above kind (suc n) h = omega (arith, others-above kind n (h .0), h .1)
 

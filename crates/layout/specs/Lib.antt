@@ -1,4 +1,5 @@
 pub mod Code
+pub mod Coded
 pub mod Tables
 pub mod Contents
 pub mod Rows

@@ -5,6 +5,10 @@ use units::LogIndex;
 use units::NodeId;
 use units::NodeOption;
 
+pub mod numbers; // events as numbers
+pub mod range; // the ranges of an event
+pub mod table; // the queue as a table
+
 // What happens next. A message's bytes stand beside its event.
 pub enum Event {
     Start {

@@ -1,0 +1,19 @@
+-- Made by tools/uniform from proofs.txt, not by hand: 9aeefe0d5638f994
+use Rattle.queue.specs.TableLaws.{row-put}
+use borrow.Author.Needs.{needs}
+use Rattle.queue.proofs.table.put_row.Statement.{statement}
+use Rattle.queue.proofs.table.put_row.Tie as tie
+
+pub put-row-spec : {M : Type 1} → statement M
+put-row-spec =
+    tie.close
+    (tie.spec
+    (λ c κs. search (row-put, needs))  -- words-of-requires
+    (λ c. search (row-put, needs))  -- slice-aggregate-store-all
+    (λ c κs. search (row-put, needs))  -- store-all-requires
+    (λ c. search (row-put, needs))  -- sub-put-message
+    (λ c. search (row-put, needs))  -- part-put-message-start
+    (λ c. search (row-put, needs))  -- part-put-message-end
+    (λ c κs. search (row-put, needs))  -- put-message-requires
+    (λ c. search (row-put, needs))  -- same-length
+    (λ c. search (row-put, needs)))  -- returns
