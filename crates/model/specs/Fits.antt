@@ -9,7 +9,6 @@ use lib.ListN.{length}
 use Rattle.laws.specs.Bools.{_and_, allb, every}
 use Rattle.laws.specs.Order.{numbers, pairs, rising}
 use Rattle.units.specs.Types.{Payload, noop, command, Entry}
-use Rattle.units.specs.declared.NodeId.{NodeId}
 use Rattle.units.specs.declared.NodeOption.{NodeOption}
 use Rattle.units.specs.declared.NodeOption.the-variants.{None, Some}
 use Rattle.units.specs.declared.Term.{Term}
@@ -17,27 +16,17 @@ use Rattle.config.specs.Limits.{judge, number}
 use Rattle.client.specs.Key.{keyOf}
 use Rattle.client.specs.declared.ClientKey.{ClientKey}
 use Rattle.protocol.specs.declared.Status.{Status}
-use Rattle.faults.specs.Fault.{faultInRange}
 use Rattle.network.specs.Network.{networkInRange}
 use Rattle.metrics.specs.Metrics.{metricsFit}
 use Rattle.storage.specs.Storage.{Disk, Write, writeHardState, writePut, writeTruncate, Storage}
 use Rattle.storage.specs.declared.HardState.{HardState}
-use Rattle.queue.specs.Queue.{Scheduled, Queue}
-use Rattle.queue.specs.declared.Event.{Event}
-use Rattle.queue.specs.declared.Event.the-variants as event
+use Rattle.queue.specs.Queue.{Queue}
+use Rattle.queue.specs.Range.{word, byte, idFits, scheduledFits, inOrder}
 use Rattle.checks.specs.Checks.{Violation, Seen, seenKey, Checker, leaderKey}
 use Rattle.checks.specs.declared.TermLeader.{TermLeader}
 use Rattle.model.specs.State.{State, Server, Client, Outstanding, Reply, Confirmation, direct, fromClient, Input, startInput, messageInput, timerInput, proposeInput, confirmInput, Verdict, accepted, notLeader, Owed, nothing, construction, healing, Phase, closed, writing, sending}
 
 -- ---- numbers
-
--- A number of 64 bits, and one byte.
-abbrev pub word : ℕ → Bool
-word n = ltb n (2 ^ 64)
-
--- One byte.
-abbrev pub byte : ℕ → Bool
-byte n = ltb n 256
 
 -- What an option holds is in range.
 abbrev pub ifSome : {A : Type 0} → (A → Bool) → Option A → Bool
@@ -73,10 +62,6 @@ module _ (s : State) where
   -- A server by its place.
   abbrev pub slotFits : ℕ → Bool
   slotFits slot = ltb slot S
-
-  -- An id in the cluster.
-  abbrev pub idFits : NodeId → Bool
-  idFits id = leb 1 (id .0) and leb (id .0) S
 
   -- A client's number.
   abbrev pub clientFits : ℕ → Bool
@@ -147,51 +132,15 @@ module _ (s : State) where
 
   -- ---- events
 
-  -- An event whose servers and client are in the simulation.
-  abbrev pub eventFits : Event → Bool
-  eventFits (event.Start slot) = slotFits slot
-  eventFits (event.Deliver from to entries) = idFits from and idFits to and ltb entries (2 ^ 32)
-  eventFits (event.Timer slot timer generation) = slotFits slot and word generation
-  eventFits (event.Fault fault) = faultInRange S fault
-  eventFits (event.ClientSend c) = clientFits c
-  eventFits (event.ClientArrive slot c seq attempt) = slotFits slot and clientFits c and word seq and word attempt
-  eventFits (event.ClientRedirect c attempt leader) = clientFits c and word attempt and nodeFits leader
-  eventFits (event.ClientRetry c attempt) = clientFits c and word attempt
-  eventFits (event.ClientReply c seq index) = clientFits c and word seq and leb (index .0) L
-  eventFits (event.ClientTimeout c attempt) = clientFits c and word attempt
-
-  -- Only a delivery has a message.
-  abbrev pub messageRoom : Event → ℕ
-  messageRoom (event.Start slot) = 0
-  messageRoom (event.Deliver from to entries) = s .limits .message
-  messageRoom (event.Timer slot timer generation) = 0
-  messageRoom (event.Fault fault) = 0
-  messageRoom (event.ClientSend c) = 0
-  messageRoom (event.ClientArrive slot c seq attempt) = 0
-  messageRoom (event.ClientRedirect c attempt leader) = 0
-  messageRoom (event.ClientRetry c attempt) = 0
-  messageRoom (event.ClientReply c seq index) = 0
-  messageRoom (event.ClientTimeout c attempt) = 0
-
-  -- A queued event with its time and message.
-  abbrev pub scheduledFits : Scheduled → Bool
-  scheduledFits e = word (e .time .0) and eventFits (e .event) and atMost (messageRoom (e .event)) byte (e .message)
-
-  -- Earlier events stand first.
-  unfoldable pub inOrder : Queue → Bool
-  inOrder [] = true
-  inOrder (e ∷ []) = true
-  inOrder (e ∷ f ∷ q) = leb (e .time .0) (f .time .0) and inOrder (f ∷ q)
-
   -- At most Q events, in order of time.
   abbrev pub queueFits : Queue → Bool
-  queueFits q = atMost (s .limits .events) scheduledFits q and inOrder q
+  queueFits q = atMost (s .limits .events) (scheduledFits S C L (s .limits .message)) q and inOrder q
 
   -- ---- checks and records
 
   -- The leader of a term.
   abbrev pub leaderFits : TermLeader → Bool
-  leaderFits l = word (l .term .0) and idFits (l .server)
+  leaderFits l = word (l .term .0) and idFits S (l .server)
 
   -- An entry seen.
   abbrev pub seenFits : Seen → Bool
