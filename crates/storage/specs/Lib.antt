@@ -1,1 +1,3 @@
 pub mod Storage
+pub mod Waiting
+pub mod WaitingLaws
