@@ -11,7 +11,7 @@ ghost use Rattle.layout.specs.Payload.{payload, message, payloadMarking,
 ghost use Rattle.layout.specs.MarkedCalls.{laid, restOk, Puts, Reads, Copies};
 
 // Writes the number, the bytes of src, and zeros up to the end.
-fn put(s: &mut [u8], mark: u64, src: &[u8])
+pub fn put(s: &mut [u8], mark: u64, src: &[u8])
     requires { ⌜ 8 + length (now src) ≤ length (now s) ⌝ }
     ensures { λ _. ⌜ now (s .exit) ≡ laid mark (now (src .entry)) (length (now (s .entry))) ⌝ }
 {
@@ -23,7 +23,7 @@ fn put(s: &mut [u8], mark: u64, src: &[u8])
 }
 
 // Whether n is at most p, and all bytes after the n that follow the number are zero.
-fn rest_ok(s: &[u8], n: usize, p: usize) -> bool
+pub fn rest_ok(s: &[u8], n: usize, p: usize) -> bool
     requires { ⌜ length (now s) ≡ 8 * (1 + wordsFor p) ⌝ }
     ensures { λ r. ⌜ r ≡ restOk p n (now (s .entry)) ⌝ }
 {

@@ -1,1 +1,5 @@
 pub mod Storage
+pub mod Waiting
+pub mod WaitingLaws
+pub mod Replay
+pub mod ReplayLaws

@@ -1,0 +1,176 @@
+-- What the proofs of waiting.rt cite. Assumes nothing.
+use mathlib.Core.Path.{_≡_, refl, sym, ap, ap₂, _∙_, subst}
+use mathlib.Core.Bool.{Bool, true, false}
+use mathlib.Core.List.{List, [], _∷_, _++_, append-assoc}
+use Prim.Native.Nat.{ℕ, zero, suc, _+_, _-_, _*_, _^_, _≤_, _<_}
+use native.Mathlib.Omega.{arith}
+use lib.Dec.{eqb, leb}
+use lib.ListN.{length, getD, take, drop}
+use lib.Seq.{sets, getD-at, getD-append-add}
+use mir.Syntax.{w64}
+use mir.Val.{Fits}
+use borrow.Author.Tests.{lt-ltb, le-leb, lt-leb}
+use Rattle.laws.specs.Bools.{pick, and-left, and-right, and-both}
+use Rattle.units.specs.Types.{Payload, noop, command, Entry}
+use Rattle.units.specs.declared.Term.{Term}
+use Rattle.units.specs.declared.LogIndex.{LogIndex}
+use Rattle.units.specs.declared.NodeId.{NodeId}
+use Rattle.units.specs.declared.NodeOption.{NodeOption}
+use Rattle.units.specs.declared.NodeOption.the-variants.{None, Some}
+use Rattle.words.specs.Words.{bytes, W, Bytes}
+use Rattle.words.specs.Sets.{sets-append}
+use Rattle.words.specs.Lift.{bytes-append, length-bytes}
+use Rattle.layout.specs.Tables.{Holds, Held, Becomes, Gives, append}
+use Rattle.layout.specs.TableLaws.{row-word, row-held, appends}
+use Rattle.layout.specs.Marked.{wordsFor, Sound, sound, sounds, marked}
+use Rattle.layout.specs.MarkedCalls.{laid, Puts}
+use Rattle.layout.specs.MarkedLaws.{puts}
+use Rattle.layout.specs.Parts.{lentRow, backRow, length-lentRow, row-back}
+use Rattle.storage.specs.declared.HardState.{HardState}
+use Rattle.storage.specs.declared.waiting.Shape.{Shape}
+use Rattle.storage.specs.declared.waiting.Shape.the-variants as Shape
+use Rattle.storage.specs.Storage.{Write, writeHardState, writePut, writeTruncate}
+use Rattle.storage.specs.Waiting.{Kind, hardState, vote, truncate, putNoop, putCommand, markOf, bodyOf, kindMarking, kindOf, firstOf, secondOf, voteKind, voteNumber, payloadKind, plain, two-more, writeCode, waiting, Pushes, entryShape, shapeOf, lengthOf, nothing, shapeAt, shaped, Shaped, Shows}
+
+-- ---- a write after the last
+
+plain-write : (w : Write) → plain (kindOf w) (secondOf w) ≡ true
+plain-write (writeHardState h) = by (h .«voted_for»)
+  where
+    by : (v : NodeOption) → plain (voteKind v) (voteNumber v) ≡ true
+    by None = refl
+    by (Some id) = refl
+plain-write (writePut index e) = by (e .payload)
+  where
+    by : (y : Payload) → plain (payloadKind y) (e .term .0) ≡ true
+    by noop = refl
+    by (command bs) = refl
+plain-write (writeTruncate from) = refl
+
+pub pushed : (p m mark a b : ℕ) (src s ys s′ : List ℕ) → p ≤ 256 → 8 * (m * (3 + wordsFor p) + (3 + wordsFor p)) ≤ length s → length src ≤ p → Fits w64 mark → Fits w64 a → Fits w64 b → Bytes src
+    → ys ≡ laid mark src (length (lentRow (m * (1 + wordsFor p + 2)) (1 + wordsFor p) s))
+    → s′ ≡ sets (backRow (m * (1 + wordsFor p + 2)) (1 + wordsFor p) s ys) (8 * (m * (1 + wordsFor p + 2) + (1 + wordsFor p))) (bytes (a ∷ b ∷ []))
+    → Pushes p m mark src a b s s′
+pushed p m mark a b src s ys s′ q room l fm fa fb B ey es = record { to = to }
+  where
+    at : ℕ
+    at = m * (1 + wordsFor p + 2)
+
+    at-is : m * (1 + wordsFor p + 2) ≡ m * (3 + wordsFor p)
+    at-is = ap (λ (k : ℕ). m * k) (two-more (wordsFor p))
+
+    to : (w : Write) → markOf (kindOf w) ≡ mark → bodyOf (kindOf w) ≡ src → firstOf w ≡ a → secondOf w ≡ b → Becomes (waiting p) m (m + 1) s s′ (append w)
+    to w em eb ea eb₂ =
+        let o : ℕ = m * (1 + wordsFor p + 2) in
+        let c : ℕ = 1 + wordsFor p in
+        let k : Kind = kindOf w in
+        let fits : 8 * (m * (1 + wordsFor p + 2) + (1 + wordsFor p)) ≤ length s = omega (arith, at-is) in
+        let u : Sound kindMarking p k = record { marked = rw em (fm .fits); short = rw eb l; each = λ j. rw eb (B j) } in
+        let h : Holds (marked kindMarking p) ys k = puts kindMarking k (lentRow o c s) ys (ey ∙ ap₂ (λ (x : ℕ) (y : List ℕ). laid x y (length (lentRow o c s))) (sym em) (sym eb)) .to p (length-lentRow o c s fits) (sounds kindMarking p k u) in
+        let n : 8 * o + length (bytes (marked kindMarking p .enc k)) ≡ 8 * (o + c) = omega (arith, length-bytes (marked kindMarking p .enc k), marked kindMarking p .size-enc k (h .good)) in
+        appends (waiting p) m s w s′ room
+        (and-both _ _ (and-both _ _ (h .good) (and-both _ _ (rw ea (lt-ltb a (2 ^ 64) (fa .fits))) (rw eb₂ (lt-ltb b (2 ^ 64) (fb .fits))))) (plain-write w)) (λ x r. refl)
+        (es ∙ ap (λ (v : List ℕ). sets v (8 * (o + c)) (bytes (a ∷ b ∷ []))) (row-back (marked kindMarking p) s ys o k fits h)
+        ∙ sets-append (bytes (marked kindMarking p .enc k)) s (bytes (a ∷ b ∷ [])) (8 * o) (8 * (o + c)) n
+        ∙ ap (sets s (8 * o)) (ap₂ (λ (x y : ℕ). bytes (marked kindMarking p .enc k) ++ bytes (x ∷ y ∷ [])) (sym ea) (sym eb₂) ∙ sym (bytes-append (marked kindMarking p .enc k) (firstOf w ∷ secondOf w ∷ [])))
+        ∙ ap (λ (j : ℕ). sets s (8 * j) (bytes (writeCode p .enc w))) at-is)
+
+module _ (p m : ℕ) (s s′ : List ℕ) where
+  pub pushed-state : (h : HardState) → h .«voted_for» ≡ None → Pushes p m 0 [] (h .term .0) 0 s s′ → Becomes (waiting p) m (m + 1) s s′ (append (writeHardState h))
+  pushed-state h e P =
+      P .to (writeHardState h) (ap (λ (v : NodeOption). markOf (voteKind v)) e) (ap (λ (v : NodeOption). bodyOf (voteKind v)) e) refl (ap voteNumber e)
+
+  pub pushed-vote : (h : HardState) (id : NodeId) → h .«voted_for» ≡ Some id → Pushes p m 1 [] (h .term .0) (id .0) s s′ → Becomes (waiting p) m (m + 1) s s′ (append (writeHardState h))
+  pushed-vote h id e P =
+      P .to (writeHardState h) (ap (λ (v : NodeOption). markOf (voteKind v)) e) (ap (λ (v : NodeOption). bodyOf (voteKind v)) e) refl (ap voteNumber e)
+
+  pub pushed-noop : (index : LogIndex) (term : Term) → Pushes p m 3 [] (index .0) (term .0) s s′ → Becomes (waiting p) m (m + 1) s s′ (append (writePut index (record { term = term; payload = noop })))
+  pushed-noop index term P = P .to (writePut index (record { term = term; payload = noop })) refl refl refl refl
+
+  pub pushed-command : (index : LogIndex) (term : Term) (src : List ℕ) → Pushes p m (4 + length src) src (index .0) (term .0) s s′
+      → Becomes (waiting p) m (m + 1) s s′ (append (writePut index (record { term = term; payload = command src })))
+  pushed-command index term src P = P .to (writePut index (record { term = term; payload = command src })) refl refl refl refl
+
+  pub pushed-truncate : (from : LogIndex) → Pushes p m 2 [] (from .0) 0 s s′ → Becomes (waiting p) m (m + 1) s s′ (append (writeTruncate from))
+  pushed-truncate from P = P .to (writeTruncate from) refl refl refl refl
+
+pub ruleset pushes = (pushed-state, pushed-vote, pushed-noop, pushed-command, pushed-truncate)
+
+-- ---- what a row says
+
+module _ (p m a b : ℕ) where
+  shaped-as : (k : ℕ) (r : Shape) → m ≡ k → r ≡ shaped p k a b → lengthOf r ≤ p → Shaped p m a b r
+  shaped-as k r e f l = record { is = f ∙ ap (λ (j : ℕ). shaped p j a b) (sym e); short = l }
+
+  pub shaped-state : m < 1 → Shaped p m a b (Shape.HardState (record { term = record { 0 = a }; «voted_for» = None }))
+  unfolding shaped
+  shaped-state h = shaped-as 0 _ (omega arith) refl (omega arith)
+
+  pub shaped-vote : 1 ≤ m → m < 2 → Shaped p m a b (Shape.HardState (record { term = record { 0 = a }; «voted_for» = Some (record { 0 = b }) }))
+  unfolding shaped
+  shaped-vote h k = shaped-as (suc zero) _ (omega arith) refl (omega arith)
+
+  pub shaped-truncate : 2 ≤ m → m < 3 → Shaped p m a b (Shape.Truncate (record { 0 = a }))
+  unfolding shaped
+  shaped-truncate h k = shaped-as (suc (suc zero)) _ (omega arith) refl (omega arith)
+
+module _ (p m : ℕ) (index : LogIndex) (term : Term) where
+  pub shaped-noop : 3 ≤ m → m < 4 → Shaped p m (index .0) (term .0) (Shape.PutNoop index term)
+  unfolding shaped
+  shaped-noop h k = shaped-as p m (index .0) (term .0) (suc (suc (suc zero))) (Shape.PutNoop index term) (omega arith) refl (omega arith)
+
+  pub shaped-command : 4 ≤ m → m - 4 ≤ p → Shaped p m (index .0) (term .0) (Shape.PutCommand index term (m - 4))
+  unfolding shaped
+  shaped-command h k =
+      shaped-as p m (index .0) (term .0) (suc (suc (suc (suc (m - 4))))) (Shape.PutCommand index term (m - 4)) (omega arith)
+      (ap (λ (t : Bool). Shape.PutCommand index term (pick t (m - 4) 0)) (sym (le-leb (m - 4) p k))) k
+
+  pub shaped-long : 4 ≤ m → p < m - 4 → Shaped p m (index .0) (term .0) (Shape.PutCommand index term 0)
+  unfolding shaped
+  shaped-long h k =
+      shaped-as p m (index .0) (term .0) (suc (suc (suc (suc (m - 4))))) (Shape.PutCommand index term 0) (omega arith)
+      (ap (λ (t : Bool). Shape.PutCommand index term (pick t (m - 4) 0)) (sym (lt-leb (m - 4) p k))) (omega arith)
+
+pub ruleset shapes = (shaped-state, shaped-vote, shaped-truncate, shaped-noop, shaped-command, shaped-long)
+
+-- ---- write k
+
+shaped-write : (p : ℕ) (w : Write) → writeCode p .good w ≡ true → shaped p (markOf (kindOf w)) (firstOf w) (secondOf w) ≡ shapeOf w
+unfolding shaped
+shaped-write p (writeHardState h) g = by (h .«voted_for»)
+  where
+    by : (v : NodeOption) → shaped p (markOf (voteKind v)) (h .term .0) (voteNumber v) ≡ Shape.HardState (record { term = h .term; «voted_for» = v })
+    by None = refl
+    by (Some id) = refl
+shaped-write p (writePut index e) g = by (e .payload) (sound kindMarking p (payloadKind (e .payload)) (and-left _ _ (and-left _ _ g)))
+  where
+    by : (y : Payload) → Sound kindMarking p (payloadKind y) → shaped p (markOf (payloadKind y)) (index .0) (e .term .0) ≡ entryShape index (e .term) y
+    by noop s = refl
+    by (command bs) s =
+        let f : 4 + length bs ≡ suc (suc (suc (suc (length bs)))) = omega arith in
+        ap (λ (k : ℕ). shaped p k (index .0) (e .term .0)) f ∙ ap (λ (t : Bool). Shape.PutCommand index (e .term) (pick t (length bs) 0)) (le-leb (length bs) p (s .short))
+shaped-write p (writeTruncate from) g = refl
+
+pub shows : (p m k at mark a b : ℕ) (s : List ℕ) (r : Shape) → k < m → at ≡ k * (3 + wordsFor p) → mark ≡ getD (W s) at 0 → a ≡ getD (W s) (at + (3 + wordsFor p) - 2) 0
+    → b ≡ getD (W s) (at + (3 + wordsFor p) - 1) 0 → Shaped p mark a b r
+    → Shows p m k r s
+unfolding shapeAt
+shows p m k at mark a b s r h e em ea eb c = record { is = record { to = λ N ws g. c .is ∙ is g }; short = c .short }
+  where
+    is : {N : ℕ} {ws : List Write} → Held (waiting p) N m s ws → shaped p mark a b ≡ shapeOf (getD ws k nothing)
+    is {N} {ws} g =
+        let w : Write = getD ws k nothing in
+        let d : ℕ = 3 + wordsFor p in
+        let row : List ℕ = marked kindMarking p .enc (kindOf w) in
+        let good : writeCode p .good w ≡ true = row-held g k nothing h .good in
+        let l : length row ≡ 1 + wordsFor p = marked kindMarking p .size-enc (kindOf w) (and-left _ _ (and-left _ _ good)) in
+        let i₀ : at ≡ k * (3 + wordsFor p) + 0 = omega arith in
+        let i₁ : at + (3 + wordsFor p) - 2 ≡ k * (3 + wordsFor p) + (1 + wordsFor p) = omega arith in
+        let i₂ : at + (3 + wordsFor p) - 1 ≡ k * (3 + wordsFor p) + (2 + wordsFor p) = omega arith in
+        let j₂ : 2 + wordsFor p ≡ length row + 1 = omega arith in
+        let m₀ : mark ≡ markOf (kindOf w) = em ∙ ap (λ (j : ℕ). getD (W s) j 0) i₀ ∙ row-word g k 0 nothing h (omega arith) in
+        let m₁ : a ≡ firstOf w = ea ∙ ap (λ (j : ℕ). getD (W s) j 0) i₁ ∙ row-word g k (1 + wordsFor p) nothing h (omega arith) ∙ getD-at row (firstOf w) (secondOf w ∷ []) 0 (1 + wordsFor p) l in
+        let m₂ : b ≡ secondOf w =
+        eb ∙ ap (λ (j : ℕ). getD (W s) j 0) i₂ ∙ row-word g k (2 + wordsFor p) nothing h (omega arith) ∙ ap (λ (j : ℕ). getD (row ++ (firstOf w ∷ secondOf w ∷ [])) j 0) j₂
+        ∙ getD-append-add row (firstOf w ∷ secondOf w ∷ []) 1 0 in
+        ap (λ (j : ℕ). shaped p j a b) m₀ ∙ ap₂ (λ (x y : ℕ). shaped p (markOf (kindOf w)) x y) m₁ m₂ ∙ shaped-write p w good

@@ -1,0 +1,149 @@
+// The writes not yet synced (`pending` of consensus/storage.rs): a table of m rows of 3 + ⌈p/8⌉ words, in write order, where p is the greatest
+// length of a command. A row is a number that says the kind of the write and the length of a command, the command's bytes, padded with
+// zeros, and two numbers: term and vote, index and term, or the index from which a truncation removes. The caller keeps m.
+ghost use mathlib.Core.Path.{_≡_};
+ghost use Prim.Native.Nat.{_+_, _*_, _≤_, _<_};
+ghost use lib.ListN.{length};
+ghost use Rattle.units.specs.Types.{noop, command};
+ghost use Rattle.layout.specs.Tables.{Becomes, append};
+ghost use Rattle.layout.specs.Marked.{wordsFor};
+ghost use Rattle.storage.specs.Storage.{writeHardState, writePut, writeTruncate};
+ghost use Rattle.storage.specs.Waiting.{waiting, Pushes, Shaped, Shows};
+use crate::HardState;
+use layout::marked;
+use layout::rows;
+use units::LogIndex;
+use units::NodeId;
+use units::NodeOption;
+use units::Term;
+
+// A write without the bytes of its command.
+pub enum Shape {
+    HardState(HardState),
+    PutNoop {
+        index: LogIndex,
+        term: Term,
+    },
+    PutCommand {
+        index: LogIndex,
+        term: Term,
+        length: usize,
+    },
+    Truncate(LogIndex),
+}
+
+// ---- a write after the last
+
+// Writes the row of a kind's number, the bytes of src and two numbers.
+fn push(s: &mut [u8], m: usize, p: usize, mark: u64, src: &[u8], a: u64, b: u64)
+    requires { ⌜ (p ≤ 256) × (8 * (m * (3 + wordsFor p) + (3 + wordsFor p)) ≤ length (now s)) × (length (now src) ≤ p) ⌝ }
+    ensures { λ _. ⌜ Pushes p m mark (now (src .entry)) a b (now (s .entry)) (now (s .exit)) ⌝ }
+{
+    let w = 1 + (p + 7) / 8;
+    let at = m * (w + 2);
+    let from = 8 * at;
+    let to = 8 * (at + w);
+    marked::put(&mut s[from..to], mark, src);
+    words::store_all(s, at + w, &[a, b]);
+}
+
+// One more write: the hard state.
+pub fn push_hard_state(s: &mut [u8], m: usize, p: usize, state: HardState)
+    requires { ⌜ (p ≤ 256) × (8 * (m * (3 + wordsFor p) + (3 + wordsFor p)) ≤ length (now s)) ⌝ }
+    ensures { λ _. ⌜ Becomes (waiting p) m (m + 1) (now (s .entry)) (now (s .exit)) (append (writeHardState state)) ⌝ }
+{
+    let term = state.term;
+    let vote = state.voted_for;
+    let none = [0u8; 0];
+    match vote {
+        NodeOption::None => push(s, m, p, 0, &none, term.0, 0),
+        NodeOption::Some(id) => push(s, m, p, 1, &none, term.0, id.0),
+    }
+}
+
+// One more write: a noop put at an index.
+pub fn push_noop(s: &mut [u8], m: usize, p: usize, index: LogIndex, term: Term)
+    requires { ⌜ (p ≤ 256) × (8 * (m * (3 + wordsFor p) + (3 + wordsFor p)) ≤ length (now s)) ⌝ }
+    ensures { λ _. ⌜ Becomes (waiting p) m (m + 1) (now (s .entry)) (now (s .exit)) (append (writePut index (record { term = term; payload = noop }))) ⌝ }
+{
+    let none = [0u8; 0];
+    push(s, m, p, 3, &none, index.0, term.0);
+}
+
+// One more write: a command of the bytes of src put at an index.
+pub fn push_command(s: &mut [u8], m: usize, p: usize, index: LogIndex, term: Term, src: &[u8])
+    requires { ⌜ (p ≤ 256) × (8 * (m * (3 + wordsFor p) + (3 + wordsFor p)) ≤ length (now s)) × (length (now src) ≤ p) ⌝ }
+    ensures { λ _. ⌜ Becomes (waiting p) m (m + 1) (now (s .entry)) (now (s .exit)) (append (writePut index (record { term = term; payload = command (now (src .entry)) }))) ⌝ }
+{
+    push(s, m, p, 4 + src.len() as u64, src, index.0, term.0);
+}
+
+// One more write: a truncation.
+pub fn push_truncate(s: &mut [u8], m: usize, p: usize, from: LogIndex)
+    requires { ⌜ (p ≤ 256) × (8 * (m * (3 + wordsFor p) + (3 + wordsFor p)) ≤ length (now s)) ⌝ }
+    ensures { λ _. ⌜ Becomes (waiting p) m (m + 1) (now (s .entry)) (now (s .exit)) (append (writeTruncate from)) ⌝ }
+{
+    let none = [0u8; 0];
+    push(s, m, p, 2, &none, from.0, 0);
+}
+
+// ---- reading
+
+// What a row says by its numbers.
+fn row_shape(p: usize, mark: u64, a: u64, b: u64) -> Shape
+    ensures { λ r. ⌜ Shaped p mark a b r ⌝ }
+{
+    if mark < 1 {
+        return Shape::HardState(HardState {
+            term: Term(a),
+            voted_for: NodeOption::None,
+        });
+    }
+    if mark < 2 {
+        return Shape::HardState(HardState {
+            term: Term(a),
+            voted_for: NodeOption::Some(NodeId(b)),
+        });
+    }
+    if mark < 3 {
+        return Shape::Truncate(LogIndex(a));
+    }
+    put_shape(p, mark, LogIndex(a), Term(b))
+}
+
+// What a row says that is a put.
+fn put_shape(p: usize, mark: u64, index: LogIndex, term: Term) -> Shape
+    requires { ⌜ 3 ≤ mark ⌝ }
+    ensures { λ r. ⌜ Shaped p mark (index .0) (term .0) r ⌝ }
+{
+    if mark < 4 {
+        return Shape::PutNoop { index, term };
+    }
+    let k = (mark - 4) as usize;
+    if k <= p {
+        Shape::PutCommand {
+            index,
+            term,
+            length: k,
+        }
+    } else {
+        Shape::PutCommand {
+            index,
+            term,
+            length: 0,
+        }
+    }
+}
+
+// Write k, without the bytes of its command.
+pub fn write_at(s: &[u8], m: usize, p: usize, k: usize) -> Shape
+    requires { ⌜ (k < m) × (p ≤ 256) × (8 * (m * (3 + wordsFor p)) ≤ length (now s)) ⌝ }
+    ensures { λ r. ⌜ Shows p m k r (now (s .entry)) ⌝ }
+{
+    let w = 3 + (p + 7) / 8;
+    let at = rows::start_of(k, m, w);
+    let mark = words::load(s, at);
+    let a = words::load(s, at + w - 2);
+    let b = words::load(s, at + w - 1);
+    row_shape(p, mark, a, b)
+}
