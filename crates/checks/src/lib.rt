@@ -11,6 +11,8 @@ use units::NodeId;
 use units::NodeOption;
 use units::Term;
 
+pub mod violations; // violations reported: a table of the first 32
+
 // The properties the simulator checks.
 pub enum Check {
     // At most one leader per term.
