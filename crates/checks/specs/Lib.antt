@@ -6,3 +6,5 @@ pub mod Reports
 pub mod UpTo
 pub mod Violations
 pub mod ViolationLaws
+pub mod Leaders
+pub mod LeaderLaws

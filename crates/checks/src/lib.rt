@@ -11,6 +11,7 @@ use units::NodeId;
 use units::NodeOption;
 use units::Term;
 
+pub mod leaders; // the leader of each term: a table sorted by term
 pub mod violations; // violations reported: a table of the first 32
 
 // The properties the simulator checks.
