@@ -3,7 +3,7 @@ use mathlib.Core.Path.{_≡_, refl, sym, ap, _∙_, subst}
 use mathlib.Core.Bool.{Bool, true, false, not}
 use mathlib.Core.List.{List, [], _∷_, map}
 use mathlib.Core.Option.{Option, none, some}
-use Prim.Native.Nat.{ℕ, _+_, _*_, _^_, _≤_, _<_}
+use Prim.Native.Nat.{ℕ, _+_, _-_, _*_, _^_, _≤_, _<_}
 use native.Mathlib.Omega.{arith}
 use lib.Dec.{leb, eqb}
 use lib.ListN.{length, getD, drop}
@@ -12,6 +12,7 @@ use mir.Syntax.{w64}
 use mir.Val.{Fits}
 use borrow.Author.Tests.{lt-ltb, le-leb, lt-leb, eq-eqb, ne-eqb}
 use Rattle.laws.specs.Bools.{_and_, and-both, and-no, no-and}
+use Rattle.laws.specs.Decides.{false-true}
 use Rattle.laws.specs.Order.{numbers, rising, lookup, insertBy}
 use Rattle.words.specs.Words.{bytes, W}
 use Rattle.units.specs.declared.NodeId.{NodeId}
@@ -21,12 +22,12 @@ use Rattle.layout.specs.declared.rows.Found.{Found}
 use Rattle.layout.specs.declared.rows.Found.the-variants.{At, Absent}
 use Rattle.layout.specs.Code.{okN}
 use Rattle.layout.specs.Tables.{Held, opened, rowsIn}
-use Rattle.layout.specs.TableLaws.{rows-are, row-parsed, Rowed, rowed-start, rowed-turn, rowed-fail, rowed-done}
+use Rattle.layout.specs.TableLaws.{rows-are, held-length, row-parsed, Rowed, rowed-start, rowed-turn, rowed-fail, rowed-done}
 use Rattle.layout.specs.Order.{find, one, heads}
 use Rattle.layout.specs.RowLaws.{heads-are}
 use Rattle.layout.specs.SortedTables.{Keyed, keyed-insert, found-inside, found-row, found-none}
 use Rattle.checks.specs.declared.TermLeader.{TermLeader}
-use Rattle.checks.specs.declared.leaders.LeaderSeen.the-variants.{Same, Other, Inserted}
+use Rattle.checks.specs.declared.leaders.LeaderSeen.the-variants.{Same, Other, Inserted, Full}
 use Rattle.checks.specs.Checks.{Checker, leaderKey, compareLeader, report, withLeaders}
 use Rattle.checks.specs.Leaders.{leaderRow, leaders, afterLeader, LeaderCompared, ComparesLeader}
 
@@ -63,7 +64,7 @@ module _ (n : ℕ) (b : List ℕ) (server : NodeId) (term : Term) (f : Found) (e
       to = λ S p₁ p₂ N c time h.
           let g : eqb (row .server .0) (server .0) ≡ true = eq-eqb _ _ (row-server ∙ q) in
           let k : compareLeader (lookup numbers leaderKey (term .0) (c .leaders)) c time server term ≡ c = rw (there S N (c .leaders) h, g) in
-          record { is = k; held = rw k h };
+          record { is = k; held = λ _. h; kept = λ _. refl; full = λ q. absurd (false-true q) };
     }
 
     pub leader-other : (first ≡ server .0 → ⊥) → ComparesLeader server term n (Other (record { 0 = first })) b b
@@ -73,27 +74,35 @@ module _ (n : ℕ) (b : List ℕ) (server : NodeId) (term : Term) (f : Found) (e
           let g : eqb (row .server .0) (server .0) ≡ false = ne-eqb _ _ (λ d. q (sym row-server ∙ d)) in
           let k : compareLeader (lookup numbers leaderKey (term .0) (c .leaders)) c time server term ≡ afterLeader (Other (record { 0 = first })) c time server term =
           rw (there S N (c .leaders) h, g, row-server) in
-          record { is = k; held = rw k h };
+          record { is = k; held = λ _. h; kept = λ _. refl; full = λ q. absurd (false-true q) };
     }
 
-  pub leader-new : (at : ℕ) (b₁ b₂ : List ℕ) → 8 * (n * 2 + 2) ≤ length b → Fits w64 (term .0) → Fits w64 (server .0) → f ≡ Absent i → at ≡ i * 2
-      → b₁ ≡ opened 2 n i b → b₂ ≡ sets b₁ (8 * at) (bytes (term .0 ∷ server .0 ∷ []))
-      → ComparesLeader server term n (Inserted (n + 1)) b b₂
-  leader-new at b₁ b₂ r p q t a e₁ e₂ = record {
-    to = λ S p₁ p₂ N c time h.
-        let l : TermLeader = record { term = term; server = server } in
-        let k : compareLeader (lookup numbers leaderKey (term .0) (c .leaders)) c time server term ≡ withLeaders c (insertBy numbers leaderKey l (c .leaders)) =
-        rw (ap (lookup numbers leaderKey (term .0)) (sym (rows-are h)) ∙ found-none numbers (term .0) one (leaders S .row) leaderKey n b f i leader-read e t) in
-        record {
-          is = k;
-          held = rw k
-              (keyed-insert (keyed S) n b l f e i b₁ b₂ r
-              (and-both _ _ (and-both _ _ (lt-ltb (term .0) (2 ^ 64) (p .fits)) (lt-ltb (server .0) (2 ^ 64) (q .fits))) (and-both _ _ (le-leb 1 (server .0) p₁) (le-leb (server .0) S p₂))) t e₁
-              (e₂ ∙ ap (λ (j : ℕ). sets b₁ (8 * j) (bytes (term .0 ∷ server .0 ∷ []))) a) .to N (c .leaders) h);
-        };
-  }
+  module _ (t : f ≡ Absent i) where
+    new : (S N : ℕ) (c : Checker) (time : SimTime) → Held (leaders S) N n b (c .leaders)
+        → compareLeader (lookup numbers leaderKey (term .0) (c .leaders)) c time server term ≡ withLeaders c (insertBy numbers leaderKey (record { term = term; server = server }) (c .leaders))
+    new S N c time h = rw (ap (lookup numbers leaderKey (term .0)) (sym (rows-are h)) ∙ found-none numbers (term .0) one (leaders S .row) leaderKey n b f i leader-read e t)
 
-pub ruleset leader-calls = (leader-same, leader-other, leader-new)
+    pub leader-full : length b - 8 * (n * 2) < 16 → ComparesLeader server term n Full b b
+    leader-full l = record {
+      to = λ S p₁ p₂ N c time h. record { is = new S N c time h; held = λ q. absurd (false-true (sym q)); kept = λ _. refl; full = λ _. omega (arith, held-length h) };
+    }
+
+    pub leader-new : (at : ℕ) (b₁ b₂ : List ℕ) → 8 * (n * 2) ≤ length b → 16 ≤ length b - 8 * (n * 2) → Fits w64 (term .0) → Fits w64 (server .0) → at ≡ i * 2
+        → b₁ ≡ opened 2 n i b → b₂ ≡ sets b₁ (8 * at) (bytes (term .0 ∷ server .0 ∷ []))
+        → ComparesLeader server term n (Inserted (n + 1)) b b₂
+    leader-new at b₁ b₂ r l p q a e₁ e₂ = record {
+      to = λ S p₁ p₂ N c time h. record {
+        is = new S N c time h;
+        held = λ _.
+            keyed-insert (keyed S) n b (record { term = term; server = server }) f e i b₁ b₂ (omega arith)
+            (and-both _ _ (and-both _ _ (lt-ltb (term .0) (2 ^ 64) (p .fits)) (lt-ltb (server .0) (2 ^ 64) (q .fits))) (and-both _ _ (le-leb 1 (server .0) p₁) (le-leb (server .0) S p₂))) t e₁
+            (e₂ ∙ ap (λ (j : ℕ). sets b₁ (8 * j) (bytes (term .0 ∷ server .0 ∷ []))) a) .to N (c .leaders) h;
+        kept = λ q. absurd (false-true q);
+        full = λ q. absurd (false-true q);
+      };
+    }
+
+pub ruleset leader-calls = (leader-same, leader-other, leader-full, leader-new)
 
 -- ---- the test of each row
 

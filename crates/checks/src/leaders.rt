@@ -13,16 +13,18 @@ use layout::rows::Found;
 use units::NodeId;
 use units::Term;
 
-// A leader against the first of its term: the same server; another, which breaks election safety; or none, and it is the first now, with the new count.
+// A leader against the first of its term: the same server; another, which breaks election safety; or none, and it is the first now, with
+// the new count; or none, and there is no room for one.
 pub enum LeaderSeen {
     Same,
     Other(NodeId),
     Inserted(usize),
+    Full,
 }
 
 // Compares a server that leads a term with the first seen to lead it (on_status), or keeps it as the first.
 pub fn compare(s: &mut [u8], n: usize, server: NodeId, term: Term) -> LeaderSeen
-    requires { ⌜ 8 * (n * 2 + 2) ≤ length (now s) ⌝ }
+    requires { ⌜ 8 * (n * 2) ≤ length (now s) ⌝ }
     ensures { λ r. ⌜ ComparesLeader server term n r (now (s .entry)) (now (s .exit)) ⌝ }
 {
     let f = rows::find1(s, n, 2, term.0);
@@ -37,6 +39,9 @@ pub fn compare(s: &mut [u8], n: usize, server: NodeId, term: Term) -> LeaderSeen
             }
         }
         Found::Absent(i) => {
+            if s.len() - 8 * (n * 2) < 16 {
+                return LeaderSeen::Full;
+            }
             let at = rows::start(i, n, 2);
             rows::open_row(s, n, i, 2);
             words::store_all(s, at, &[term.0, server.0]);
