@@ -8,3 +8,5 @@ pub mod Violations
 pub mod ViolationLaws
 pub mod Leaders
 pub mod LeaderLaws
+pub mod Entries
+pub mod EntryLaws
