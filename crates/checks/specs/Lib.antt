@@ -3,3 +3,10 @@ pub mod Leader
 pub mod Laws
 pub mod Chosen
 pub mod Reports
+pub mod UpTo
+pub mod Violations
+pub mod ViolationLaws
+pub mod Leaders
+pub mod LeaderLaws
+pub mod Entries
+pub mod EntryLaws

@@ -11,6 +11,10 @@ use units::NodeId;
 use units::NodeOption;
 use units::Term;
 
+pub mod leaders; // the leader of each term: a table sorted by term
+pub mod entries; // the first payload under each index and term: a table sorted by both
+pub mod violations; // violations reported: a table of the first 32
+
 // The properties the simulator checks.
 pub enum Check {
     // At most one leader per term.

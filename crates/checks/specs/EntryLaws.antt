@@ -1,0 +1,176 @@
+-- What the proofs of entries.rt cite. Assumes nothing.
+use mathlib.Core.Path.{_≡_, refl, sym, ap, ap₂, _∙_, subst}
+use mathlib.Core.Bool.{Bool, true, false, not}
+use mathlib.Core.List.{List, [], _∷_, _++_, map}
+use mathlib.Core.Option.{Option, none, some}
+use Prim.Native.Nat.{ℕ, _+_, _-_, _*_, _^_, _≤_, _<_}
+use native.Mathlib.Omega.{arith}
+use lib.ListN.{length, getD, take, drop, length-drop}
+use lib.Seq.{sets, getD-drop, drop-drop, drop-at, take-all}
+use mir.Syntax.{w64}
+use mir.Val.{Fits}
+use borrow.Author.Tests.{lt-ltb, not-true, not-false}
+use Rattle.laws.specs.Bools.{_and_, and-left, and-right, and-both, and-no}
+use Rattle.laws.specs.Decides.{Decides, false-true}
+use Rattle.laws.specs.Order.{pairs, rising, lookup}
+use Rattle.words.specs.Words.{bytes, W, Bytes}
+use Rattle.words.specs.Sets.{sets-append, part-part}
+use Rattle.words.specs.Numbers.{each-drop}
+use Rattle.words.specs.Lift.{length-bytes, bytes-append, length-W, W-fit, W-part}
+use Rattle.units.specs.Types.{Payload, noop, Entry, samePayload}
+use Rattle.units.specs.declared.NodeId.{NodeId}
+use Rattle.units.specs.declared.Term.{Term}
+use Rattle.units.specs.declared.LogIndex.{LogIndex}
+use Rattle.units.specs.declared.SimTime.{SimTime}
+use Rattle.layout.specs.declared.rows.Found.{Found}
+use Rattle.layout.specs.declared.rows.Found.the-variants.{At, Absent}
+use Rattle.layout.specs.Code.{Code, word, pair, okN}
+use Rattle.layout.specs.Tables.{Holds, Held, opened, rowsIn}
+use Rattle.layout.specs.Contents.{holds-length, ok-prefix}
+use Rattle.layout.specs.Rows.{row-end}
+use Rattle.layout.specs.TableLaws.{rows-are, row-held, held-length, Rowed, rowed-start, rowed-turn, rowed-fail, rowed-done}
+use Rattle.layout.specs.Order.{find, two, heads}
+use Rattle.layout.specs.RowLaws.{heads-are}
+use Rattle.layout.specs.SortedTables.{Keyed, keyed-insert, found-inside, found-row, found-none}
+use Rattle.layout.specs.Marked.{wordsFor}
+use Rattle.layout.specs.Payload.{payload}
+use Rattle.layout.specs.MarkedLaws.{payloads-same}
+use Rattle.checks.specs.declared.entries.EntrySeen.the-variants.{Same, Other, Inserted, Full}
+use Rattle.checks.specs.Checks.{Checker, Seen, seenKey, compareSeen, report}
+use Rattle.checks.specs.Entries.{seenParts, toParts, seenRow, seen, withSeen, afterSeen, ComparesSeen}
+
+-- ---- the second of two parts of a row
+
+-- what is lent of it, and its test
+pub part-held : {A B : Type 0} (c : Code A) (d : Code B) (b : List ℕ) (at e : ℕ) (x : A) (y : B) → e ≡ at + (c .size + d .size) → Holds (pair c d) (take (8 * (c .size + d .size)) (drop (8 * at) b)) (x, y)
+    → Holds d (take (8 * e - 8 * (at + c .size)) (drop (8 * (at + c .size)) b)) y
+part-held c d b at e x y q h =
+    let m : ℕ = 8 * e - 8 * (at + c .size) in
+    let lc : length (c .enc x) ≡ c .size = c .size-enc x (and-left _ _ (h .good)) in
+    let ld : length (d .enc y) ≡ d .size = d .size-enc y (and-right _ _ (h .good)) in
+    let o : 8 * at + 8 * c .size ≡ 8 * (at + c .size) = omega arith in
+    record {
+      good = and-right _ _ (h .good);
+      is = ap (λ (j : ℕ). take m (drop j b)) (sym o)
+          ∙ sym (part-part b (8 * at) (8 * (c .size + d .size)) (8 * c .size) m (omega arith))
+          ∙ ap (λ (l : List ℕ). take m (drop (8 * c .size) l)) (h .is ∙ bytes-append (c .enc x) (d .enc y))
+          ∙ ap (take m) (drop-at (bytes (c .enc x)) (bytes (d .enc y)) (8 * c .size) (length-bytes (c .enc x) ∙ ap (λ (j : ℕ). 8 * j) lc))
+          ∙ take-all m (bytes (d .enc y)) (omega (arith, length-bytes (d .enc y)));
+    }
+
+pub part-ok : {T : Type 0} (d : Code T) (s : List ℕ) (a e : ℕ) → Bytes s → e ≡ a + d .size → 8 * e ≤ length s → d .ok (W (take (8 * e - 8 * a) (drop (8 * a) s))) ≡ d .ok (drop a (W s))
+part-ok d s a e B q r =
+    let w : e - a ≡ d .size = omega arith in
+    ap (d .ok) (W-part s a e B (omega arith) r ∙ ap (λ (j : ℕ). take j (drop a (W s))) w)
+    ∙ ok-prefix d (drop a (W s)) (each-drop a (W s) (W-fit s B)) (omega (arith, length-drop a (W s), length-W s))
+
+-- ---- the key of a row is its first two words
+
+pub seen-read : (p : ℕ) (ws : List ℕ) → two ws ≡ seenKey (seenRow p .parse ws)
+unfolding two
+seen-read p ws = simp getD-drop
+
+keyed : (p : ℕ) → Keyed (seen p) pairs seenKey two
+keyed p = record { rule = λ x. refl; read = seen-read p }
+
+-- any row, for `getD`
+abbrev pub noSeen : Seen
+noSeen = record { index = record { 0 = 0 }; term = record { 0 = 0 }; payload = noop }
+
+abbrev w : ℕ → ℕ
+w p = 3 + wordsFor p
+
+-- ---- an entry compared: f is what the search said
+
+module _ (p n : ℕ) (b content : List ℕ) (index : LogIndex) (term : Term) (f : Found) (e : f ≡ find pairs (index .0, term .0) (heads two (3 + wordsFor p) n (W b))) (i : ℕ) where
+  module _ (t : f ≡ At i) (at : ℕ) (a : at ≡ i * (3 + wordsFor p)) (q : Bool)
+      (d : Decides q (take (8 * (at + (3 + wordsFor p)) - 8 * (at + 2)) (drop (8 * (at + 2)) b) ≡ content)) where
+    there : (N : ℕ) (x : List Seen) → Held (seen p) N n b x → lookup pairs seenKey (index .0, term .0) x ≡ some (getD x i noSeen)
+    there N x h =
+        ap (lookup pairs seenKey (index .0, term .0)) (sym (rows-are h)) ∙ found-row pairs (index .0, term .0) two (seenRow p) seenKey n b f i (seen-read p) e noSeen t
+        ∙ ap (λ (y : List Seen). some (getD y i noSeen)) (rows-are h)
+
+    same : (N : ℕ) (x : List Seen) (y : Payload) → Holds (payload p) content y → Held (seen p) N n b x → samePayload (getD x i noSeen .payload) y ≡ q
+    same N x y k h =
+        let s : Seen = getD x i noSeen in
+        let g = row-held h i noSeen (found-inside pairs (index .0, term .0) two (w p) n (W b) f i e t) in
+        let z : 8 * w p ≡ 8 * (2 + (1 + wordsFor p)) = omega arith in
+        let is : take (8 * (2 + (1 + wordsFor p))) (drop (8 * at) b) ≡ bytes (seenParts p .enc (toParts s)) =
+        ap₂ (λ (j : ℕ) (m : ℕ). take j (drop (8 * m) b)) (sym z) a ∙ g .is in
+        let u : Holds (seenParts p) (take (8 * (2 + (1 + wordsFor p))) (drop (8 * at) b)) (toParts s) = record { good = g .good; is = is } in
+        sym (payloads-same p _ content (s .payload) y q (part-held (pair word word) (payload p) b at (at + w p) (toParts s .0) (s .payload) (omega arith) u) k d)
+
+    pub entry-same : q ≡ true → ComparesSeen p index term content n Same b b
+    entry-same g = record {
+      to = λ N c time server x k h. record {
+        is = rw (there N (c .entries) h, same N (c .entries) x k h ∙ g);
+        held = λ _. h;
+        kept = λ _. refl;
+        full = λ y. absurd (false-true y);
+      };
+    }
+
+    pub entry-other : q ≡ false → ComparesSeen p index term content n Other b b
+    unfolding report
+    entry-other g = record {
+      to = λ N c time server x k h. record {
+        is = rw (there N (c .entries) h, same N (c .entries) x k h ∙ g);
+        held = λ _. h;
+        kept = λ _. refl;
+        full = λ y. absurd (false-true y);
+      };
+    }
+
+  module _ (t : f ≡ Absent i) where
+    new : (N : ℕ) (c : Checker) (time : SimTime) (server : NodeId) (x : Payload) → Held (seen p) N n b (c .entries)
+        → compareSeen (lookup pairs seenKey (index .0, term .0) (c .entries)) c time server index (record { term = term; payload = x }) ≡ withSeen c index (record { term = term; payload = x })
+    new N c time server x h = rw (ap (lookup pairs seenKey (index .0, term .0)) (sym (rows-are h)) ∙ found-none pairs (index .0, term .0) two (seenRow p) seenKey n b f i (seen-read p) e t)
+
+    pub entry-full : length b - 8 * (n * (3 + wordsFor p)) < 8 * (3 + wordsFor p) → ComparesSeen p index term content n Full b b
+    entry-full l = record {
+      to = λ N c time server x k h. record { is = new N c time server x h; held = λ y. absurd (false-true (sym y)); kept = λ _. refl; full = λ _. omega (arith, held-length h) };
+    }
+
+    pub entry-new : (at : ℕ) (b₁ b₂ b₃ : List ℕ) → 8 * (n * (3 + wordsFor p)) ≤ length b → 8 * (3 + wordsFor p) ≤ length b - 8 * (n * (3 + wordsFor p)) → Fits w64 (index .0) → Fits w64 (term .0) → at ≡ i * (3 + wordsFor p)
+        → b₁ ≡ opened (3 + wordsFor p) n i b → b₂ ≡ sets b₁ (8 * at) (bytes (index .0 ∷ term .0 ∷ [])) → b₃ ≡ sets b₂ (8 * (at + 2)) content
+        → ComparesSeen p index term content n (Inserted (n + 1)) b b₃
+    entry-new at b₁ b₂ b₃ r l fi ft a e₁ e₂ e₃ = record {
+      to = λ N c time server x k h.
+          let hs : List ℕ = index .0 ∷ term .0 ∷ [] in
+          let s : Seen = record { index = index; term = term; payload = x } in
+          let z : b₃ ≡ sets b₁ (8 * (i * w p)) (bytes (seenRow p .enc s)) =
+          e₃ ∙ ap₂ (λ (u v : List ℕ). sets u (8 * (at + 2)) v) e₂ (k .is) ∙ sets-append (bytes hs) b₁ (bytes (payload p .enc x)) (8 * at) (8 * (at + 2)) (omega (arith, length-bytes hs))
+          ∙ ap₂ (λ (j : ℕ) (u : List ℕ). sets b₁ (8 * j) u) a (sym (bytes-append hs (payload p .enc x))) in
+          record {
+            is = new N c time server x h;
+            held = λ _.
+                keyed-insert (keyed p) n b s f e i b₁ b₃ (omega arith)
+                (and-both _ _ (and-both _ _ (lt-ltb (index .0) (2 ^ 64) (fi .fits)) (lt-ltb (term .0) (2 ^ 64) (ft .fits))) (k .good)) t e₁ z .to N (c .entries) h;
+            kept = λ y. absurd (false-true y);
+            full = λ y. absurd (false-true y);
+          };
+    }
+
+pub ruleset entry-calls = (entry-same, entry-other, entry-full, entry-new)
+
+-- ---- the test of each row: its payload's
+
+module _ (p n : ℕ) (s : List ℕ) (i : ℕ) (r : Rowed (seenRow p) n (W s) i) (h : i < n) (B : Bytes s) (at : ℕ) (a : at ≡ i * (3 + wordsFor p)) (m : 8 * (n * (3 + wordsFor p)) ≤ length s) (q : Bool)
+    (t : q ≡ payload p .ok (W (take (8 * (at + (3 + wordsFor p)) - 8 * (at + 2)) (drop (8 * (at + 2)) s)))) where
+  payload-at : payload p .ok (drop 2 (drop (i * w p) (W s))) ≡ q
+  payload-at =
+      ap (λ (j : ℕ). payload p .ok (drop 2 (drop j (W s)))) (sym a) ∙ ap (payload p .ok) (drop-drop 2 at (W s))
+      ∙ sym (t ∙ part-ok (payload p) s (at + 2) (at + w p) B (omega arith) (omega (arith, row-end i n (w p) h)))
+
+  pub entry-fine : not q ≡ false → Rowed (seenRow p) n (W s) (i + 1)
+  entry-fine f = rowed-turn (seenRow p) n (W s) i r h (and-both _ _ (and-both _ _ refl refl) (payload-at ∙ not-false q f))
+
+  pub entry-fails : not q ≡ true → false ≡ okN (seenRow p) n (W s)
+  entry-fails f = rowed-fail (seenRow p) n (W s) i r h (and-no _ _ (payload-at ∙ not-true q f))
+
+pub ruleset entry-rows = (rowed-start, entry-fine, entry-fails, rowed-done)
+
+-- ---- check: the order of the words is that of the rows
+
+pub entries-rising : (p n : ℕ) (b : List ℕ) (r : Bool) → r ≡ rising pairs (heads two (3 + wordsFor p) n (W b)) → r ≡ seen p .rule (rowsIn (seen p .row) n b)
+entries-rising p n b r e = e ∙ ap (rising pairs) (heads-are (seenRow p) two seenKey (seen-read p) n b)

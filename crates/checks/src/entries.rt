@@ -1,0 +1,97 @@
+// The first payload written under each index and term (`entries` of checks.rs): rows of 3 + ⌈p/8⌉ words, the index, the term and the payload,
+// rising by index and term, where p is the greatest length of a command. The caller keeps the count n; a function that changes it answers the new one.
+ghost use mathlib.Core.Path.{_≡_};
+ghost use Prim.Native.Nat.{_+_, _*_, _≤_};
+ghost use lib.ListN.{length};
+ghost use Rattle.laws.specs.Decides.{Decides};
+ghost use Rattle.words.specs.Words.{W};
+ghost use Rattle.layout.specs.Code.{okN};
+ghost use Rattle.layout.specs.Tables.{Tabled};
+ghost use Rattle.layout.specs.Marked.{wordsFor};
+ghost use Rattle.checks.specs.Entries.{seenRow, seen, ComparesSeen};
+use layout::marked;
+use layout::rows;
+use layout::rows::Found;
+use units::LogIndex;
+use units::Term;
+
+// An entry against the first seen under its index and term: the same payload; another, which breaks unique entries; or none, and it is the
+// first now, with the new count; or none, and there is no room for one.
+pub enum EntrySeen {
+    Same,
+    Other,
+    Inserted(usize),
+    Full,
+}
+
+// Compares an entry with the first seen under its index and term (on_write), or keeps it as the first. Its payload is lent in words.
+pub fn compare(
+    s: &mut [u8],
+    n: usize,
+    p: usize,
+    index: LogIndex,
+    term: Term,
+    content: &[u8],
+) -> EntrySeen
+    requires { ⌜ (p ≤ 256) × (8 * (n * (3 + wordsFor p)) ≤ length (now s)) × (length (now content) ≡ 8 * (1 + wordsFor p)) ⌝ }
+    ensures { λ r. ⌜ ComparesSeen p index term (now (content .entry)) n r (now (s .entry)) (now (s .exit)) ⌝ }
+{
+    let w = 3 + (p + 7) / 8;
+    let f = rows::find2(s, n, w, index.0, term.0);
+    match f {
+        Found::At(i) => {
+            let at = rows::start_of(i, n, w);
+            let a = 8 * (at + 2);
+            let e = 8 * (at + w);
+            if words::equal(&s[a..e], content) {
+                EntrySeen::Same
+            } else {
+                EntrySeen::Other
+            }
+        }
+        Found::Absent(i) => {
+            if s.len() - 8 * (n * w) < 8 * w {
+                return EntrySeen::Full;
+            }
+            let at = rows::start(i, n, w);
+            rows::open_row(s, n, i, w);
+            words::store_all(s, at, &[index.0, term.0]);
+            words::copy_from(s, 8 * (at + 2), content);
+            EntrySeen::Inserted(n + 1)
+        }
+    }
+}
+
+// Whether each row has a payload of up to p bytes.
+fn payloads(s: &[u8], n: usize, p: usize) -> bool
+    requires { ⌜ (p ≤ 256) × (8 * (n * (3 + wordsFor p)) ≤ length (now s)) ⌝ }
+    ensures { λ r. ⌜ r ≡ okN (seenRow p) n (W (now (s .entry))) ⌝ }
+{
+    let w = 3 + (p + 7) / 8;
+    let mut i = 0;
+    while i < n {
+        let at = rows::start_of(i, n, w);
+        let a = 8 * (at + 2);
+        let e = 8 * (at + w);
+        if !marked::check_payload(&s[a..e], p) {
+            return false;
+        }
+        i += 1;
+    }
+    true
+}
+
+// Whether the bytes are a table of n entries with payloads of up to p bytes.
+pub fn check(s: &[u8], n: usize, p: usize) -> bool
+    requires { ⌜ p ≤ 256 ⌝ }
+    ensures { λ r. ⌜ Decides r (Tabled (seen p) n (now (s .entry))) ⌝ }
+{
+    let w = 3 + (p + 7) / 8;
+    if !rows::padding(s, n, w) {
+        return false;
+    }
+    if !payloads(s, n, p) {
+        return false;
+    }
+    rows::rising2(s, n, w)
+}
