@@ -1,7 +1,10 @@
 // Document 01's cases, each computed by the code and compared with what it must be.
 ghost use Prim.Native.Nat.{_≤_};
+ghost use lib.ListN.{length};
 use libc::STDOUT_FILENO;
 use network::Network;
+use queue::Event;
+use queue::table;
 use record::PayloadShape;
 use rng::Rng;
 use seeds::Stream;
@@ -9,6 +12,7 @@ use units::Duration;
 use units::LogIndex;
 use units::NodeId;
 use units::NodeOption;
+use units::SimTime;
 use units::Term;
 
 // Writes that a case holds, or that it does not.
@@ -40,6 +44,46 @@ fn blocked_pairs(n: Network) -> u64 {
     pairs
 }
 
+// Puts at 1 and 3 leave one gap; a truncation from 2 removes one entry and leaves none. The bytes are a log of four places.
+fn gaps_close(s: &mut [u8]) -> bool {
+    if s.len() != 128 {
+        return false;
+    }
+    log::clear(s, 4, 12);
+    log::put_noop(s, 4, 12, LogIndex(1), Term(1));
+    log::put_noop(s, 4, 12, LogIndex(3), Term(1));
+    let before = log::gaps(s, 4, 12);
+    let removed = log::truncate(s, 4, 12, LogIndex(2));
+    (before == 1) & (removed == 1) & (log::gaps(s, 4, 12) == 0)
+}
+
+// The client of the earliest event.
+fn earliest_client(s: &[u8]) -> u64
+    requires { ⌜ 56 ≤ length (now s) ⌝ }
+{
+    let first = table::first(s);
+    let event = first.event;
+    match event {
+        Event::ClientSend { client } => client,
+        _ => 0,
+    }
+}
+
+// Events of clients 1, 2 and 3 pushed at 5, 3 and 5 leave as 2, 1, 3. The bytes are a queue of three places.
+fn earliest_first(s: &mut [u8]) -> bool {
+    if s.len() != 168 {
+        return false;
+    }
+    table::push(s, 0, 0, SimTime(5), Event::ClientSend { client: 1 }, b"");
+    table::push(s, 1, 0, SimTime(3), Event::ClientSend { client: 2 }, b"");
+    table::push(s, 2, 0, SimTime(5), Event::ClientSend { client: 3 }, b"");
+    let first = earliest_client(s);
+    table::remove_first(s, 3, 0);
+    let second = earliest_client(s);
+    table::remove_first(s, 2, 0);
+    (first == 2) & (second == 1) & (earliest_client(s) == 3)
+}
+
 fn main() {
     let draw = rng::drawn_u64(Rng::new(0));
     report(b"C1", draw.next.state == 0x9E37_79B9_7F4A_7C15);
@@ -60,6 +104,10 @@ fn main() {
         record::put_bytes(LogIndex(1), Term(1), command) == 21,
     );
     report(b"C6", record::truncate_bytes(LogIndex(128)) == 7);
+    let mut places = [0u8; 128];
+    report(b"C7", gaps_close(&mut places));
+    let mut events = [0u8; 168];
+    report(b"C9", earliest_first(&mut events));
     let two_groups = Network::new(Duration(0), Rng::new(0)).partition(3 + 256 * 6);
     report(b"C10", blocked_pairs(two_groups) == 7);
 }
