@@ -3,3 +3,5 @@ pub mod Waiting
 pub mod WaitingLaws
 pub mod Replay
 pub mod ReplayLaws
+pub mod Stores
+pub mod StoresLaws
