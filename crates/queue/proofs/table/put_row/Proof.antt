@@ -1,4 +1,4 @@
--- Made by tools/uniform from proofs.txt, not by hand: 9aeefe0d5638f994
+-- Made by tools/uniform from proofs.txt, not by hand: 55d4fab887040ab1
 use Rattle.queue.specs.TableLaws.{row-put}
 use borrow.Author.Needs.{needs}
 use Rattle.queue.proofs.table.put_row.Statement.{statement}
@@ -16,4 +16,4 @@ put-row-spec =
     (λ c. search (row-put, needs))  -- part-put-message-end
     (λ c κs. search (row-put, needs))  -- put-message-requires
     (λ c. search (row-put, needs))  -- same-length
-    (λ c. search (row-put, needs)))  -- returns
+    (λ c. row-put _ _ _ _ _ _ _ (c .before .before .before .before .before .before .before .before .before .before .before .before .pre) (c .before .before .before .before .before .before .before .before .before .words-of .ensures) (c .before .before .before .before .before .before .store-all .ensures) (c .before .before .put-message .ensures)))  -- returns
