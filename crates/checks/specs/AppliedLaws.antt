@@ -12,15 +12,19 @@ use borrow.Author.Tests.{eq-eqb, ne-eqb}
 use Rattle.laws.specs.Decides.{Decides, false-true}
 use Rattle.laws.specs.Lists.{at}
 use Rattle.units.specs.Types.{Payload, noop, samePayload}
+use Rattle.units.specs.declared.NodeId.{NodeId}
+use Rattle.units.specs.declared.LogIndex.{LogIndex}
+use Rattle.units.specs.declared.SimTime.{SimTime}
 use Rattle.layout.specs.Tables.{Holds, Held, append}
 use Rattle.layout.specs.TableLaws.{held-rows, held-length, row-held, append-held}
 use Rattle.layout.specs.Marked.{wordsFor}
 use Rattle.layout.specs.Payload.{payload}
 use Rattle.layout.specs.MarkedLaws.{payloads-same}
 use Rattle.layout.specs.Applied.{applied}
+use Rattle.checks.specs.declared.applied.AppliedSeen.{AppliedSeen}
 use Rattle.checks.specs.declared.applied.AppliedSeen.the-variants.{Same, Other, Appended, Further, Full}
-use Rattle.checks.specs.Checks.{Checker, compareApplied, report}
-use Rattle.checks.specs.Applied.{ComparesApplied}
+use Rattle.checks.specs.Checks.{Checker, compareApplied, recordApplied, report}
+use Rattle.checks.specs.Applied.{ComparesApplied, RecordsApplied}
 
 -- ---- the element at a place
 
@@ -106,3 +110,26 @@ module _ (p n : ℕ) (b content : List ℕ) (place : ℕ) where
     }
 
 pub ruleset applied-calls = (applied-same, applied-other, applied-further, applied-full, applied-new)
+
+-- ---- the same by index
+
+module _ (p n : ℕ) (b content : List ℕ) (index : LogIndex) where
+  pub index-zero : index .0 ≡ 0 → RecordsApplied p index content n Further b b
+  index-zero e = record {
+    to = λ N c time server x k h. record { is = ap (λ (i : ℕ). recordApplied i c time server x) e; held = λ _. h; kept = λ _. refl; full = λ z. absurd (false-true z) };
+  }
+
+  by-place : (i : ℕ) (c : Checker) (time : SimTime) (server : NodeId) (x : Payload) → (i ≡ 0 → ⊥) → recordApplied i c time server x ≡ compareApplied (at (c .applied) (i - 1)) c time server (i - 1) x
+  by-place zero c time server x h = absurd (h refl)
+  by-place (suc k) c time server x h =
+      let e : k ≡ suc k - 1 = omega arith in
+      ap (λ (j : ℕ). compareApplied (at (c .applied) j) c time server j x) e
+
+  pub index-place : (r : AppliedSeen) (b′ : List ℕ) → (index .0 ≡ 0 → ⊥) → ComparesApplied p (index .0 - 1) content n r b b′ → RecordsApplied p index content n r b b′
+  index-place r b′ g q = record {
+    to = λ N c time server x k h.
+        let u = q .to N c time server x k h in
+        record { is = by-place (index .0) c time server x g ∙ u .is; held = u .held; kept = u .kept; full = u .full };
+  }
+
+pub ruleset recording = (index-zero, index-place)
