@@ -10,3 +10,5 @@ pub mod Leaders
 pub mod LeaderLaws
 pub mod Entries
 pub mod EntryLaws
+pub mod Applied
+pub mod AppliedLaws
