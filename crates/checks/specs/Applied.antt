@@ -2,7 +2,7 @@
 use mathlib.Core.Path.{_≡_}
 use mathlib.Core.Bool.{Bool, true, false}
 use mathlib.Core.List.{List, [], _∷_, _++_}
-use Prim.Native.Nat.{ℕ, suc, _+_, _-_, _*_, _<_}
+use Prim.Native.Nat.{ℕ, suc, _+_, _*_, _<_}
 use Rattle.laws.specs.Lists.{at}
 use Rattle.units.specs.Types.{Payload}
 use Rattle.units.specs.declared.NodeId.{NodeId}
@@ -52,13 +52,21 @@ pub record ComparesApplied (p place : ℕ) (content : List ℕ) (n : ℕ) (r : A
   pub to : (N : ℕ) (c : Checker) (time : SimTime) (server : NodeId) (x : Payload) → Holds (payload p) content x → Held (applied p) N n b (c .applied)
       → AppliedCompared p N n r b b′ c time server place x
 
--- The same by index (recordApplied): index 0 has no place, and is answered as one that is further on.
-pub record AppliedRecorded (p N : ℕ) (n : ℕ) (r : AppliedSeen) (b b′ : List ℕ) (c : Checker) (time : SimTime) (server : NodeId) (index : LogIndex) (x : Payload) : Type 0 where
-  pub is : recordApplied (index .0) c time server x ≡ afterApplied r c time server (index .0 - 1) x
-  pub held : noPlace r ≡ false → Held (applied p) N (appliedAfter n r) b′ (afterApplied r c time server (index .0 - 1) x .applied)
+-- The same by index: what the checks become by an answer.
+abbrev pub afterRecorded : AppliedSeen → Checker → SimTime → NodeId → ℕ → Payload → Checker
+afterRecorded Same c time server index x = c
+afterRecorded Other c time server index x = report c time StateMachineSafety (server .0 ∷ index ∷ [])
+afterRecorded (Appended m) c time server index x = withApplied c (c .applied ++ x ∷ [])
+afterRecorded Further c time server index x = c
+afterRecorded Full c time server index x = withApplied c (c .applied ++ x ∷ [])
+
+-- A payload was recorded by its index (recordApplied): index 0 has no place, and is answered as one that is further on.
+pub record AppliedRecorded (p N : ℕ) (n : ℕ) (r : AppliedSeen) (b b′ : List ℕ) (c : Checker) (time : SimTime) (server : NodeId) (index : ℕ) (x : Payload) : Type 0 where
+  pub is : recordApplied index c time server x ≡ afterRecorded r c time server index x
+  pub held : noPlace r ≡ false → Held (applied p) N (appliedAfter n r) b′ (afterRecorded r c time server index x .applied)
   pub kept : noPlace r ≡ true → b′ ≡ b
   pub full : noPlace r ≡ true → N < n * (1 + wordsFor p) + (1 + wordsFor p)
 
 pub record RecordsApplied (p : ℕ) (index : LogIndex) (content : List ℕ) (n : ℕ) (r : AppliedSeen) (b b′ : List ℕ) : Type 0 where
   pub to : (N : ℕ) (c : Checker) (time : SimTime) (server : NodeId) (x : Payload) → Holds (payload p) content x → Held (applied p) N n b (c .applied)
-      → AppliedRecorded p N n r b b′ c time server index x
+      → AppliedRecorded p N n r b b′ c time server (index .0) x

@@ -1,5 +1,5 @@
 -- What the proofs of applied.rt cite. Assumes nothing.
-use mathlib.Core.Path.{_≡_, refl, sym, ap, ap₂, _∙_}
+use mathlib.Core.Path.{_≡_, refl, sym, ap, ap₂, _∙_, subst}
 use mathlib.Core.Bool.{Bool, true, false}
 use mathlib.Core.List.{List, [], _∷_}
 use mathlib.Core.Option.{none, some}
@@ -24,7 +24,7 @@ use Rattle.layout.specs.Applied.{applied}
 use Rattle.checks.specs.declared.applied.AppliedSeen.{AppliedSeen}
 use Rattle.checks.specs.declared.applied.AppliedSeen.the-variants.{Same, Other, Appended, Further, Full}
 use Rattle.checks.specs.Checks.{Checker, compareApplied, recordApplied, report}
-use Rattle.checks.specs.Applied.{ComparesApplied, RecordsApplied}
+use Rattle.checks.specs.Applied.{appliedAfter, afterApplied, afterRecorded, AppliedCompared, ComparesApplied, AppliedRecorded, RecordsApplied}
 
 -- ---- the element at a place
 
@@ -119,17 +119,27 @@ module _ (p n : ℕ) (b content : List ℕ) (index : LogIndex) where
     to = λ N c time server x k h. record { is = ap (λ (i : ℕ). recordApplied i c time server x) e; held = λ _. h; kept = λ _. refl; full = λ z. absurd (false-true z) };
   }
 
-  by-place : (i : ℕ) (c : Checker) (time : SimTime) (server : NodeId) (x : Payload) → (i ≡ 0 → ⊥) → recordApplied i c time server x ≡ compareApplied (at (c .applied) (i - 1)) c time server (i - 1) x
-  by-place zero c time server x h = absurd (h refl)
-  by-place (suc k) c time server x h =
-      let e : k ≡ suc k - 1 = omega arith in
-      ap (λ (j : ℕ). compareApplied (at (c .applied) j) c time server j x) e
-
   pub index-place : (r : AppliedSeen) (b′ : List ℕ) → (index .0 ≡ 0 → ⊥) → ComparesApplied p (index .0 - 1) content n r b b′ → RecordsApplied p index content n r b b′
-  index-place r b′ g q = record {
-    to = λ N c time server x k h.
-        let u = q .to N c time server x k h in
-        record { is = by-place (index .0) c time server x g ∙ u .is; held = u .held; kept = u .kept; full = u .full };
-  }
+  index-place r b′ g q = record { to = λ N c time server x k h. by-place (index .0) c time server x N r b′ g (q .to N c time server x k h) }
+    where
+      after : (r : AppliedSeen) (place : ℕ) (c : Checker) (time : SimTime) (server : NodeId) (x : Payload) → afterApplied r c time server place x ≡ afterRecorded r c time server (suc place) x
+      after Same place c time server x = refl
+      after Other place c time server x = refl
+      after (Appended m) place c time server x = refl
+      after Further place c time server x = refl
+      after Full place c time server x = refl
+
+      by-place : (i : ℕ) (c : Checker) (time : SimTime) (server : NodeId) (x : Payload) (N : ℕ) (r : AppliedSeen) (b′ : List ℕ) → (i ≡ 0 → ⊥)
+          → AppliedCompared p N n r b b′ c time server (i - 1) x → AppliedRecorded p N n r b b′ c time server i x
+      by-place zero c time server x N r b′ h u = absurd (h refl)
+      by-place (suc k) c time server x N r b′ h u =
+          let e : suc k - 1 ≡ k = omega arith in
+          let y : AppliedCompared p N n r b b′ c time server k x = subst (λ (j : ℕ). AppliedCompared p N n r b b′ c time server j x) e u in
+          record {
+            is = y .is ∙ after r k c time server x;
+            held = λ z. subst (λ (d : Checker). Held (applied p) N (appliedAfter n r) b′ (d .applied)) (after r k c time server x) (y .held z);
+            kept = y .kept;
+            full = y .full;
+          }
 
 pub ruleset recording = (index-zero, index-place)

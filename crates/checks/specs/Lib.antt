@@ -12,3 +12,5 @@ pub mod Entries
 pub mod EntryLaws
 pub mod Applied
 pub mod AppliedLaws
+pub mod OnApply
+pub mod OnApplyLaws

@@ -27,7 +27,7 @@ use Rattle.checks.specs.declared.violations.Tally.the-variants.{Counted,
 use Rattle.checks.specs.declared.violations.Violation.{Violation as Numbers}
 use Rattle.checks.specs.Checks.{Checker, Violation, checkNumber, maxRecorded, report}
 use Rattle.checks.specs.UpTo.{is64, word-held, getD-padded}
-use Rattle.checks.specs.Violations.{violationRow, violations, detailOf, given, noViolation, keptAfter, tally, Reports}
+use Rattle.checks.specs.Violations.{violationRow, violations, detailOf, given, noViolation, keptAfter, tally, Keeps, Reports}
 
 -- ---- a violation as its numbers
 
@@ -105,35 +105,47 @@ module _ (time : SimTime) (check : Check) (detail : Detail) (kept total : ℕ) (
     past = λ h. refl;
   }
 
-  module _ (p : total ≡ 18446744073709551615 → ⊥) (w : Fits w64 total) where
-    below : total + 1 < 2 ^ 64
-    below = omega (arith, w .fits, p)
+  pub report-counted : (k : ℕ) (b′ : List ℕ) → (total ≡ 18446744073709551615 → ⊥) → Fits w64 total → Keeps true time check (detailOf detail) kept k b b′
+      → Reports time check (detailOf detail) kept total (Counted k (total + 1)) b b′
+  unfolding tally
+  report-counted k b′ p w q =
+      let below : total + 1 < 2 ^ 64 = omega (arith, w .fits, p) in
+      record {
+        answer = rw (lt-ltb (total + 1) (2 ^ 64) below, q .count);
+        counted = λ _ c N h. subst (λ (m : ℕ). Held violations N m b′ (report c time check (detailOf detail) .violations)) (q .count) (q .to c N h);
+        past = λ h. absurd (omega (arith, below));
+      }
 
-    pub report-full : 32 ≤ kept → Reports time check (detailOf detail) kept total (Counted kept (total + 1)) b b
-    unfolding tally report
-    report-full h = record {
-      answer = rw (lt-ltb (total + 1) (2 ^ 64) below, le-ltb kept maxRecorded h);
-      counted = λ _ c N k. rw (held-rows k .count, le-ltb kept maxRecorded h) k;
-      past = λ _. refl;
+module _ (time : SimTime) (check : Check) (detail : Detail) (kept : ℕ) (b : List ℕ) (due : Bool) where
+  pub keep-not : not due ≡ true → Keeps due time check (detailOf detail) kept kept b b
+  keep-not t = record { count = rw (not-true due t); to = λ c N h. rw (not-true due t) h }
+
+  module _ (t : not due ≡ false) where
+    pub keep-full : 32 ≤ kept → Keeps due time check (detailOf detail) kept kept b b
+    unfolding report
+    keep-full h = record {
+      count = rw (not-false due t, le-ltb kept maxRecorded h);
+      to = λ c N k. rw (not-false due t, held-rows k .count, le-ltb kept maxRecorded h) k;
     }
 
-    pub report-kept : (r : Numbers) (b′ : List ℕ) → 2048 ≤ length b → kept < 32 → r ≡ given (v time check detail)
+    pub keep-row : (r : Numbers) (b′ : List ℕ) → 2048 ≤ length b → kept < 32 → r ≡ given (v time check detail)
         → Fits w64 (r .time .0) → Fits w64 (r .first) → Fits w64 (r .second) → Fits w64 (r .third) → Fits w64 (r .fourth) → Fits w64 (r .fifth)
         → b′ ≡ sets b (8 * (kept * 8)) (bytes (row time check detail r))
-        → Reports time check (detailOf detail) kept total (Counted (kept + 1) (total + 1)) b b′
-    unfolding tally report append
-    report-kept r b′ room h e t f₁ f₂ f₃ f₄ f₅ s = record {
-      answer = rw (lt-ltb (total + 1) (2 ^ 64) below, lt-ltb kept maxRecorded h);
-      counted = λ _ c N k.
+        → Keeps due time check (detailOf detail) kept (kept + 1) b b′
+    unfolding report append
+    keep-row r b′ room h e t₀ f₁ f₂ f₃ f₄ f₅ s = record {
+      count = rw (not-false due t, lt-ltb kept maxRecorded h);
+      to = λ c N k.
           let l : length (c .violations) ≡ kept = held-rows k .count in
-          rw (l, lt-ltb kept maxRecorded h)
-          (append-held k (omega arith) (v time check detail) b′ (good-is time check detail r e t f₁ f₂ f₃ f₄ f₅)
+          rw (not-false due t, l, lt-ltb kept maxRecorded h)
+          (append-held k (omega arith) (v time check detail) b′ (good-is time check detail r e t₀ f₁ f₂ f₃ f₄ f₅)
           (le-leb (length (c .violations ++ v time check detail ∷ [])) maxRecorded (omega (arith, length-append (c .violations) (v time check detail ∷ []))))
           (s ∙ ap (λ (q : Numbers). sets b (8 * (kept * 8)) (bytes (row time check detail q))) e ∙ ap (λ (q : List ℕ). sets b (8 * (kept * 8)) (bytes q)) (row-is time check detail)));
-      past = λ q. absurd (omega (arith, below));
     }
 
-pub ruleset reporting = (report-past, report-full, report-kept)
+pub ruleset reporting = (report-past, report-counted)
+
+pub ruleset keeping = (keep-not, keep-full, keep-row)
 
 -- ---- read
 

@@ -19,7 +19,7 @@ use Rattle.checks.specs.declared.violations.Detail.the-variants.{One, Tw
 use Rattle.checks.specs.declared.violations.Tally.{Tally}
 use Rattle.checks.specs.declared.violations.Tally.the-variants.{Counted, Past64Bits}
 use Rattle.checks.specs.declared.violations.Violation.{Violation as Numbers}
-use Rattle.checks.specs.Checks.{Checker, Violation, checkNumber, maxRecorded, report}
+use Rattle.checks.specs.Checks.{Checker, Violation, checkNumber, maxRecorded, report, reportIf}
 use Rattle.checks.specs.UpTo.{upTo}
 
 -- ---- a row
@@ -118,6 +118,11 @@ keptAfter kept = pick (ltb kept maxRecorded) (kept + 1) kept
 -- The counts after one more report; a total past 64 bits is answered.
 unfoldable pub tally : ℕ → ℕ → Tally
 tally kept total = pick (ltb (total + 1) (2 ^ 64)) (Counted (keptAfter kept) (total + 1)) Past64Bits
+
+-- A violation that is due was kept in b, which held `kept` of a checker's: how many are kept now, and what b′ holds.
+pub record Keeps (due : Bool) (time : SimTime) (check : Check) (detail : List ℕ) (kept r : ℕ) (b b′ : List ℕ) : Type 0 where
+  pub count : r ≡ pick due (keptAfter kept) kept
+  pub to : (c : Checker) (N : ℕ) → Held violations N kept b (c .violations) → Held violations N r b′ (reportIf due c time check detail .violations)
 
 -- A violation was reported to b, which held `kept` of the `total` violations of a checker: the counts, and what b′ holds; nothing changed where the total is past 64 bits.
 pub record Reports (time : SimTime) (check : Check) (detail : List ℕ) (kept total : ℕ) (r : Tally) (b b′ : List ℕ) : Type 0 where

@@ -7,7 +7,7 @@ ghost use Rattle.laws.specs.Decides.{Decides};
 ghost use Rattle.words.specs.Words.{W};
 ghost use Rattle.layout.specs.Code.{okN};
 ghost use Rattle.layout.specs.Tables.{Tabled, Gives};
-ghost use Rattle.checks.specs.Violations.{violationRow, violations, detailOf, given, noViolation, Reports};
+ghost use Rattle.checks.specs.Violations.{violationRow, violations, detailOf, given, noViolation, Keeps, Reports};
 use crate::Check;
 use layout::rows;
 use units::SimTime;
@@ -87,6 +87,39 @@ fn stated(time: SimTime, check: Check, detail: Detail) -> Violation
     }
 }
 
+// Keeps a violation that is due, while fewer than 32 are kept, and answers how many are.
+pub fn keep(
+    s: &mut [u8],
+    kept: usize,
+    due: bool,
+    time: SimTime,
+    check: Check,
+    detail: Detail,
+) -> usize
+    requires { ⌜ 2048 ≤ length (now s) ⌝ }
+    ensures { λ r. ⌜ Keeps due time check (detailOf detail) kept r (now (s .entry)) (now (s .exit)) ⌝ }
+{
+    if !due {
+        return kept;
+    }
+    if 32 <= kept {
+        return kept;
+    }
+    let v = stated(time, check, detail);
+    let row = [
+        v.time.0,
+        v.check,
+        v.count,
+        v.first,
+        v.second,
+        v.third,
+        v.fourth,
+        v.fifth,
+    ];
+    words::store_all(s, kept * 8, &row);
+    kept + 1
+}
+
 // Counts a violation, and keeps it while fewer than 32 are kept (report).
 pub fn report(
     s: &mut [u8],
@@ -102,26 +135,9 @@ pub fn report(
     if total == 18446744073709551615 {
         return Tally::Past64Bits;
     }
-    if 32 <= kept {
-        return Tally::Counted {
-            kept,
-            total: total + 1,
-        };
-    }
-    let v = stated(time, check, detail);
-    let row = [
-        v.time.0,
-        v.check,
-        v.count,
-        v.first,
-        v.second,
-        v.third,
-        v.fourth,
-        v.fifth,
-    ];
-    words::store_all(s, kept * 8, &row);
+    let kept = keep(s, kept, true, time, check, detail);
     Tally::Counted {
-        kept: kept + 1,
+        kept,
         total: total + 1,
     }
 }

@@ -1,4 +1,4 @@
--- Made by tools/uniform from proofs.txt, not by hand: a64affee7128eeaf
+-- Made by tools/uniform from proofs.txt, not by hand: 1354bd94975445d7
 use Rattle.checks.specs.ViolationLaws.{reporting}
 use borrow.Author.Needs.{needs}
 use Rattle.checks.proofs.violations.report.Statement.{statement}
@@ -9,13 +9,7 @@ report-spec =
     tie.close
     (tie.spec
     (λ c. search (reporting, needs))  -- returns
-    (λ c. search (reporting, needs))  -- add-t10
-    (λ c. search (reporting, needs))  -- returns-2
-    (λ c κs. search (reporting, needs))  -- stated-requires
-    (λ c. search (reporting, needs))  -- mul-store-all
-    (λ c. search (reporting, needs))  -- slice-aggregate-store-all
-    (λ c κs. search (reporting, needs))  -- store-all-requires
-    (λ c. search (reporting, needs))  -- add-t14
-    (λ c. search (reporting, needs))  -- add-t17
+    (λ c κs. search (reporting, needs))  -- keep-requires
+    (λ c. search (reporting, needs))  -- add-t11
     (λ c. search (reporting, needs))  -- same-length
-    (λ c. search (reporting, needs)))  -- returns-3
+    (λ c. search (reporting, needs)))  -- returns-2
