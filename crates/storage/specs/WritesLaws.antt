@@ -95,8 +95,6 @@ module _ (p n cap : ℕ) (v : StorageState) (w : Write) (cur wait : List ℕ) wh
           → record { current = h; durable = v .durable; waiting = v .waiting + 1; discarded = v .discarded + d } ≡ v′
       same v′ e = cc
 
-pub ruleset rooms = (is-full, row-room)
-
 -- ---- the hard state
 
 module _ (p cap : ℕ) (v : StorageState) (wait : List ℕ) where
@@ -149,6 +147,22 @@ module _ (p n cap : ℕ) (v : StorageState) (index : LogIndex) (t : Term) (cur w
     command-done cur′ wait′ h c = put-done p n cap v index (record { term = t; payload = command src }) cur wait q same d g h c cur′ wait′
 
 pub ruleset puts = (is-full, row-room, noop-over, noop-done, command-over, command-done)
+
+-- ---- a truncation
+
+module _ (p n cap : ℕ) (v : StorageState) (from : LogIndex) (cur wait : List ℕ) (d : ℕ) (c : d ≡ removedBy (rowsIn (place p) n cur) (from .0)) where
+  removes : (N : ℕ) (y : Log) → Held (places p) N n cur y → d ≡ removedBy y (from .0)
+  removes N y h = c ∙ ap (λ (l : Log). removedBy l (from .0)) (rows-are h)
+
+  pub truncate-over : 18446744073709551615 - d < v .discarded → Writes p n cap v (writeTruncate from) Past64Bits cur cur wait wait
+  truncate-over = is-past p n cap v (writeTruncate from) cur wait d removes
+
+  pub truncate-done : (r : ℕ) (cur′ wait′ : List ℕ) → Truncates p n (from .0) r cur cur′ → Becomes (waiting p) (v .waiting) (v .waiting + 1) wait wait′ (append (writeTruncate from))
+      → Writes p n cap v (writeTruncate from) (Done (record { current = v .current; durable = v .durable; waiting = v .waiting + 1; discarded = v .discarded + d })) cur cur′ wait wait′
+  truncate-done r cur′ wait′ t push =
+      is-done p n cap v (writeTruncate from) cur wait d (v .current) cur′ wait′ (λ N y k j. t .kept .to N y j) (λ y. refl) removes push
+
+pub ruleset truncates = (is-full, row-room, truncate-over, truncate-done)
 
 -- ---- the count of an entry that is replaced
 

@@ -6,7 +6,7 @@ ghost use lib.ListN.{length};
 ghost use Rattle.laws.specs.Bools.{pick};
 ghost use Rattle.units.specs.Types.{noop, command};
 ghost use Rattle.layout.specs.Marked.{wordsFor};
-ghost use Rattle.storage.specs.Storage.{writeHardState, writePut};
+ghost use Rattle.storage.specs.Storage.{writeHardState, writePut, writeTruncate};
 ghost use Rattle.storage.specs.Writes.{Writes, WritesState, replacedBy};
 use crate::HardState;
 use crate::StorageState;
@@ -135,6 +135,40 @@ pub fn put_command(
     }
     log::put_command(log, n, p, index, term, src);
     waiting::push_command(writes, count as usize, p, index, term, src);
+    Written::Done(StorageState {
+        current,
+        durable,
+        waiting: count + 1,
+        discarded: discarded + d,
+    })
+}
+
+// Removes every entry at `from` or later.
+pub fn truncate(
+    v: StorageState,
+    log: &mut [u8],
+    writes: &mut [u8],
+    n: usize,
+    cap: usize,
+    p: usize,
+    from: LogIndex,
+) -> Written
+    requires { ⌜ (p ≤ 256) × (8 * (n * (2 + wordsFor p)) ≤ length (now log)) × (8 * (cap * (3 + wordsFor p)) ≤ length (now writes)) ⌝ }
+    ensures { λ r. ⌜ Writes p n cap v (writeTruncate from) r (now (log .entry)) (now (log .exit)) (now (writes .entry)) (now (writes .exit)) ⌝ }
+{
+    let count = v.waiting;
+    let current = v.current;
+    let durable = v.durable;
+    let discarded = v.discarded;
+    if cap <= count as usize {
+        return Written::Full;
+    }
+    let d = log::removed(log, n, p, from);
+    if 18446744073709551615 - d < discarded {
+        return Written::Past64Bits;
+    }
+    log::truncate(log, n, p, from);
+    waiting::push_truncate(writes, count as usize, p, from);
     Written::Done(StorageState {
         current,
         durable,
