@@ -432,10 +432,14 @@ module _ {A : Type 0} (x : List A) (i j : ℕ) (h : i ≤ length x) (k : i ≤ j
       past : leb j (length x) ≡ false → drop i x ≡ drop j x
       past t = drop-of-length-le x {i = i} (omega (arith, leb-false j (length x) t)) ∙ sym (drop-of-length-le x {i = j} (omega (arith, leb-false j (length x) t)))
 
+pub removed-from : (p n from i r : ℕ) (b : List ℕ) → i ≤ n → i ≤ from - 1 → from - 1 ≤ i + (from - 1 - n) → r ≡ count (drop i (rowsIn (place p) n b)) → r ≡ removedBy (rowsIn (place p) n b) from
+unfolding removedBy
+removed-from p n from i r b h k l c = c ∙ ap count (cut-drop (rowsIn (place p) n b) i (from - 1) (omega (arith, length-rowsIn (place p) n b)) k (rw (length-rowsIn (place p) n b) l))
+
 pub truncated : (p n from i r at end : ℕ) (b b′ : List ℕ) → i ≤ n → i ≤ from - 1 → from - 1 ≤ i + (from - 1 - n) → r ≡ count (drop i (rowsIn (place p) n b))
     → at ≡ i * (2 + wordsFor p) → end ≡ n * (2 + wordsFor p) → b′ ≡ sets b (8 * at) (zeros (8 * end - 8 * at))
     → Truncates p n from r b b′
-unfolding truncateAt removedBy fillFrom
+unfolding truncateAt fillFrom
 truncated p n from i r at end b b′ h k l c ea ee e = record {
   kept = record {
     to = λ N x g.
@@ -444,7 +448,7 @@ truncated p n from i r at end b b′ h k l c ea ee e = record {
         e ∙ ap₂ (λ (u v : ℕ). sets b (8 * u) (zeros (8 * v - 8 * u))) ea ee in
         subst (Held (places p) N n b′) (cut-take x i (from - 1) (omega arith) k (rw m l) none) (fill-held g i none b′ h refl refl refl q);
   };
-  removed = c ∙ ap count (cut-drop (rowsIn (place p) n b) i (from - 1) (omega (arith, length-rowsIn (place p) n b)) k (rw (length-rowsIn (place p) n b) l));
+  removed = removed-from p n from i r b h k l c;
 }
 
 -- ---- clear, copy

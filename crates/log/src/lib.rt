@@ -10,7 +10,7 @@ ghost use Rattle.words.specs.Words.{W};
 ghost use Rattle.layout.specs.Code.{okN};
 ghost use Rattle.layout.specs.Tables.{Tabled, Becomes, Gives, rowsIn};
 ghost use Rattle.layout.specs.Marked.{wordsFor};
-ghost use Rattle.log.specs.Log.{count, lastIndex, gaps};
+ghost use Rattle.log.specs.Log.{count, lastIndex, gaps, removedBy};
 ghost use Rattle.log.specs.Places.{place, places, placeAt, said, lengthOf, presence, ReadsEntry, putEntry, Truncates, Clears, Compares, holdsAt};
 use layout::marked;
 use layout::rows;
@@ -194,6 +194,15 @@ fn first_removed(from: LogIndex, n: usize) -> usize
         return 0;
     }
     if n < f { n } else { f - 1 }
+}
+
+// How many entries are at `from` or later.
+pub fn removed(s: &[u8], n: usize, p: usize, from: LogIndex) -> u64
+    requires { ⌜ (p ≤ 256) × (8 * (n * (2 + wordsFor p)) ≤ length (now s)) ⌝ }
+    ensures { λ r. ⌜ r ≡ removedBy (rowsIn (place p) n (now (s .entry))) (from .0) ⌝ }
+{
+    let i = first_removed(from, n);
+    count_from(s, n, p, i)
 }
 
 // Removes every entry at `from` or later, and answers how many.

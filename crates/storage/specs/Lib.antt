@@ -5,3 +5,5 @@ pub mod Replay
 pub mod ReplayLaws
 pub mod Stores
 pub mod StoresLaws
+pub mod Writes
+pub mod WritesLaws

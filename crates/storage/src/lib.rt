@@ -8,6 +8,7 @@ ghost use Rattle.storage.specs.Stores.{Syncs, Crashes};
 
 pub mod waiting; // the writes not yet synced
 pub mod replay; // what a sync does with them
+pub mod write; // one more write
 
 use units::NodeOption;
 use units::Term;
