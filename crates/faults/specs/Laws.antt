@@ -8,7 +8,7 @@ use native.Mathlib.Omega.{arith}
 use lib.Dec.{leb, ltb, eqb}
 use lib.ListN.{getD, List·getD-eq-default}
 use borrow.Author.Tests.{eq-eqb, ne-eqb, ltb-true, eqb-true}
-use Rattle.laws.specs.Bools.{_and_, no-and, true-and, code-and}
+use Rattle.laws.specs.Bools.{first-true, second-true, _and_, no-and, true-and, code-and}
 use Rattle.units.specs.declared.NodeId.{NodeId}
 use Rattle.faults.specs.declared.Fault.{Fault}
 use Rattle.faults.specs.declared.Fault.the-variants.{Crash, CrashDuringNextInput, Restart, CrashLeader, Partition, Block, Unblock, HealLinks, SetLoss, SetDuplication, SetDelayFactor, HealAll}
@@ -50,14 +50,6 @@ entries-at P d other i (x ∷ xs) e zero = rw (add-zero i) (e .0)
 entries-at P d other i (x ∷ xs) e (suc k) =
     let m : i + suc k ≡ suc i + k = omega arith in
     rw m (entries-at P d other (suc i) xs (e .1) k)
-
-first-true : (t u : Bool) → (t && u) ≡ true → t ≡ true
-first-true true u h = refl
-first-true false u h = h
-
-second-true : (t u : Bool) → (t && u) ≡ true → u ≡ true
-second-true true u h = h
-second-true false u h = cc
 
 none-some : (f : Fault) → None ≡ Some f → ⊥
 none-some f e = let z : _≡_ {A = ℕ} 0 1 = cc in omega arith

@@ -4,7 +4,6 @@ ghost use Prim.Native.Nat.{_≤_};
 ghost use Rattle.faults.specs.Fault.{faultKind, faultFirst, faultSecond, only, faultOf, inCluster, groupsIn, targetsKnown, withinLimits, faultInRange};
 use units::Duration;
 use units::NodeId;
-use units::SimTime;
 
 // A change to the simulated environment.
 pub enum Fault {
@@ -38,24 +37,6 @@ pub enum Fault {
 pub enum FaultOption {
     None,
     Some(Fault),
-}
-
-// A fault and when it happens.
-pub struct Timed {
-    pub time: SimTime,
-    pub fault: Fault,
-}
-
-// Settings for a random fault schedule.
-pub struct ChaosConfig {
-    // The earliest time a fault may start.
-    pub start: SimTime,
-    // The time every fault ends.
-    pub end: SimTime,
-    // Average time between the starts of consecutive faults.
-    pub mean_gap: Duration,
-    // Longest duration of one fault.
-    pub max_duration: Duration,
 }
 
 // The number of a fault's kind.

@@ -17,6 +17,11 @@ pub cases : {A : Type 0} (t : Bool) → (t ≡ true → A) → (t ≡ false → 
 cases true f g = f refl
 cases false f g = g refl
 
+-- what holds of both answers holds of the one that a test picks
+pub pick-both : {A : Type 0} (P : A → Type 0) (t : Bool) {a b : A} → P a → P b → P (pick t a b)
+pick-both P true p q = p
+pick-both P false p q = q
+
 -- conjunction. Shut, so that antt finds the arguments of the laws below: `and-left _ _ h`
 infixr 35 _and_
 unfoldable pub _and_ : Bool → Bool → Bool
@@ -68,6 +73,15 @@ pub code-and : (a b : Bool) → (a && b) ≡ (a and b)
 unfolding _and_
 code-and true b = refl
 code-and false b = refl
+
+-- the two parts of the code's `&` that is true
+pub first-true : (t u : Bool) → (t && u) ≡ true → t ≡ true
+first-true true u h = refl
+first-true false u h = h
+
+pub second-true : (t u : Bool) → (t && u) ≡ true → u ≡ true
+second-true true u h = h
+second-true false u h = cc
 
 pub true-and : (b : Bool) → (true and b) ≡ b
 unfolding _and_

@@ -13,7 +13,7 @@ use denote.Shadow.{shadow}
 use lib.Dec.{ltb, leb}
 use lib.ListN.{getD, set}
 use borrow.Author.Tests.{lt-ltb, le-leb, ltb-true, leb-true}
-use Rattle.laws.specs.Bools.{every, and-left, and-right, and-both, and-assoc, true-and, and-true, code-and}
+use Rattle.laws.specs.Bools.{first-true, second-true, every, and-left, and-right, and-both, and-assoc, true-and, and-true, code-and}
 use Rattle.laws.specs.Lists.{modify}
 use Rattle.units.specs.declared.NodeId.{NodeId}
 use Rattle.metrics.specs.declared.Counts.{Counts}
@@ -82,13 +82,6 @@ sum-fits-is a b h =
 
 pub sum-below : (a b : ℕ) (t : Bool) → t ≡ ltb (a + b) (2 ^ 64) → t ≡ true → Fits w64 (a + b)
 sum-below a b t e h = record { fits = ltb-true (a + b) (2 ^ 64) (sym e ∙ h) }
-
--- The two parts of a test that is true.
-first-true : (t u : Bool) → (t && u) ≡ true → t ≡ true
-first-true t u h = and-left t u (sym (code-and t u) ∙ h)
-
-second-true : (t u : Bool) → (t && u) ≡ true → u ≡ true
-second-true t u h = and-right t u (sym (code-and t u) ∙ h)
 
 pub first-below : (a b : ℕ) (t u : Bool) → t ≡ ltb (a + b) (2 ^ 64) → (t && u) ≡ true → Fits w64 (a + b)
 first-below a b t u e h = sum-below a b t e (first-true t u h)

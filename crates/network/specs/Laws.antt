@@ -10,7 +10,7 @@ use lib.Dec.{ltb, eqb}
 use lib.ListN.{length, getD, set, drop, drop-of-length-le}
 use lib.Seq.{drop-cons, set-at, getD-at}
 use borrow.Author.Tests.{lt-ltb, eq-eqb, ne-eqb}
-use Rattle.laws.specs.Bools.{pick, and-both}
+use Rattle.laws.specs.Bools.{pick-both, and-both}
 use Rattle.laws.specs.Lists.{listFrom}
 use Rattle.units.specs.declared.NodeId.{NodeId}
 use Rattle.rng.specs.Rng.{under, after}
@@ -104,11 +104,6 @@ pub partition-is : (n : Network) (groups : ℕ) (links : List Bool) (k : ℕ) �
     → withBlocked n links ≡ partition n groups
 unfolding partition
 partition-is n groups links k l h = ap (withBlocked n) (links-done _ _ _ _ l h)
-
--- What holds of both answers holds of the one that a test picks.
-pub pick-both : {A : Type 0} (P : A → Type 0) (t : Bool) {a b : A} → P a → P b → P (pick t a b)
-pick-both P true p q = p
-pick-both P false p q = q
 
 -- A delay, from the code's steps; its bounds; the generator moves by one draw.
 module _ (n : Network) where

@@ -7,7 +7,7 @@ use native.Mathlib.Omega.{arith}
 use lib.Dec.{leb, eqb}
 use lib.ListN.{length, getD, length-set}
 use borrow.Author.Tests.{lt-ltb, le-leb, eq-eqb, ltb-true, leb-true, eqb-true}
-use Rattle.laws.specs.Bools.{and-left, and-right, and-both, true-and, and-true, code-and}
+use Rattle.laws.specs.Bools.{pick-both, and-left, and-right, and-both, true-and, and-true, code-and}
 use Rattle.units.specs.declared.NodeId.{NodeId}
 use Rattle.units.specs.declared.Duration.{Duration}
 use Rattle.rng.specs.Rng.{under}
@@ -16,7 +16,7 @@ use Rattle.network.specs.declared.Network.{Network}
 use Rattle.network.specs.declared.Routed.{Routed}
 use Rattle.network.specs.declared.Chance.{Chance}
 use Rattle.network.specs.Network.{new, delay, chance, route, delivered, partition, setDelayFactor, networkInRange, withRng, withBlocked, Limits, block, unblock, healLinks, setLoss, setDuplication, healAll, withRates, link, ppm}
-use Rattle.network.specs.Laws.{pick-both, length-listFrom}
+use Rattle.network.specs.Laws.{length-listFrom}
 
 -- The ranges one by one.
 pub record InRange (n : Network) : Type 0 where

@@ -1,8 +1,8 @@
 -- A random fault schedule (faults.rs), with document 01's bound on redraws, its numbers of refusals and the room of the lent list. Assumes nothing.
-use mathlib.Core.Bool.{Bool, true, false}
+use mathlib.Core.Bool.{Bool}
 use mathlib.Core.List.{List, [], _∷_, _++_}
 use mathlib.Core.Option.{Option, none, some}
-use Prim.Native.Nat.{ℕ, zero, suc, _+_, _-_, _*_, _/_, _%_, _^_, min}
+use Prim.Native.Nat.{ℕ, zero, suc, _+_, _-_, _*_, _^_, min}
 use lib.Bits.{bitOr}
 use lib.Dec.{leb, ltb, eqb}
 use lib.ListN.{length, getD}
@@ -11,14 +11,12 @@ use Rattle.laws.specs.Order.{numbers, sortBy}
 use Rattle.units.specs.Time.{minus}
 use Rattle.units.specs.declared.NodeId.{NodeId}
 use Rattle.units.specs.declared.SimTime.{SimTime}
-use Rattle.units.specs.declared.Duration.{Duration}
 use Rattle.rng.specs.Rng.{under}
 use Rattle.rng.specs.declared.Rng.{Rng}
-use Rattle.rng.specs.declared.Drawn.{Drawn}
 use Rattle.faults.specs.declared.Fault.{Fault}
 use Rattle.faults.specs.declared.Fault.the-variants.{Crash, CrashDuringNextInput, Restart, CrashLeader, Partition, Block, Unblock, HealLinks, SetLoss, SetDuplication, SetDelayFactor, HealAll}
-use Rattle.faults.specs.declared.Timed.{Timed}
-use Rattle.faults.specs.declared.ChaosConfig.{ChaosConfig}
+use Rattle.chaos.specs.declared.Timed.{Timed}
+use Rattle.chaos.specs.declared.ChaosConfig.{ChaosConfig}
 
 -- A result of drawing: what was drawn, how many draws it took, and the generator after them.
 pub record Draws (A : Type 0) : Type 0 where
@@ -30,18 +28,18 @@ pub record Draws (A : Type 0) : Type 0 where
 abbrev pub draw : Rng → ℕ → Draws ℕ
 draw g bound = record { result = under g bound .value; draws = 1; next = under g bound .next }
 
--- One draw after others: what is made of both, and the draws of both.
+-- Draws after others: what is made of both, and the draws of both.
 abbrev pub then : {A B : Type 0} → Draws A → (A → Rng → Draws B) → Draws B
 then d f =
     let e = f (d .result) (d .next) in
     record { result = e .result; draws = d .draws + e .draws; next = e .next }
 
--- No draw.
+-- A result without a draw.
 abbrev pub give : {A : Type 0} → A → Rng → Draws A
 give a g = record { result = a; draws = 0; next = g }
 
 -- A duration from low to high, or low where high is below it (uniform): one draw in either case.
-abbrev pub uniform : ℕ → ℕ → Rng → Draws ℕ
+unfoldable pub uniform : ℕ → ℕ → Rng → Draws ℕ
 uniform low high g = then (draw g (high - low + 1)) (λ n. give (low + n))
 
 -- One of the servers (pick).
@@ -54,30 +52,41 @@ pickOther zero server servers g = give none g
 pickOther (suc left) server servers g =
     then (pickServer servers g) (λ other. pick (eqb (other .0) (server .0)) (pickOther left server servers) (give (some other)))
 
--- A group of servers as bits: bit k is server k + 1.
-unfoldable pub maskOf : List NodeId → ℕ
-maskOf [] = 0
-maskOf (server ∷ servers) = bitOr (2 ^ (server .0 - 1)) (maskOf servers)
+-- The bits of servers put into a group one after the other: bit k is server k + 1.
+unfoldable pub maskFrom : ℕ → List NodeId → ℕ
+maskFrom mask [] = mask
+maskFrom mask (server ∷ servers) = maskFrom (bitOr mask (2 ^ (server .0 - 1))) servers
 
--- Two groups of servers, and the word of a partition between them.
+-- A group of servers as bits.
+abbrev pub maskOf : List NodeId → ℕ
+maskOf servers = maskFrom 0 servers
+
+-- Two groups of servers.
 pub record Groups : Type 0 where
   pub first : List NodeId
   pub second : List NodeId
 
--- The word of a partition between two groups.
-abbrev pub groupsWord : Groups → ℕ
+-- Two groups without servers.
+abbrev pub noGroups : Groups
+noGroups = record { first = []; second = [] }
+
+-- The word of a partition between two groups: a byte for each, the first lowest.
+unfoldable pub groupsWord : Groups → ℕ
 groupsWord groups = maskOf (groups .first) + 256 * maskOf (groups .second)
 
--- Each server drawn into one of two groups, in list order.
-unfoldable pub deal : List NodeId → Rng → Draws Groups
-deal [] g = give (record { first = []; second = [] }) g
-deal (server ∷ servers) g =
-    then (draw g 2) (λ side g₁. then (deal servers g₁)
-    (λ groups. give (pick (eqb side 0)
-    (record { first = server ∷ groups .first; second = groups .second })
-    (record { first = groups .first; second = server ∷ groups .second }))))
+-- A server put at the end of one of two groups.
+unfoldable pub push : ℕ → NodeId → Groups → Groups
+push side server groups =
+    pick (eqb side 0)
+    (record { first = groups .first ++ server ∷ []; second = groups .second })
+    (record { first = groups .first; second = groups .second ++ server ∷ [] })
 
--- All but the last element, and the last alone.
+-- Each server drawn into one of two groups, in list order.
+unfoldable pub deal : Groups → List NodeId → Rng → Draws Groups
+deal groups [] g = give groups g
+deal groups (server ∷ servers) g = then (draw g 2) (λ side. deal (push side server groups) servers)
+
+-- All but the last element.
 unfoldable pub butLast : List NodeId → List NodeId
 butLast [] = []
 butLast (x ∷ []) = []
@@ -100,22 +109,22 @@ bothHeld groups =
 
 -- Two groups that are not empty, at random (split).
 unfoldable pub split : List NodeId → Rng → Draws Groups
-split servers g = then (deal servers g) (λ groups. give (bothHeld groups))
+split servers g = then (deal noGroups servers g) (λ groups. give (bothHeld groups))
 
--- A loss level to choose from, in parts per million: 5, 20 and 50 percent (LOSS_LEVELS).
+-- The loss levels to choose from, in parts per million: 5, 20 and 50 percent (LOSS_LEVELS).
 abbrev pub lossLevels : List ℕ
 lossLevels = 50_000 ∷ 200_000 ∷ 500_000 ∷ []
 
--- A delay factor to choose from (DELAY_FACTORS).
+-- The delay factors to choose from (DELAY_FACTORS).
 abbrev pub delayFactors : List ℕ
 delayFactors = 3 ∷ 10 ∷ []
 
 -- The entries of one fault: at its time, and at the time it is undone.
-abbrev pub startAndEnd : SimTime → SimTime → Fault → Fault → Option (List Timed)
+unfoldable pub startAndEnd : SimTime → SimTime → Fault → Fault → Option (List Timed)
 startAndEnd time until fault undone = some (record { time = time; fault = fault } ∷ record { time = until; fault = undone } ∷ [])
 
 -- A blocked link and its end; none where no second server came.
-abbrev pub blockedLink : SimTime → SimTime → NodeId → Option NodeId → Option (List Timed)
+unfoldable pub blockedLink : SimTime → SimTime → NodeId → Option NodeId → Option (List Timed)
 blockedLink time until server none = none
 blockedLink time until server (some other) = startAndEnd time until (Block server other) (Unblock server other)
 
@@ -124,22 +133,22 @@ abbrev pub Faulting : Type 0
 Faulting = Rng → Draws (Option (List Timed))
 
 -- The kinds of fault in the Rust's order, each with its own draws.
-module _ (servers : List NodeId) (server : NodeId) (time until : SimTime) where
+module _ (time until : SimTime) where
   -- a crash between inputs
-  unfoldable pub crash : Faulting
-  crash = give (startAndEnd time until (Crash server) (Restart server))
+  unfoldable pub crash : NodeId → Faulting
+  crash server = give (startAndEnd time until (Crash server) (Restart server))
 
   -- a crash during an input
-  unfoldable pub crashDuringInput : Faulting
-  crashDuringInput = give (startAndEnd time until (CrashDuringNextInput server) (Restart server))
+  unfoldable pub crashDuringInput : NodeId → Faulting
+  crashDuringInput server = give (startAndEnd time until (CrashDuringNextInput server) (Restart server))
 
   -- a partition in two groups
-  unfoldable pub partition : Faulting
-  partition g = then (split servers g) (λ groups. give (startAndEnd time until (Partition (groupsWord groups)) HealLinks))
+  unfoldable pub partition : List NodeId → Faulting
+  partition servers g = then (split servers g) (λ groups. give (startAndEnd time until (Partition (groupsWord groups)) HealLinks))
 
   -- a link that fails in one direction
-  unfoldable pub blockLink : Faulting
-  blockLink g = then (pickOther 64 server servers g) (λ other. give (blockedLink time until server other))
+  unfoldable pub blockLink : NodeId → List NodeId → Faulting
+  blockLink server servers g = then (pickOther 64 server servers g) (λ other. give (blockedLink time until server other))
 
   -- message loss
   unfoldable pub loss : Faulting
@@ -158,10 +167,28 @@ module _ (servers : List NodeId) (server : NodeId) (time until : SimTime) where
   slower g = then (draw g 2) (λ n. give (startAndEnd time until (SetDelayFactor (getD delayFactors n 0)) (SetDelayFactor 1)))
 
   -- With one server, a partition and a blocked link become a delay factor.
-  unfoldable pub faultOf : ℕ → Faulting
-  faultOf kind =
+  unfoldable pub faultOfKind : NodeId → List NodeId → ℕ → Faulting
+  faultOfKind server servers kind =
       let multi = ltb 1 (length servers) in
-      getD (crash ∷ crashDuringInput ∷ pick multi partition slower ∷ pick multi blockLink slower ∷ loss ∷ duplication ∷ crashLeader ∷ []) kind slower
+      getD
+      (crash server
+      ∷ crashDuringInput server
+      ∷ pick multi (partition servers) slower
+      ∷ pick multi (blockLink server servers) slower
+      ∷ loss
+      ∷ duplication
+      ∷ crashLeader
+      ∷ [])
+      kind
+      slower
+
+-- One fault that starts at a time before the end: its draws in the Rust's order.
+unfoldable pub oneFault : List NodeId → ChaosConfig → SimTime → Faulting
+oneFault servers config time g =
+    then (uniform 100_000_000 (config .«max_duration» .0) g)
+    (λ duration g₁. then (pickServer servers g₁)
+    (λ server g₂. then (draw g₂ 8)
+    (λ kind. faultOfKind time (record { 0 = min (time .0 + duration) (config .end .0) }) server servers kind)))
 
 -- What a schedule answers: a refusal's number, or the faults in order of time, equal times as generated, with the number of draws and the generator after them.
 pub data Chaos : Type 0 where
@@ -176,14 +203,6 @@ module _ (servers : List NodeId) (config : ChaosConfig) (room : ℕ) where
       (made (sortBy numbers (λ (t : Timed). t .time .0) (schedule ++ record { time = config .end; fault = HealAll } ∷ [])) draws g)
       (refused 10)
 
-  -- One fault that starts at a time before the end: its draws in the Rust's order.
-  abbrev pub oneFault : SimTime → Faulting
-  oneFault time g =
-      then (uniform 100_000_000 (config .«max_duration» .0) g)
-      (λ duration g₁. then (pickServer servers g₁)
-      (λ server g₂. then (draw g₂ 8)
-      (λ kind. faultOf servers server time (record { 0 = min (time .0 + duration) (config .end .0) }) kind)))
-
   -- The entries of a fault are placed behind those before it, and the schedule goes on; 11 where no second server came, 10 where an entry finds no place.
   abbrev pub placed : List Timed → Option (List Timed) → (List Timed → Chaos) → Chaos
   placed schedule none more = refused 11
@@ -195,17 +214,17 @@ module _ (servers : List NodeId) (config : ChaosConfig) (room : ℕ) where
   generate (suc turns) time schedule draws g =
       let gap = uniform 0 (config .«mean_gap» .0 * 2) g in
       let start : SimTime = record { 0 = time .0 + gap .result } in
-      let fault = oneFault start (gap .next) in
+      let fault = oneFault servers config start (gap .next) in
       pick (leb (config .end .0) (start .0))
       (ended schedule (draws + gap .draws) (gap .next))
       (placed schedule (fault .result) (λ entries. generate turns start entries (draws + gap .draws + fault .draws) (fault .next)))
 
 -- Whether each listed id is a server's: 1 to 8.
-abbrev pub knownIds : List NodeId → Bool
+unfoldable pub knownIds : List NodeId → Bool
 knownIds servers = every (λ (s : NodeId). leb 1 (s .0) and leb (s .0) 8) servers
 
 -- Whether starts and ends are at most 2^62 ns, the mean gap and the longest duration at most 2^40 ns.
-abbrev pub timesInRange : ChaosConfig → Bool
+unfoldable pub timesInRange : ChaosConfig → Bool
 timesInRange config =
     leb (config .start .0) (2 ^ 62) and leb (config .end .0) (2 ^ 62) and leb (config .«mean_gap» .0) (2 ^ 40) and leb (config .«max_duration» .0) (2 ^ 40)
 
