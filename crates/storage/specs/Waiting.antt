@@ -147,6 +147,13 @@ plain truncate b = eqb b 0
 plain putNoop b = true
 plain (putCommand bs) b = true
 
+-- The same by the kind's number.
+unfoldable pub plainMark : ℕ → ℕ → Bool
+plainMark zero b = eqb b 0
+plainMark (suc zero) b = true
+plainMark (suc (suc zero)) b = eqb b 0
+plainMark (suc (suc (suc m))) b = true
+
 abbrev pub toWrite : Kind × (ℕ × ℕ) → Write
 toWrite x = writeFrom (x .0) (x .1 .0) (x .1 .1)
 
