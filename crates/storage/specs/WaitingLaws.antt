@@ -1,7 +1,7 @@
 -- What the proofs of waiting.rt cite. Assumes nothing.
-use mathlib.Core.Path.{_≡_, refl, sym, ap, ap₂, _∙_, subst}
+use mathlib.Core.Path.{_≡_, refl, sym, ap, ap₂, _∙_}
 use mathlib.Core.Bool.{Bool, true, false, not}
-use mathlib.Core.List.{List, [], _∷_, _++_, append-assoc}
+use mathlib.Core.List.{List, [], _∷_, _++_}
 use Prim.Native.Nat.{ℕ, zero, suc, _+_, _-_, _*_, _^_, _≤_, _<_}
 use native.Mathlib.Omega.{arith}
 use lib.Dec.{eqb, leb}
@@ -11,7 +11,7 @@ use mir.Syntax.{w64}
 use mir.Val.{Fits}
 use borrow.Author.Tests.{lt-ltb, le-leb, lt-leb, not-true, not-false}
 use Rattle.laws.specs.Bools.{pick, _and_, and-left, and-both, no-and, true-and}
-use Rattle.units.specs.Types.{Payload, noop, command, Entry}
+use Rattle.units.specs.Types.{Payload, noop, command}
 use Rattle.units.specs.declared.Term.{Term}
 use Rattle.units.specs.declared.LogIndex.{LogIndex}
 use Rattle.units.specs.declared.NodeId.{NodeId}
@@ -20,7 +20,7 @@ use Rattle.units.specs.declared.NodeOption.the-variants.{None, Some}
 use Rattle.words.specs.Words.{bytes, W, Bytes, allz}
 use Rattle.words.specs.Sets.{sets-append}
 use Rattle.words.specs.Lift.{bytes-append, length-bytes, W-part}
-use Rattle.layout.specs.Tables.{Holds, Held, Becomes, Gives, append}
+use Rattle.layout.specs.Tables.{Holds, Held, Becomes, append}
 use Rattle.layout.specs.TableLaws.{row-word, row-held, appends, rowed-start, rowed-done}
 use Rattle.layout.specs.Marked.{wordsFor, Sound, sound, sounds, marked, bodyIn}
 use Rattle.layout.specs.MarkedCalls.{laid, restOk}
@@ -30,7 +30,7 @@ use Rattle.storage.specs.declared.HardState.{HardState}
 use Rattle.storage.specs.declared.waiting.Shape.{Shape}
 use Rattle.storage.specs.declared.waiting.Shape.the-variants as Shape
 use Rattle.storage.specs.Storage.{Write, writeHardState, writePut, writeTruncate}
-use Rattle.storage.specs.Waiting.{Kind, hardState, vote, truncate, putNoop, putCommand, markOf, bodyOf, kindMarking, kindFrom, kindOf, firstOf, secondOf, voteKind, voteNumber, payloadKind, plain, plainMark, two-more, writeCode, waiting, Pushes, entryShape, shapeOf, lengthOf, nothing, shapeAt, shaped, Shaped, Shows}
+use Rattle.storage.specs.Waiting.{Kind, markOf, bodyOf, kindMarking, kindFrom, kindOf, firstOf, secondOf, voteKind, voteNumber, payloadKind, plain, plainMark, two-more, writeCode, waiting, Pushes, entryShape, shapeOf, lengthOf, nothing, shapeAt, shaped, Shaped, Shows}
 
 -- ---- a write after the last
 
@@ -53,9 +53,6 @@ pub pushed : (p m mark a b : ℕ) (src s ys s′ : List ℕ) → p ≤ 256 → 8
     → Pushes p m mark src a b s s′
 pushed p m mark a b src s ys s′ q room l fm fa fb B ey es = record { to = to }
   where
-    at : ℕ
-    at = m * (1 + wordsFor p + 2)
-
     at-is : m * (1 + wordsFor p + 2) ≡ m * (3 + wordsFor p)
     at-is = ap (λ (k : ℕ). m * k) (two-more (wordsFor p))
 
@@ -160,7 +157,6 @@ shows p m k at mark a b s r h e em ea eb c = record { is = record { to = λ N ws
     is : {N : ℕ} {ws : List Write} → Held (waiting p) N m s ws → shaped p mark a b ≡ shapeOf (getD ws k nothing)
     is {N} {ws} g =
         let w : Write = getD ws k nothing in
-        let d : ℕ = 3 + wordsFor p in
         let row : List ℕ = marked kindMarking p .enc (kindOf w) in
         let good : writeCode p .good w ≡ true = row-held g k nothing h .good in
         let l : length row ≡ 1 + wordsFor p = marked kindMarking p .size-enc (kindOf w) (and-left _ _ (and-left _ _ good)) in
