@@ -4,15 +4,15 @@ use mathlib.Core.Bool.{Bool, true, false, not}
 use mathlib.Core.List.{List, [], _∷_, _++_, append-nil}
 use mathlib.Core.Option.{Option, none, some}
 use Prim.Native.Nat.{ℕ, zero, suc, _+_, _-_, _*_, _^_, _≤_, _<_}
-use native.Mathlib.Nat.{add-zero, zero-mul}
+use native.Mathlib.Nat.{add-zero}
 use native.Mathlib.Numerals.{add-one}
 use native.Mathlib.Omega.{arith}
 use lib.Dec.{eqb, leb}
-use lib.ListN.{length, getD, set, take, drop, replicate, length-append, length-drop, length-replicate, replicate-append-replicate, drop-of-length-le}
-use lib.Seq.{sets, getD-at, take-take, take-all, take-at, take-suc, drop-cons, getD-drop, getD-take, length-take-le, drop-length}
+use lib.ListN.{length, getD, set, take, drop, replicate, length-replicate, replicate-append-replicate, drop-of-length-le}
+use lib.Seq.{sets, getD-at, take-take, take-all, take-at, take-suc, drop-cons, getD-drop, length-take-le}
 use mir.Syntax.{w64}
 use mir.Val.{Fits}
-use borrow.Author.Tests.{eq-eqb, ne-eqb, eqb-true, eqb-false, lt-ltb, leb-true, leb-false}
+use borrow.Author.Tests.{eq-eqb, ne-eqb, eqb-true, lt-ltb, leb-true, leb-false}
 use Rattle.laws.specs.Bools.{pick, cases, _and_, and-left, and-right, and-both, and-true}
 use Rattle.laws.specs.Lists.{isSome, sameList}
 use Rattle.laws.specs.Decides.{Decides, false-true}
@@ -21,19 +21,19 @@ use Rattle.units.specs.declared.Term.{Term}
 use Rattle.words.specs.Words.{bytes, bytesOf, W, Bytes, allz}
 use Rattle.words.specs.Sets.{sets-at, sets-append, part-part}
 use Rattle.words.specs.Lift.{bytes-append, bytes-one, length-bytes, length-W, W-fit, W-whole, W-part, allz-bytes}
-use Rattle.layout.specs.Code.{Code, zeros, okN, optional}
+use Rattle.layout.specs.Code.{Code, zeros, optional}
 use Rattle.layout.specs.Tables.{Holds, Held, Becomes, Gives, rowsIn, fillFrom}
 use Rattle.layout.specs.Contents.{decides-same, ok-prefix}
 use Rattle.layout.specs.Rows.{row-end}
-use Rattle.layout.specs.TableLaws.{rows-are, row-word, row-held, row-parsed, length-rowsIn, fill-held, blank-held, puts, rowed-start, rowed-done, held-rows}
+use Rattle.layout.specs.TableLaws.{row-word, row-held, row-parsed, length-rowsIn, fill-held, blank-held, puts, rowed-start, rowed-done, held-rows}
 use Rattle.layout.specs.Marked.{wordsFor, Sound, sound, sounds}
 use Rattle.layout.specs.Payload.{payload, payloadMarking, markOf, bodyOf}
 use Rattle.layout.specs.MarkedCalls.{Puts}
-use Rattle.layout.specs.MarkedLaws.{mark-read, body-read}
+use Rattle.layout.specs.MarkedLaws.{body-read}
 use Rattle.layout.specs.Parts.{lentRow, backRow, length-lentRow, row-back, lent-fine, lent-fails}
 use Rattle.log.specs.declared.Place.{Place}
 use Rattle.log.specs.declared.Place.the-variants.{None, Noop, Command}
-use Rattle.log.specs.Log.{Log, emptyLog, entryAt, putAt, truncateAt, count, lastIndex, gaps, removedBy}
+use Rattle.log.specs.Log.{Log, entryAt, putAt, truncateAt, count, lastIndex, gaps, removedBy}
 use Rattle.log.specs.Places.{one-more, entryCode, place, places, kindIn, placeOf, placeAt, said, lengthOf, presence, bytesIn, ReadsEntry, Truncates, Clears, Compares, isPayload, holdsAt, samePayloads, putEntry}
 
 -- ---- what a row's words say

@@ -1,4 +1,4 @@
--- What sync and crash leave and answer. Assumes nothing.
+-- What the functions of replay.rt leave and answer. Assumes nothing.
 use mathlib.Core.Path.{_≡_}
 use mathlib.Core.List.{List}
 use Prim.Native.Nat.{ℕ, _+_, _*_, _≤_}

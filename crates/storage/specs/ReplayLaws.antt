@@ -1,13 +1,13 @@
--- What the proofs of lib.rt cite. Assumes nothing.
+-- What the proofs of replay.rt cite. Assumes nothing.
 use mathlib.Core.Path.{_≡_, refl, sym, ap, ap₂, _∙_, subst}
-use mathlib.Core.Bool.{Bool, true, false}
+use mathlib.Core.Bool.{true}
 use mathlib.Core.List.{List, [], _∷_, _++_}
-use mathlib.Core.Option.{Option, none, some}
+use mathlib.Core.Option.{some}
 use Prim.Native.Nat.{ℕ, zero, suc, _+_, _-_, _*_, _^_, _≤_, _<_}
 use native.Mathlib.Numerals.{add-one}
 use native.Mathlib.Omega.{arith}
-use lib.ListN.{length, getD, set, take, drop, drop-of-length-le}
-use lib.Seq.{sets, drop-cons, take-suc, take-all, take-take, take-at, set-out}
+use lib.ListN.{length, getD, take, drop, drop-of-length-le}
+use lib.Seq.{drop-cons, take-suc, take-all, take-take, take-at, set-out}
 use Rattle.units.specs.Types.{Payload, noop, command, Entry}
 use Rattle.units.specs.declared.Term.{Term}
 use Rattle.units.specs.declared.LogIndex.{LogIndex}
@@ -20,7 +20,7 @@ use Rattle.layout.specs.Marked.{wordsFor, marked}
 use Rattle.layout.specs.MarkedLaws.{body-read}
 use Rattle.layout.specs.Parts.{lentRow}
 use Rattle.laws.specs.Bools.{and-left}
-use Rattle.log.specs.Log.{Log, putAt, truncateAt}
+use Rattle.log.specs.Log.{Log, putAt}
 use Rattle.log.specs.Places.{places, putEntry, Truncates}
 use Rattle.record.specs.Postcard.{recordBytes, hardStateRecord, truncateRecord, putBytes}
 use Rattle.record.specs.Lengths.{put-bytes-is}
@@ -29,7 +29,7 @@ use Rattle.storage.specs.declared.HardState.{HardState}
 use Rattle.storage.specs.declared.waiting.Shape.{Shape}
 use Rattle.storage.specs.declared.waiting.Shape.the-variants as Shape
 use Rattle.storage.specs.Storage.{Disk, Write, writeHardState, writePut, writeTruncate, applyWrite, applyWrites, writeBytes, unsyncedBytes}
-use Rattle.storage.specs.Waiting.{kindMarking, payloadKind, kindOf, bodyOf, firstOf, secondOf, two-more, writeCode, waiting, entryShape, shapeOf, lengthOf, nothing, shapeAt, Shows}
+use Rattle.storage.specs.Waiting.{kindMarking, payloadKind, kindOf, bodyOf, firstOf, secondOf, writeCode, waiting, entryShape, shapeOf, lengthOf, nothing, shapeAt, Shows}
 use Rattle.storage.specs.Replay.{shapeBytes, Sizes, bodyAt, Applies, Replays}
 
 -- ---- the bytes of a write
@@ -123,7 +123,6 @@ module _ (p m : ℕ) {N : ℕ} {s : List ℕ} {ws : List Write} (h : Held (waiti
 
   row-here : Holds (marked kindMarking p) (lentRow at (1 + wordsFor p) s) (kindOf here)
   row-here =
-      let w : ℕ = 1 + wordsFor p in
       let g : writeCode p .good here ≡ true = row-held h k nothing l .good in
       let c : 8 * (at + (1 + wordsFor p)) - 8 * at ≡ 8 * (1 + wordsFor p) = omega arith in
       let u : List ℕ = marked kindMarking p .enc (kindOf here) in

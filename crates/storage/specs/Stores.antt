@@ -1,6 +1,5 @@
 -- What a server's storage is in its regions and its fixed part, and what the functions of lib.rt leave. Assumes nothing.
 use mathlib.Core.Path.{_≡_}
-use mathlib.Core.Bool.{Bool}
 use mathlib.Core.List.{List}
 use Prim.Native.Nat.{ℕ}
 use Rattle.layout.specs.Tables.{Held}

@@ -1,9 +1,7 @@
 -- What the proofs of lib.rt cite. Assumes nothing.
-use mathlib.Core.Path.{_≡_, refl, sym, ap, ap₂, _∙_, subst}
-use mathlib.Core.Bool.{Bool, true, false}
-use mathlib.Core.List.{List, [], _∷_, append-nil}
-use Prim.Native.Nat.{ℕ, zero, _+_, _-_, _*_, _≤_, _<_}
-use native.Mathlib.Nat.{zero-mul}
+use mathlib.Core.Path.{_≡_, refl, sym, ap, _∙_, subst}
+use mathlib.Core.List.{List, [], append-nil}
+use Prim.Native.Nat.{ℕ, zero, _-_}
 use native.Mathlib.Omega.{arith}
 use lib.Dec.{ltb}
 use lib.ListN.{length, length-replicate}
@@ -17,11 +15,10 @@ use Rattle.layout.specs.Tables.{Held, Gives}
 use Rattle.layout.specs.TableLaws.{held-rows, held-length, empty-held}
 use Rattle.storage.specs.declared.HardState.{HardState}
 use Rattle.storage.specs.declared.StorageState.{StorageState}
-use Rattle.storage.specs.declared.Synced.{Synced}
-use Rattle.storage.specs.Storage.{Write, Storage, applyWrites, sync, crash, unsynced, unsyncedBytes}
+use Rattle.storage.specs.Storage.{Write, applyWrites, sync, crash, unsyncedBytes}
 use Rattle.storage.specs.Waiting.{waiting}
 use Rattle.storage.specs.Replay.{Replays}
-use Rattle.storage.specs.Stores.{Stores, Syncs, Crashes}
+use Rattle.storage.specs.Stores.{Syncs, Crashes}
 
 -- no write waits in a region of zeros
 emptied : (p N m : ℕ) (b b′ : List ℕ) (ws : List Write) → Held (waiting p) N m b ws → b′ ≡ sets b 0 (zeros (length b - 0)) → Held (waiting p) N 0 b′ []
@@ -32,11 +29,11 @@ emptied p N m b b′ ws h e =
     e ∙ ap (λ (j : ℕ). sets b 0 (zeros j)) k ∙ ap (λ (u : List ℕ). sets u 0 (zeros (length b))) (sym (append-nil b)) ∙ sets-at [] b [] (zeros (length b)) 0 refl l ∙ append-nil (zeros (length b)) in
     empty-held (waiting p) N b′ (ap length q ∙ l ∙ held-length h) refl (ap allz q ∙ allz-zeros (length b))
 
-pub synced : (p n m bytes : ℕ) (v : StorageState) (after : HardState) (dur dur′ wait wait′ : List ℕ) → Gives (waiting p) (v .waiting) wait bytes unsyncedBytes → Replays p n (v .waiting) (v .durable) after wait dur dur′
+pub synced : (p n bytes : ℕ) (v : StorageState) (after : HardState) (dur dur′ wait wait′ : List ℕ) → Gives (waiting p) (v .waiting) wait bytes unsyncedBytes → Replays p n (v .waiting) (v .durable) after wait dur dur′
     → wait′ ≡ sets wait 0 (zeros (length wait - 0))
     → Syncs p n v (record { state = record { current = v .current; durable = after; waiting = 0; discarded = v .discarded }; wrote = ltb 0 (v .waiting); bytes = bytes }) dur dur′ wait wait′
 unfolding sync
-synced p n m bytes v after dur dur′ wait wait′ g r e = record {
+synced p n bytes v after dur dur′ wait wait′ g r e = record {
   to = λ cur x s. record {
     words = s .words;
     words₂ = s .words₂;

@@ -1,6 +1,6 @@
 -- How the writes not yet synced lie in words (waiting.rt), and what its functions leave and answer. Payloads are of up to p bytes. Assumes nothing.
 use mathlib.Core.Path.{_≡_, refl, sym, ap}
-use mathlib.Core.Bool.{Bool, true, false}
+use mathlib.Core.Bool.{Bool, true}
 use mathlib.Core.List.{List, [], _∷_}
 use Prim.Native.Nat.{ℕ, zero, suc, _+_, _-_, _≤_}
 use native.Mathlib.Omega.{arith}
@@ -8,7 +8,7 @@ use lib.Dec.{eqb, leb}
 use lib.ListN.{length, getD}
 use borrow.Author.Tests.{eqb-true}
 use Rattle.laws.specs.Bools.{and-right, pick}
-use Rattle.units.specs.Types.{Payload, noop, command, Entry}
+use Rattle.units.specs.Types.{Payload, noop, command}
 use Rattle.units.specs.declared.Term.{Term}
 use Rattle.units.specs.declared.LogIndex.{LogIndex}
 use Rattle.units.specs.declared.NodeOption.{NodeOption}
@@ -146,6 +146,13 @@ plain vote b = true
 plain truncate b = eqb b 0
 plain putNoop b = true
 plain (putCommand bs) b = true
+
+-- The same by the kind's number.
+unfoldable pub plainMark : ℕ → ℕ → Bool
+plainMark zero b = eqb b 0
+plainMark (suc zero) b = true
+plainMark (suc (suc zero)) b = eqb b 0
+plainMark (suc (suc (suc m))) b = true
 
 abbrev pub toWrite : Kind × (ℕ × ℕ) → Write
 toWrite x = writeFrom (x .0) (x .1 .0) (x .1 .1)

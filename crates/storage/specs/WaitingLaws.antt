@@ -1,36 +1,36 @@
 -- What the proofs of waiting.rt cite. Assumes nothing.
-use mathlib.Core.Path.{_≡_, refl, sym, ap, ap₂, _∙_, subst}
-use mathlib.Core.Bool.{Bool, true, false}
-use mathlib.Core.List.{List, [], _∷_, _++_, append-assoc}
+use mathlib.Core.Path.{_≡_, refl, sym, ap, ap₂, _∙_}
+use mathlib.Core.Bool.{Bool, true, false, not}
+use mathlib.Core.List.{List, [], _∷_, _++_}
 use Prim.Native.Nat.{ℕ, zero, suc, _+_, _-_, _*_, _^_, _≤_, _<_}
 use native.Mathlib.Omega.{arith}
 use lib.Dec.{eqb, leb}
 use lib.ListN.{length, getD, take, drop}
-use lib.Seq.{sets, getD-at, getD-append-add}
+use lib.Seq.{sets, getD-at, getD-append-add, getD-drop, take-take}
 use mir.Syntax.{w64}
 use mir.Val.{Fits}
-use borrow.Author.Tests.{lt-ltb, le-leb, lt-leb}
-use Rattle.laws.specs.Bools.{pick, and-left, and-right, and-both}
-use Rattle.units.specs.Types.{Payload, noop, command, Entry}
+use borrow.Author.Tests.{lt-ltb, le-leb, lt-leb, not-true, not-false}
+use Rattle.laws.specs.Bools.{pick, _and_, and-left, and-both, no-and, true-and}
+use Rattle.units.specs.Types.{Payload, noop, command}
 use Rattle.units.specs.declared.Term.{Term}
 use Rattle.units.specs.declared.LogIndex.{LogIndex}
 use Rattle.units.specs.declared.NodeId.{NodeId}
 use Rattle.units.specs.declared.NodeOption.{NodeOption}
 use Rattle.units.specs.declared.NodeOption.the-variants.{None, Some}
-use Rattle.words.specs.Words.{bytes, W, Bytes}
+use Rattle.words.specs.Words.{bytes, W, Bytes, allz}
 use Rattle.words.specs.Sets.{sets-append}
-use Rattle.words.specs.Lift.{bytes-append, length-bytes}
-use Rattle.layout.specs.Tables.{Holds, Held, Becomes, Gives, append}
-use Rattle.layout.specs.TableLaws.{row-word, row-held, appends}
-use Rattle.layout.specs.Marked.{wordsFor, Sound, sound, sounds, marked}
-use Rattle.layout.specs.MarkedCalls.{laid, Puts}
+use Rattle.words.specs.Lift.{bytes-append, length-bytes, W-part}
+use Rattle.layout.specs.Tables.{Holds, Held, Becomes, append}
+use Rattle.layout.specs.TableLaws.{row-word, row-held, appends, rowed-start, rowed-done}
+use Rattle.layout.specs.Marked.{wordsFor, Sound, sound, sounds, marked, bodyIn}
+use Rattle.layout.specs.MarkedCalls.{laid, restOk}
 use Rattle.layout.specs.MarkedLaws.{puts}
-use Rattle.layout.specs.Parts.{lentRow, backRow, length-lentRow, row-back}
+use Rattle.layout.specs.Parts.{lentRow, backRow, length-lentRow, row-back, lent-fine, lent-fails}
 use Rattle.storage.specs.declared.HardState.{HardState}
 use Rattle.storage.specs.declared.waiting.Shape.{Shape}
 use Rattle.storage.specs.declared.waiting.Shape.the-variants as Shape
 use Rattle.storage.specs.Storage.{Write, writeHardState, writePut, writeTruncate}
-use Rattle.storage.specs.Waiting.{Kind, hardState, vote, truncate, putNoop, putCommand, markOf, bodyOf, kindMarking, kindOf, firstOf, secondOf, voteKind, voteNumber, payloadKind, plain, two-more, writeCode, waiting, Pushes, entryShape, shapeOf, lengthOf, nothing, shapeAt, shaped, Shaped, Shows}
+use Rattle.storage.specs.Waiting.{Kind, markOf, bodyOf, kindMarking, kindFrom, kindOf, firstOf, secondOf, voteKind, voteNumber, payloadKind, plain, plainMark, two-more, writeCode, waiting, Pushes, entryShape, shapeOf, lengthOf, nothing, shapeAt, shaped, Shaped, Shows}
 
 -- ---- a write after the last
 
@@ -53,9 +53,6 @@ pub pushed : (p m mark a b : ℕ) (src s ys s′ : List ℕ) → p ≤ 256 → 8
     → Pushes p m mark src a b s s′
 pushed p m mark a b src s ys s′ q room l fm fa fb B ey es = record { to = to }
   where
-    at : ℕ
-    at = m * (1 + wordsFor p + 2)
-
     at-is : m * (1 + wordsFor p + 2) ≡ m * (3 + wordsFor p)
     at-is = ap (λ (k : ℕ). m * k) (two-more (wordsFor p))
 
@@ -160,7 +157,6 @@ shows p m k at mark a b s r h e em ea eb c = record { is = record { to = λ N ws
     is : {N : ℕ} {ws : List Write} → Held (waiting p) N m s ws → shaped p mark a b ≡ shapeOf (getD ws k nothing)
     is {N} {ws} g =
         let w : Write = getD ws k nothing in
-        let d : ℕ = 3 + wordsFor p in
         let row : List ℕ = marked kindMarking p .enc (kindOf w) in
         let good : writeCode p .good w ≡ true = row-held g k nothing h .good in
         let l : length row ≡ 1 + wordsFor p = marked kindMarking p .size-enc (kindOf w) (and-left _ _ (and-left _ _ good)) in
@@ -174,3 +170,72 @@ shows p m k at mark a b s r h e em ea eb c = record { is = record { to = λ N ws
         eb ∙ ap (λ (j : ℕ). getD (W s) j 0) i₂ ∙ row-word g k (2 + wordsFor p) nothing h (omega arith) ∙ ap (λ (j : ℕ). getD (row ++ (firstOf w ∷ secondOf w ∷ [])) j 0) j₂
         ∙ getD-append-add row (firstOf w ∷ secondOf w ∷ []) 1 0 in
         ap (λ (j : ℕ). shaped p j a b) m₀ ∙ ap₂ (λ (x y : ℕ). shaped p (markOf (kindOf w)) x y) m₁ m₂ ∙ shaped-write p w good
+
+-- ---- check
+
+plain-kind : (m : ℕ) (d : List ℕ) (b : ℕ) → plain (kindFrom m d) b ≡ plainMark m b
+unfolding kindFrom plainMark
+plain-kind zero d b = refl
+plain-kind (suc zero) d b = refl
+plain-kind (suc (suc zero)) d b = refl
+plain-kind (suc (suc (suc zero))) d b = refl
+plain-kind (suc (suc (suc (suc m)))) d b = refl
+
+plain-as : (m k b : ℕ) (r : Bool) → m ≡ k → r ≡ plainMark k b → r ≡ plainMark m b
+plain-as m k b r e f = f ∙ ap (λ (j : ℕ). plainMark j b) (sym e)
+
+pub plain-state : (m b : ℕ) → m < 1 → eqb b 0 ≡ plainMark m b
+unfolding plainMark
+plain-state m b h = plain-as m zero b (eqb b 0) (omega arith) refl
+
+pub plain-vote : (m b : ℕ) → 1 ≤ m → m < 2 → true ≡ plainMark m b
+unfolding plainMark
+plain-vote m b h k = plain-as m (suc zero) b true (omega arith) refl
+
+pub plain-truncate : (m b : ℕ) → 2 ≤ m → m < 3 → eqb b 0 ≡ plainMark m b
+unfolding plainMark
+plain-truncate m b h k = plain-as m (suc (suc zero)) b (eqb b 0) (omega arith) refl
+
+pub plain-put : (m b : ℕ) → 3 ≤ m → true ≡ plainMark m b
+unfolding plainMark
+plain-put zero b h = absurd (omega arith)
+plain-put (suc zero) b h = absurd (omega arith)
+plain-put (suc (suc zero)) b h = absurd (omega arith)
+plain-put (suc (suc (suc zero))) b h = refl
+plain-put (suc (suc (suc (suc m)))) b h = refl
+
+pub ruleset plains = (plain-state, plain-vote, plain-truncate, plain-put)
+
+-- the bytes of a row's command are in its first 1 + ⌈p/8⌉ words
+body-front : (k : ℕ) (ws : List ℕ) → take k (drop 1 (take (suc k) ws)) ≡ take k (drop 1 ws)
+body-front k [] = refl
+body-front k (w ∷ ws) = take-take k k ws (omega arith)
+
+module _ (p : ℕ) (s : List ℕ) (B : Bytes s) (l : length s ≡ 8 * (3 + wordsFor p)) (m : ℕ) (e : m ≡ getD (W s) 0 0) (u : ℕ) (eu : u ≡ m - 4) (q : Bool)
+    (t : q ≡ restOk p u (take (8 * (1 + wordsFor p) - 0) (drop 0 s))) where
+  rest-row : q ≡ marked kindMarking p .ok (W s)
+  unfolding restOk bodyIn
+  rest-row =
+      let k : 8 * (1 + wordsFor p) - 0 ≡ 8 * (1 + wordsFor p) - 8 * 0 = omega arith in
+      let j : 1 + wordsFor p - 0 ≡ suc (wordsFor p) = omega arith in
+      let f : W (take (8 * (1 + wordsFor p) - 0) (drop 0 s)) ≡ take (suc (wordsFor p)) (W s) =
+      ap (λ (v : ℕ). W (take v s)) k ∙ W-part s 0 (1 + wordsFor p) B (omega arith) (omega arith) ∙ ap (λ (v : ℕ). take v (W s)) j in
+      let n : u ≡ getD (W s) 0 0 - 4 = eu ∙ ap (λ (v : ℕ). v - 4) e in
+      t ∙ ap₂ (λ (i : ℕ) (ws : List ℕ). leb i p and allz (drop i (bytes (take (wordsFor p) (drop 1 ws))))) n f
+      ∙ ap (λ (ws : List ℕ). leb (getD (W s) 0 0 - 4) p and allz (drop (getD (W s) 0 0 - 4) (bytes ws))) (body-front (wordsFor p) (W s)) ∙ sym (true-and _)
+
+  pub write-fails : not q ≡ true → false ≡ writeCode p .ok (W s)
+  write-fails f = sym (no-and _ _ (no-and _ _ (sym rest-row ∙ not-true q f)))
+
+  pub write-plain : (b : ℕ) (r : Bool) → not q ≡ false → b ≡ getD (W s) (1 + wordsFor p + 1) 0 → r ≡ plainMark m b → r ≡ writeCode p .ok (W s)
+  write-plain b r f eb er =
+      let d : List ℕ = take (getD (W s) 0 0 - 4) (bodyIn p (W s)) in
+      let c : getD (drop 1 (drop (1 + wordsFor p) (W s))) 0 0 ≡ b =
+      getD-drop 1 (drop (1 + wordsFor p) (W s)) 0 0 ∙ getD-drop (1 + wordsFor p) (W s) 1 0 ∙ sym eb in
+      er ∙ ap₂ plainMark e (sym c) ∙ sym (plain-kind (getD (W s) 0 0) d (getD (drop 1 (drop (1 + wordsFor p) (W s))) 0 0))
+      ∙ sym (ap (λ (v : Bool). (v and (true and true)) and plain (kindFrom (getD (W s) 0 0) d) (getD (drop 1 (drop (1 + wordsFor p) (W s))) 0 0)) (sym rest-row ∙ not-false q f)
+      ∙ ap (λ (v : Bool). v and plain (kindFrom (getD (W s) 0 0) d) (getD (drop 1 (drop (1 + wordsFor p) (W s))) 0 0)) (and-both _ _ refl (and-both _ _ refl refl)) ∙ true-and _)
+
+pub ruleset write-tests = (write-fails, write-plain)
+
+pub ruleset write-rows = (rowed-start, lent-fine, lent-fails, rowed-done)

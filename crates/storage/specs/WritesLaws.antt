@@ -1,9 +1,9 @@
 -- What the proofs of write.rt cite. Assumes nothing.
 use mathlib.Core.Path.{_≡_, refl, sym, ap, ap₂, _∙_, subst}
 use mathlib.Core.Bool.{Bool, true, false, not}
-use mathlib.Core.List.{List, [], _∷_}
+use mathlib.Core.List.{List}
 use mathlib.Core.Option.{Option, none, some}
-use Prim.Native.Nat.{ℕ, _+_, _-_, _*_, _^_, _≤_, _<_}
+use Prim.Native.Nat.{ℕ, _+_, _-_, _*_, _≤_, _<_}
 use native.Mathlib.Omega.{arith}
 use lib.ListN.{length}
 use Rattle.laws.specs.Bools.{pick}
@@ -20,9 +20,8 @@ use Rattle.log.specs.declared.Place.{Place}
 use Rattle.log.specs.declared.Place.the-variants.{None, Noop, Command}
 use Rattle.storage.specs.declared.HardState.{HardState}
 use Rattle.storage.specs.declared.StorageState.{StorageState}
-use Rattle.storage.specs.declared.write.Written.{Written}
 use Rattle.storage.specs.declared.write.Written.the-variants.{Done, Full, Past64Bits}
-use Rattle.storage.specs.Storage.{Write, writeHardState, writePut, writeTruncate, Storage, applyWrite, differs, discards, write}
+use Rattle.storage.specs.Storage.{Write, writeHardState, writePut, writeTruncate, applyWrite, differs, discards, write}
 use Rattle.storage.specs.Waiting.{waiting}
 use Rattle.storage.specs.Stores.{Stores}
 use Rattle.storage.specs.Writes.{Writes, WritesState, replacedBy}

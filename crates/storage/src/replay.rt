@@ -1,6 +1,5 @@
 // What a sync does with the waiting writes: the sum of their records' lengths, and the replay onto a log and a hard state. m is the count of
 // waiting writes, n that of the log's places, p the greatest length of a command.
-ghost use mathlib.Core.Path.{_≡_};
 ghost use Prim.Native.Nat.{_+_, _*_, _^_, _≤_, _<_};
 ghost use lib.ListN.{length};
 ghost use Rattle.units.specs.Types.{noop, command};

@@ -2,13 +2,16 @@
 // length of a command. A row is a number that says the kind of the write and the length of a command, the command's bytes, padded with
 // zeros, and two numbers: term and vote, index and term, or the index from which a truncation removes. The caller keeps m.
 ghost use mathlib.Core.Path.{_≡_};
-ghost use Prim.Native.Nat.{_+_, _*_, _≤_, _<_};
+ghost use Prim.Native.Nat.{_+_, _-_, _*_, _≤_, _<_};
 ghost use lib.ListN.{length};
 ghost use Rattle.units.specs.Types.{noop, command};
-ghost use Rattle.layout.specs.Tables.{Becomes, append};
+ghost use Rattle.laws.specs.Decides.{Decides};
+ghost use Rattle.words.specs.Words.{W};
+ghost use Rattle.layout.specs.Code.{okN};
+ghost use Rattle.layout.specs.Tables.{Tabled, Becomes, append};
 ghost use Rattle.layout.specs.Marked.{wordsFor};
 ghost use Rattle.storage.specs.Storage.{writeHardState, writePut, writeTruncate};
-ghost use Rattle.storage.specs.Waiting.{waiting, Pushes, Shaped, Shows};
+ghost use Rattle.storage.specs.Waiting.{writeCode, waiting, plainMark, Pushes, Shaped, Shows};
 use crate::HardState;
 use layout::marked;
 use layout::rows;
@@ -146,4 +149,71 @@ pub fn write_at(s: &[u8], m: usize, p: usize, k: usize) -> Shape
     let a = words::load(s, at + w - 2);
     let b = words::load(s, at + w - 1);
     row_shape(p, mark, a, b)
+}
+
+// ---- check
+
+// How many bytes a row's first word says: none where it is 4 or less.
+fn used(mark: u64) -> usize
+    ensures { λ r. ⌜ r ≡ mark - 4 ⌝ }
+{
+    if mark < 4 { 0 } else { (mark - 4) as usize }
+}
+
+// Whether a row's second number is zero where it says nothing.
+fn plain(mark: u64, b: u64) -> bool
+    ensures { λ r. ⌜ r ≡ plainMark mark b ⌝ }
+{
+    if mark < 1 {
+        return b == 0;
+    }
+    if mark < 2 {
+        return true;
+    }
+    if mark < 3 { b == 0 } else { true }
+}
+
+// Whether a row is a write with a command of up to p bytes.
+fn check_write(s: &[u8], p: usize) -> bool
+    requires { ⌜ (p ≤ 256) × (length (now s) ≡ 8 * (3 + wordsFor p)) ⌝ }
+    ensures { λ r. ⌜ r ≡ writeCode p .ok (W (now (s .entry))) ⌝ }
+{
+    let w = 1 + (p + 7) / 8;
+    let e = 8 * w;
+    let mark = words::load(s, 0);
+    if !marked::rest_ok(&s[0..e], used(mark), p) {
+        return false;
+    }
+    plain(mark, words::load(s, w + 1))
+}
+
+// Whether each row is a write.
+fn check_writes(s: &[u8], m: usize, p: usize) -> bool
+    requires { ⌜ (p ≤ 256) × (8 * (m * (3 + wordsFor p)) ≤ length (now s)) ⌝ }
+    ensures { λ r. ⌜ r ≡ okN (writeCode p) m (W (now (s .entry))) ⌝ }
+{
+    let w = 3 + (p + 7) / 8;
+    let mut i = 0;
+    while i < m {
+        let at = rows::start_of(i, m, w);
+        let a = 8 * at;
+        let e = 8 * (at + w);
+        if !check_write(&s[a..e], p) {
+            return false;
+        }
+        i += 1;
+    }
+    true
+}
+
+// Whether the bytes are a table of m writes with commands of up to p bytes.
+pub fn check(s: &[u8], m: usize, p: usize) -> bool
+    requires { ⌜ p ≤ 256 ⌝ }
+    ensures { λ r. ⌜ Decides r (Tabled (waiting p) m (now (s .entry))) ⌝ }
+{
+    let w = 3 + (p + 7) / 8;
+    if !rows::padding(s, m, w) {
+        return false;
+    }
+    check_writes(s, m, p)
 }
