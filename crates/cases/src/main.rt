@@ -8,6 +8,10 @@ use queue::table;
 use record::PayloadShape;
 use rng::Rng;
 use seeds::Stream;
+use storage::HardState;
+use storage::StorageState;
+use storage::write;
+use storage::write::Written;
 use units::Duration;
 use units::LogIndex;
 use units::NodeId;
@@ -55,6 +59,64 @@ fn gaps_close(s: &mut [u8]) -> bool {
     let before = log::gaps(s, 4, 12);
     let removed = log::truncate(s, 4, 12, LogIndex(2));
     (before == 1) & (removed == 1) & (log::gaps(s, 4, 12) == 0)
+}
+
+// A disk of term 0 and no vote, with so many waiting writes.
+fn disk(waiting: u64) -> StorageState {
+    let state = HardState {
+        term: Term(0),
+        voted_for: NodeOption::None,
+    };
+    StorageState {
+        current: state,
+        durable: state,
+        waiting,
+        discarded: 0,
+    }
+}
+
+// A put, then a crash. The bytes are two logs of four places and two waiting writes; where they are not, a write is left to wait.
+fn put_and_crash(current: &mut [u8], durable: &[u8], waiting: &mut [u8]) -> StorageState {
+    if current.len() != 128 {
+        return disk(1);
+    }
+    if durable.len() != 128 {
+        return disk(1);
+    }
+    if waiting.len() != 80 {
+        return disk(1);
+    }
+    let put = write::put_noop(disk(0), current, waiting, 4, 2, 12, LogIndex(1), Term(1));
+    let Written::Done(written) = put else {
+        return disk(1);
+    };
+    storage::crash(written, current, durable, waiting)
+}
+
+// Whether a sync has nothing to write.
+fn nothing_to_sync(v: StorageState, durable: &mut [u8], waiting: &mut [u8]) -> bool {
+    if durable.len() != 128 {
+        return false;
+    }
+    if v.waiting != 0 {
+        return false;
+    }
+    let synced = storage::sync(v, durable, waiting, 4, 12);
+    !synced.wrote
+}
+
+// Whether a log of four places has no entry.
+fn no_entry(s: &[u8]) -> bool {
+    if s.len() != 128 {
+        return false;
+    }
+    log::last_index(s, 4, 12).0 == 0
+}
+
+// A put that is lost in a crash: the log is empty again, and a sync has nothing to write.
+fn crash_forgets(current: &mut [u8], durable: &mut [u8], waiting: &mut [u8]) -> bool {
+    let crashed = put_and_crash(current, durable, waiting);
+    no_entry(current) & nothing_to_sync(crashed, durable, waiting)
 }
 
 // The client of the earliest event.
@@ -106,6 +168,13 @@ fn main() {
     report(b"C6", record::truncate_bytes(LogIndex(128)) == 7);
     let mut places = [0u8; 128];
     report(b"C7", gaps_close(&mut places));
+    let mut durable = [0u8; 128];
+    let mut waiting = [0u8; 80];
+    let mut current = [0u8; 128];
+    report(
+        b"C8",
+        crash_forgets(&mut current, &mut durable, &mut waiting),
+    );
     let mut events = [0u8; 168];
     report(b"C9", earliest_first(&mut events));
     let two_groups = Network::new(Duration(0), Rng::new(0)).partition(3 + 256 * 6);
