@@ -10,6 +10,8 @@ use libc::STDOUT_FILENO;
 use network::Duplicate;
 use network::Network;
 use network::Route;
+use queue::Event;
+use queue::table;
 use record::PayloadShape;
 use rng::Bounded;
 use rng::Rng;
@@ -18,6 +20,7 @@ use units::Duration;
 use units::LogIndex;
 use units::NodeId;
 use units::NodeOption;
+use units::SimTime;
 use units::Term;
 
 // A file of rows that are compared one by one.
@@ -436,6 +439,106 @@ fn compared_links(s: &[u8]) -> Tally {
     Tally { rows, differ }
 }
 
+// A queue's count after a row, and whether the row agrees.
+struct Queued {
+    count: usize,
+    agrees: bool,
+}
+
+// The client of an event that has one to send.
+fn client_of(event: Event) -> u64 {
+    match event {
+        Event::ClientSend { client } => client,
+        _ => 0,
+    }
+}
+
+// An event pushed at a time. The area has room for 128 events without messages.
+fn pushed(area: &mut [u8], n: usize, time: u64, number: u64) -> Queued {
+    if area.len() != 7168 {
+        return Queued {
+            count: n,
+            agrees: false,
+        };
+    }
+    if 128 <= n {
+        return Queued {
+            count: n,
+            agrees: false,
+        };
+    }
+    let event = Event::ClientSend { client: number };
+    table::push(area, n, 0, SimTime(time), event, b"");
+    Queued {
+        count: n + 1,
+        agrees: true,
+    }
+}
+
+// The earliest event taken, if there is one; `found` is 1 where the row has one.
+fn taken(area: &mut [u8], n: usize, found: u64, time: u64, number: u64) -> Queued {
+    if n == 0 {
+        return Queued {
+            count: 0,
+            agrees: found == 0,
+        };
+    }
+    if 128 < n {
+        return Queued {
+            count: n,
+            agrees: false,
+        };
+    }
+    if area.len() != 7168 {
+        return Queued {
+            count: n,
+            agrees: false,
+        };
+    }
+    let first = table::first(area);
+    let event = first.event;
+    let same = (found == 1) & (first.time.0 == time) & (client_of(event) == number);
+    table::remove_first(area, n, 0);
+    Queued {
+        count: n - 1,
+        agrees: same,
+    }
+}
+
+// A row of queue.bin: 0, 1, time, number pushes an event; 1, 1, time, number takes it; 1, 0, 0, 0 finds none.
+fn queue_row(area: &mut [u8], n: usize, row: &[u8]) -> Queued {
+    if row.len() != 32 {
+        return Queued {
+            count: n,
+            agrees: false,
+        };
+    }
+    let time = words::load(row, 2);
+    let number = words::load(row, 3);
+    if words::load(row, 0) == 0 {
+        pushed(area, n, time, number)
+    } else {
+        taken(area, n, words::load(row, 1), time, number)
+    }
+}
+
+// Compares the rows of queue.bin, each with the queue that those before it left.
+fn compared_queue(s: &[u8], area: &mut [u8]) -> Tally {
+    let mut n: usize = 0;
+    let mut rows: u64 = 0;
+    let mut differ: u64 = 0;
+    let mut at: usize = 0;
+    while 32 <= s.len() - at {
+        let end = at + 32;
+        let row = queue_row(area, n, &s[at..end]);
+        n = row.count;
+        differ = counted(differ, row.agrees);
+        rows += 1;
+        at = end;
+    }
+    Tally { rows, differ }
+}
+
 fn report(name: &[u8], t: Tally) {
     io::write_all(STDOUT_FILENO, name);
     io::write_all(STDOUT_FILENO, b": ");
@@ -470,6 +573,11 @@ fn replay_links(buffer: &mut [u8]) {
     report(b"links", compared_links(&buffer[..n]));
 }
 
+fn replay_queue(buffer: &mut [u8], area: &mut [u8]) {
+    let n = read(b"queue.bin", buffer);
+    report(b"queue", compared_queue(&buffer[..n], area));
+}
+
 fn main() {
     let mut buffer = io::large_buffer();
     replay(b"draws", b"draws.bin", File::Draws, &mut buffer);
@@ -491,4 +599,6 @@ fn main() {
     replay(b"records", b"records.bin", File::Records, &mut buffer);
     replay(b"routes", b"routes.bin", File::Routes, &mut buffer);
     replay_links(&mut buffer);
+    let mut area = [0u8; 7168];
+    replay_queue(&mut buffer, &mut area);
 }
