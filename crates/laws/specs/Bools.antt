@@ -127,3 +127,17 @@ module _ {A : Type 0} (f : A → Bool) where
       not-below h = omega arith
   every-at (x ∷ xs) zero d h e = no-and (f x) (every f xs) e
   every-at (x ∷ xs) (suc i) d h e = and-no (f x) (every f xs) (every-at xs i d (omega arith) e)
+
+-- two tests of every element
+module _ {A : Type 0} (f g : A → Bool) where
+  pub every-first : (xs : List A) → every (λ x. f x and g x) xs ≡ true → every f xs ≡ true
+  every-first [] h = refl
+  every-first (x ∷ xs) h = and-both _ _ (and-left _ _ (and-left _ _ h)) (every-first xs (and-right _ _ h))
+
+  pub every-second : (xs : List A) → every (λ x. f x and g x) xs ≡ true → every g xs ≡ true
+  every-second [] h = refl
+  every-second (x ∷ xs) h = and-both _ _ (and-right _ _ (and-left _ _ h)) (every-second xs (and-right _ _ h))
+
+  pub every-both : (xs : List A) → every f xs ≡ true → every g xs ≡ true → every (λ x. f x and g x) xs ≡ true
+  every-both [] h k = refl
+  every-both (x ∷ xs) h k = and-both _ _ (and-both _ _ (and-left _ _ h) (and-left _ _ k)) (every-both xs (and-right _ _ h) (and-right _ _ k))

@@ -7,7 +7,7 @@ use native.Mathlib.Omega.{arith}
 use lib.Dec.{eqb, leb}
 use lib.ListN.{length, getD}
 use borrow.Author.Tests.{eqb-true}
-use Rattle.laws.specs.Bools.{and-right, pick}
+use Rattle.laws.specs.Bools.{and-right, _and_, pick}
 use Rattle.units.specs.Types.{Payload, noop, command}
 use Rattle.units.specs.declared.Term.{Term}
 use Rattle.units.specs.declared.LogIndex.{LogIndex}
@@ -193,6 +193,23 @@ writeCode p = sized (iso (rowParts p) toWrite fromWrite write-back (λ x h. part
 -- The waiting writes, in write order.
 abbrev pub waiting : ℕ → Table Write
 waiting p = record { row = writeCode p; rule = λ x. true }
+
+-- Whether a put's index is 1 to L; no other write has an index with a range.
+abbrev pub putWithin : ℕ → Write → Bool
+putWithin L (writeHardState h) = true
+putWithin L (writePut index e) = leb 1 (index .0) and leb (index .0) L
+putWithin L (writeTruncate from) = true
+
+-- The same by the kind's number and the row's first number.
+unfoldable pub withinMark : ℕ → ℕ → ℕ → Bool
+withinMark L zero a = true
+withinMark L (suc zero) a = true
+withinMark L (suc (suc zero)) a = true
+withinMark L (suc (suc (suc m))) a = leb 1 a and leb a L
+
+-- The waiting writes to a log of L places.
+abbrev pub waitingIn : ℕ → ℕ → Table Write
+waitingIn L p = record { row = such (writeCode p) (putWithin L); rule = λ x. true }
 
 -- ---- answers
 

@@ -1,6 +1,6 @@
 -- What the proofs of waiting.rt cite. Assumes nothing.
 use mathlib.Core.Path.{_≡_, refl, sym, ap, ap₂, _∙_}
-use mathlib.Core.Bool.{Bool, true, false, not}
+use mathlib.Core.Bool.{Bool, true, false, not, _&&_}
 use mathlib.Core.List.{List, [], _∷_, _++_}
 use Prim.Native.Nat.{ℕ, zero, suc, _+_, _-_, _*_, _^_, _≤_, _<_}
 use native.Mathlib.Omega.{arith}
@@ -10,7 +10,7 @@ use lib.Seq.{sets, getD-at, getD-append-add, getD-drop, take-take}
 use mir.Syntax.{w64}
 use mir.Val.{Fits}
 use borrow.Author.Tests.{lt-ltb, le-leb, lt-leb, not-true, not-false}
-use Rattle.laws.specs.Bools.{pick, _and_, and-left, and-both, no-and, true-and}
+use Rattle.laws.specs.Bools.{pick, _and_, and-left, and-both, no-and, true-and, code-and, every, every-first, every-second, every-both}
 use Rattle.units.specs.Types.{Payload, noop, command}
 use Rattle.units.specs.declared.Term.{Term}
 use Rattle.units.specs.declared.LogIndex.{LogIndex}
@@ -20,8 +20,9 @@ use Rattle.units.specs.declared.NodeOption.the-variants.{None, Some}
 use Rattle.words.specs.Words.{bytes, W, Bytes, allz}
 use Rattle.words.specs.Sets.{sets-append}
 use Rattle.words.specs.Lift.{bytes-append, length-bytes, W-part}
+use Rattle.layout.specs.Code.{fitted}
 use Rattle.layout.specs.Tables.{Holds, Held, Becomes, append}
-use Rattle.layout.specs.TableLaws.{row-word, row-held, appends, rowed-start, rowed-done}
+use Rattle.layout.specs.TableLaws.{row-word, row-held, held-rows, appends, rowed-start, rowed-done}
 use Rattle.layout.specs.Marked.{wordsFor, Sound, sound, sounds, marked, bodyIn}
 use Rattle.layout.specs.MarkedCalls.{laid, restOk}
 use Rattle.layout.specs.MarkedLaws.{puts}
@@ -30,7 +31,7 @@ use Rattle.storage.specs.declared.HardState.{HardState}
 use Rattle.storage.specs.declared.waiting.Shape.{Shape}
 use Rattle.storage.specs.declared.waiting.Shape.the-variants as Shape
 use Rattle.storage.specs.Storage.{Write, writeHardState, writePut, writeTruncate}
-use Rattle.storage.specs.Waiting.{Kind, markOf, bodyOf, kindMarking, kindFrom, kindOf, firstOf, secondOf, voteKind, voteNumber, payloadKind, plain, plainMark, two-more, writeCode, waiting, Pushes, entryShape, shapeOf, lengthOf, nothing, shapeAt, shaped, Shaped, Shows}
+use Rattle.storage.specs.Waiting.{Kind, markOf, bodyOf, kindMarking, kindFrom, kindOf, firstOf, secondOf, voteKind, voteNumber, payloadKind, plain, plainMark, two-more, writeFrom, writeCode, waiting, putWithin, withinMark, waitingIn, Pushes, entryShape, shapeOf, lengthOf, nothing, shapeAt, shaped, Shaped, Shows}
 
 -- ---- a write after the last
 
@@ -206,12 +207,36 @@ plain-put (suc (suc (suc (suc m)))) b h = refl
 
 pub ruleset plains = (plain-state, plain-vote, plain-truncate, plain-put)
 
+within-kind : (n m : ℕ) (d : List ℕ) (a b : ℕ) → putWithin n (writeFrom (kindFrom m d) a b) ≡ withinMark n m a
+unfolding kindFrom withinMark
+within-kind n zero d a b = refl
+within-kind n (suc zero) d a b = refl
+within-kind n (suc (suc zero)) d a b = refl
+within-kind n (suc (suc (suc zero))) d a b = refl
+within-kind n (suc (suc (suc (suc m)))) d a b = refl
+
+pub within-other : (n m a : ℕ) → m < 3 → true ≡ withinMark n m a
+unfolding withinMark
+within-other n zero a h = refl
+within-other n (suc zero) a h = refl
+within-other n (suc (suc zero)) a h = refl
+within-other n (suc (suc (suc m))) a h = absurd (omega arith)
+
+pub within-put : (n m a : ℕ) → 3 ≤ m → (leb 1 a && leb a n) ≡ withinMark n m a
+unfolding withinMark
+within-put n zero a h = absurd (omega arith)
+within-put n (suc zero) a h = absurd (omega arith)
+within-put n (suc (suc zero)) a h = absurd (omega arith)
+within-put n (suc (suc (suc m))) a h = code-and (leb 1 a) (leb a n)
+
+pub ruleset withins = (within-other, within-put)
+
 -- the bytes of a row's command are in its first 1 + ⌈p/8⌉ words
 body-front : (k : ℕ) (ws : List ℕ) → take k (drop 1 (take (suc k) ws)) ≡ take k (drop 1 ws)
 body-front k [] = refl
 body-front k (w ∷ ws) = take-take k k ws (omega arith)
 
-module _ (p : ℕ) (s : List ℕ) (B : Bytes s) (l : length s ≡ 8 * (3 + wordsFor p)) (m : ℕ) (e : m ≡ getD (W s) 0 0) (u : ℕ) (eu : u ≡ m - 4) (q : Bool)
+module _ (n p : ℕ) (s : List ℕ) (B : Bytes s) (l : length s ≡ 8 * (3 + wordsFor p)) (m : ℕ) (e : m ≡ getD (W s) 0 0) (u : ℕ) (eu : u ≡ m - 4) (q : Bool)
     (t : q ≡ restOk p u (take (8 * (1 + wordsFor p) - 0) (drop 0 s))) where
   rest-row : q ≡ marked kindMarking p .ok (W s)
   unfolding restOk bodyIn
@@ -220,14 +245,14 @@ module _ (p : ℕ) (s : List ℕ) (B : Bytes s) (l : length s ≡ 8 * (3 + words
       let j : 1 + wordsFor p - 0 ≡ suc (wordsFor p) = omega arith in
       let f : W (take (8 * (1 + wordsFor p) - 0) (drop 0 s)) ≡ take (suc (wordsFor p)) (W s) =
       ap (λ (v : ℕ). W (take v s)) k ∙ W-part s 0 (1 + wordsFor p) B (omega arith) (omega arith) ∙ ap (λ (v : ℕ). take v (W s)) j in
-      let n : u ≡ getD (W s) 0 0 - 4 = eu ∙ ap (λ (v : ℕ). v - 4) e in
-      t ∙ ap₂ (λ (i : ℕ) (ws : List ℕ). leb i p and allz (drop i (bytes (take (wordsFor p) (drop 1 ws))))) n f
+      let i : u ≡ getD (W s) 0 0 - 4 = eu ∙ ap (λ (v : ℕ). v - 4) e in
+      t ∙ ap₂ (λ (i : ℕ) (ws : List ℕ). leb i p and allz (drop i (bytes (take (wordsFor p) (drop 1 ws))))) i f
       ∙ ap (λ (ws : List ℕ). leb (getD (W s) 0 0 - 4) p and allz (drop (getD (W s) 0 0 - 4) (bytes ws))) (body-front (wordsFor p) (W s)) ∙ sym (true-and _)
 
-  pub write-fails : not q ≡ true → false ≡ writeCode p .ok (W s)
-  write-fails f = sym (no-and _ _ (no-and _ _ (sym rest-row ∙ not-true q f)))
+  pub write-fails : not q ≡ true → false ≡ waitingIn n p .row .ok (W s)
+  write-fails f = sym (no-and _ _ (no-and _ _ (no-and _ _ (sym rest-row ∙ not-true q f))))
 
-  pub write-plain : (b : ℕ) (r : Bool) → not q ≡ false → b ≡ getD (W s) (1 + wordsFor p + 1) 0 → r ≡ plainMark m b → r ≡ writeCode p .ok (W s)
+  write-plain : (b : ℕ) (r : Bool) → not q ≡ false → b ≡ getD (W s) (1 + wordsFor p + 1) 0 → r ≡ plainMark m b → r ≡ writeCode p .ok (W s)
   write-plain b r f eb er =
       let d : List ℕ = take (getD (W s) 0 0 - 4) (bodyIn p (W s)) in
       let c : getD (drop 1 (drop (1 + wordsFor p) (W s))) 0 0 ≡ b =
@@ -236,6 +261,37 @@ module _ (p : ℕ) (s : List ℕ) (B : Bytes s) (l : length s ≡ 8 * (3 + words
       ∙ sym (ap (λ (v : Bool). (v and (true and true)) and plain (kindFrom (getD (W s) 0 0) d) (getD (drop 1 (drop (1 + wordsFor p) (W s))) 0 0)) (sym rest-row ∙ not-false q f)
       ∙ ap (λ (v : Bool). v and plain (kindFrom (getD (W s) 0 0) d) (getD (drop 1 (drop (1 + wordsFor p) (W s))) 0 0)) (and-both _ _ refl (and-both _ _ refl refl)) ∙ true-and _)
 
-pub ruleset write-tests = (write-fails, write-plain)
+  pub write-within : (a b : ℕ) (r t : Bool) → not q ≡ false → a ≡ getD (W s) (1 + wordsFor p) 0 → b ≡ getD (W s) (1 + wordsFor p + 1) 0 → r ≡ plainMark m b → t ≡ withinMark n m a
+      → (r && t) ≡ waitingIn n p .row .ok (W s)
+  write-within a b r t f ea eb er et =
+      let d : List ℕ = take (getD (W s) 0 0 - 4) (bodyIn p (W s)) in
+      let i : 1 + wordsFor p ≡ 1 + wordsFor p + 0 = omega arith in
+      let c : a ≡ getD (drop (1 + wordsFor p) (W s)) 0 0 = ea ∙ ap (λ (j : ℕ). getD (W s) j 0) i ∙ sym (getD-drop (1 + wordsFor p) (W s) 0 0) in
+      code-and r t
+      ∙ ap₂ (λ (x y : Bool). x and y) (write-plain b r f eb er)
+      (et ∙ ap₂ (withinMark n) e c ∙ sym (within-kind n (getD (W s) 0 0) d (getD (drop (1 + wordsFor p) (W s)) 0 0) (getD (drop 1 (drop (1 + wordsFor p) (W s))) 0 0)))
+
+pub ruleset write-tests = (write-fails, write-within)
 
 pub ruleset write-rows = (rowed-start, lent-fine, lent-fails, rowed-done)
+
+-- ---- the writes to a log of L places are waiting writes whose puts are within it
+
+module _ (L p : ℕ) {N m : ℕ} {b : List ℕ} {ws : List Write} where
+  pub within-waiting : Held (waitingIn L p) N m b ws → Held (waiting p) N m b ws
+  within-waiting h =
+      let f = held-rows h in
+      record { holds = record { good = and-both _ _ (fitted (writeCode p) N m ws (record { room = f .room; count = f .count; each = every-first (writeCode p .good) (putWithin L) ws (f .each) })) refl; is = h .holds .is } }
+
+  pub puts-within : Held (waitingIn L p) N m b ws → every (putWithin L) ws ≡ true
+  puts-within h = every-second (writeCode p .good) (putWithin L) ws (held-rows h .each)
+
+  pub waiting-within : Held (waiting p) N m b ws → every (putWithin L) ws ≡ true → Held (waitingIn L p) N m b ws
+  waiting-within h q =
+      let f = held-rows h in
+      record {
+        holds = record {
+          good = and-both _ _ (fitted (waitingIn L p .row) N m ws (record { room = f .room; count = f .count; each = every-both (writeCode p .good) (putWithin L) ws (f .each) q })) refl;
+          is = h .holds .is;
+        };
+      }

@@ -11,7 +11,7 @@ ghost use Rattle.layout.specs.Code.{okN};
 ghost use Rattle.layout.specs.Tables.{Tabled, Becomes, append};
 ghost use Rattle.layout.specs.Marked.{wordsFor};
 ghost use Rattle.storage.specs.Storage.{writeHardState, writePut, writeTruncate};
-ghost use Rattle.storage.specs.Waiting.{writeCode, waiting, plainMark, Pushes, Shaped, Shows};
+ghost use Rattle.storage.specs.Waiting.{waiting, waitingIn, plainMark, withinMark, Pushes, Shaped, Shows};
 use crate::HardState;
 use layout::marked;
 use layout::rows;
@@ -173,10 +173,20 @@ fn plain(mark: u64, b: u64) -> bool
     if mark < 3 { b == 0 } else { true }
 }
 
-// Whether a row is a write with a command of up to p bytes.
-fn check_write(s: &[u8], p: usize) -> bool
+// Whether a put's index is 1 to n, by its row's numbers.
+fn within(n: u64, mark: u64, a: u64) -> bool
+    ensures { λ r. ⌜ r ≡ withinMark n mark a ⌝ }
+{
+    if mark < 3 {
+        return true;
+    }
+    (1 <= a) & (a <= n)
+}
+
+// Whether a row is a write to a log of n places with a command of up to p bytes.
+fn check_write(s: &[u8], n: u64, p: usize) -> bool
     requires { ⌜ (p ≤ 256) × (length (now s) ≡ 8 * (3 + wordsFor p)) ⌝ }
-    ensures { λ r. ⌜ r ≡ writeCode p .ok (W (now (s .entry))) ⌝ }
+    ensures { λ r. ⌜ r ≡ waitingIn n p .row .ok (W (now (s .entry))) ⌝ }
 {
     let w = 1 + (p + 7) / 8;
     let e = 8 * w;
@@ -184,13 +194,15 @@ fn check_write(s: &[u8], p: usize) -> bool
     if !marked::rest_ok(&s[0..e], used(mark), p) {
         return false;
     }
-    plain(mark, words::load(s, w + 1))
+    let a = words::load(s, w);
+    let b = words::load(s, w + 1);
+    plain(mark, b) & within(n, mark, a)
 }
 
 // Whether each row is a write.
-fn check_writes(s: &[u8], m: usize, p: usize) -> bool
+fn check_writes(s: &[u8], m: usize, n: u64, p: usize) -> bool
     requires { ⌜ (p ≤ 256) × (8 * (m * (3 + wordsFor p)) ≤ length (now s)) ⌝ }
-    ensures { λ r. ⌜ r ≡ okN (writeCode p) m (W (now (s .entry))) ⌝ }
+    ensures { λ r. ⌜ r ≡ okN (waitingIn n p .row) m (W (now (s .entry))) ⌝ }
 {
     let w = 3 + (p + 7) / 8;
     let mut i = 0;
@@ -198,7 +210,7 @@ fn check_writes(s: &[u8], m: usize, p: usize) -> bool
         let at = rows::start_of(i, m, w);
         let a = 8 * at;
         let e = 8 * (at + w);
-        if !check_write(&s[a..e], p) {
+        if !check_write(&s[a..e], n, p) {
             return false;
         }
         i += 1;
@@ -206,14 +218,14 @@ fn check_writes(s: &[u8], m: usize, p: usize) -> bool
     true
 }
 
-// Whether the bytes are a table of m writes with commands of up to p bytes.
-pub fn check(s: &[u8], m: usize, p: usize) -> bool
+// Whether the bytes are a table of m writes to a log of n places with commands of up to p bytes.
+pub fn check(s: &[u8], m: usize, n: u64, p: usize) -> bool
     requires { ⌜ p ≤ 256 ⌝ }
-    ensures { λ r. ⌜ Decides r (Tabled (waiting p) m (now (s .entry))) ⌝ }
+    ensures { λ r. ⌜ Decides r (Tabled (waitingIn n p) m (now (s .entry))) ⌝ }
 {
     let w = 3 + (p + 7) / 8;
     if !rows::padding(s, m, w) {
         return false;
     }
-    check_writes(s, m, p)
+    check_writes(s, m, n, p)
 }

@@ -1,4 +1,4 @@
--- Made by tools/uniform from proofs.txt, not by hand: c141086f60941fd1
+-- Made by tools/uniform from proofs.txt, not by hand: a39c6fa83cb7c09e
 use Rattle.storage.specs.WaitingLaws.{write-tests}
 use borrow.Author.Needs.{needs}
 use Rattle.storage.proofs.waiting.check_write.Statement.{statement}
@@ -18,7 +18,9 @@ check-write-spec =
     (λ c κs. search (write-tests, needs))  -- used-requires
     (λ c κs. search (write-tests, needs))  -- rest-ok-requires
     (λ c. search (write-tests, needs))  -- returns
-    (λ c. search (write-tests, needs))  -- add-load
     (λ c κs. search (write-tests, needs))  -- load-requires-2
+    (λ c. search (write-tests, needs))  -- add-load
+    (λ c κs. search (write-tests, needs))  -- load-requires-3
     (λ c κs. search (write-tests, needs))  -- plain-requires
+    (λ c κs. search (write-tests, needs))  -- within-requires
     (λ c. search (write-tests, needs)))  -- returns-2

@@ -1,18 +1,18 @@
--- Made by tools/uniform from proofs.txt, not by hand: 9f3b9806a5a3d8e7
+-- Made by tools/uniform from proofs.txt, not by hand: 3b57af1808224078
 use Prim.Native.Nat.{_-_}
 use Rattle.words.specs.Words.{W}
 use Rattle.layout.specs.TableLaws.{Rowed}
-use Rattle.storage.specs.Waiting.{writeCode}
+use Rattle.storage.specs.Waiting.{waitingIn}
 use Rattle.storage.specs.WaitingLaws.{write-rows}
 use borrow.Author.Needs.{needs}
 use Rattle.storage.proofs.waiting.check_writes.Statement.{statement}
 use Rattle.storage.proofs.waiting.check_writes.Tie as tie
 
 abbrev Inv-loop : tie.InvT-loop
-Inv-loop s m p w i₀ i = Rowed (writeCode p) m (W s) i
+Inv-loop s m n p w i₀ i = Rowed (waitingIn n p .row) m (W s) i
 
 abbrev μ-loop : tie.MeasureT-loop
-μ-loop s m p w i₀ i = m - i
+μ-loop s m n p w i₀ i = m - i
 
 pub check-writes-spec : {M : Type 1} → statement M
 check-writes-spec =
