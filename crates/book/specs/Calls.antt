@@ -17,7 +17,7 @@ use Rattle.metrics.specs.declared.Counts.{Counts}
 use Rattle.metrics.specs.declared.Metrics.{Metrics}
 use Rattle.storage.specs.declared.HardState.{HardState}
 use Rattle.checks.specs.Checks.{Violation}
-use Rattle.checks.specs.declared.LeaderOption.{LeaderOption}
+use Rattle.leader.specs.declared.LeaderOption.{LeaderOption}
 use Rattle.model.specs.State.{State, Reply, Confirmation}
 use Rattle.model.specs.Simulation.{Opening}
 use Rattle.model.specs.Calls as model

@@ -19,8 +19,8 @@ use Rattle.faults.specs.declared.Fault.the-variants.{Crash, CrashDuringNextInpu
 use Rattle.storage.specs.Storage.{Write}
 use Rattle.queue.specs.declared.Event.{Event}
 use Rattle.queue.specs.declared.Event.the-variants as event
-use Rattle.checks.specs.declared.LeaderOption.{LeaderOption}
-use Rattle.checks.specs.declared.LeaderOption.the-variants as led
+use Rattle.leader.specs.declared.LeaderOption.{LeaderOption}
+use Rattle.leader.specs.declared.LeaderOption.the-variants as led
 use Rattle.model.specs.State.{State, Server, newServer, Input, Owed, nothing, construction, healing, closed, writing, serverAt, idOf, slotOf}
 use Rattle.model.specs.Fields.{withCrashOnNextInput}
 use Rattle.model.specs.Simulation.{onServer, running, startServer, stopServer, restartServer, constructFrom, healFrom, closeInput, crashLeader, leaderOf, applyFault, clientArrive, latest, contends, deliver, generationOf, process, newServers, unstarted, begin}

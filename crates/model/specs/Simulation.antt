@@ -49,10 +49,10 @@ use Rattle.queue.specs.Queue.{push}
 use Rattle.queue.specs.declared.Event.{Event}
 use Rattle.queue.specs.declared.Event.the-variants as event
 use Rattle.checks.specs.Checks.{newChecker, onApply, onWrites, onStatus}
-use Rattle.checks.specs.Leader.{leader}
-use Rattle.checks.specs.declared.Reported.{Reported}
-use Rattle.checks.specs.declared.LeaderOption.{LeaderOption}
-use Rattle.checks.specs.declared.LeaderOption.the-variants as led
+use Rattle.leader.specs.Leader.{leader}
+use Rattle.leader.specs.declared.Reported.{Reported}
+use Rattle.leader.specs.declared.LeaderOption.{LeaderOption}
+use Rattle.leader.specs.declared.LeaderOption.the-variants as led
 use Rattle.model.specs.State.{State, Server, newServer, Client, Outstanding, Reply, direct, fromClient, Input, startInput, messageInput, timerInput, proposeInput, confirmInput, Verdict, accepted, notLeader, Owed, nothing, construction, healing, closed, writing, sending, serverAt, clientAt, idOf, slotOf}
 use Rattle.model.specs.Fields.{withQueue, withServers, withNetwork, withClients, withWorkload, withMetrics, withChecker, withReplies, withConfirmations, withMaxLogGaps, withPhase, withStatus, withStorage, withIncarnation, withElection, withHeartbeat, withCrashOnNextInput, withNextApply, withPending, withLeading, withTarget, withAttempt, withOutstanding}
 

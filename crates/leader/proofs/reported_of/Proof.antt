@@ -1,8 +1,8 @@
--- Made by tools/uniform from proofs.txt, not by hand: 52f39bedfd0e8ef7
-use Rattle.checks.specs.Laws.{reported-is}
+-- Made by tools/uniform from proofs.txt, not by hand: c23b8268a03dd860
+use Rattle.leader.specs.Laws.{reported-is}
 use borrow.Author.Needs.{needs}
-use Rattle.checks.proofs.reported_of.Statement.{statement}
-use Rattle.checks.proofs.reported_of.Tie as tie
+use Rattle.leader.proofs.reported_of.Statement.{statement}
+use Rattle.leader.proofs.reported_of.Tie as tie
 
 pub reported-of-spec : {M : Type 1} → statement M
 reported-of-spec =

@@ -1,8 +1,8 @@
--- Made by tools/uniform from proofs.txt, not by hand: ef74396f3eed8060
-use Rattle.checks.specs.Laws.{better-yes, better-no}
+-- Made by tools/uniform from proofs.txt, not by hand: 5995e5883ddb1fe1
+use Rattle.leader.specs.Laws.{better-yes, better-no}
 use borrow.Author.Needs.{needs}
-use Rattle.checks.proofs.better.Statement.{statement}
-use Rattle.checks.proofs.better.Tie as tie
+use Rattle.leader.proofs.better.Statement.{statement}
+use Rattle.leader.proofs.better.Tie as tie
 
 pub better-spec : {M : Type 1} → statement M
 better-spec =

@@ -10,9 +10,9 @@ use Rattle.protocol.specs.declared.Role.{Role}
 use Rattle.protocol.specs.declared.Role.the-variants.{Follower}
 use Rattle.protocol.specs.declared.RoleOption.{RoleOption}
 use Rattle.protocol.specs.declared.RoleOption.the-variants.{None as NoRole, Some as SomeRole}
-use Rattle.checks.specs.declared.Reported.{Reported}
-use Rattle.checks.specs.declared.LeaderOption.{LeaderOption}
-use Rattle.checks.specs.declared.LeaderOption.the-variants.{None, Some}
+use Rattle.leader.specs.declared.Reported.{Reported}
+use Rattle.leader.specs.declared.LeaderOption.{LeaderOption}
+use Rattle.leader.specs.declared.LeaderOption.the-variants.{None, Some}
 
 -- Whether a server's term is at least that of the leader so far, if there is one.
 abbrev pub notBelow : LeaderOption → Reported → Bool

@@ -1,10 +1,10 @@
--- Made by tools/uniform from proofs.txt, not by hand: 2e90441fe031837d
+-- Made by tools/uniform from proofs.txt, not by hand: c173d7f7e2fb2fcf
 use Prim.Native.Nat.{_-_}
 use lib.ListN.{length}
-use Rattle.checks.specs.Laws.{Choosing, choosing, choosing-turn}
+use Rattle.leader.specs.Laws.{Choosing, choosing, choosing-turn}
 use borrow.Author.Needs.{needs}
-use Rattle.checks.proofs.leader_of_numbers.Statement.{statement}
-use Rattle.checks.proofs.leader_of_numbers.Tie as tie
+use Rattle.leader.proofs.leader_of_numbers.Statement.{statement}
+use Rattle.leader.proofs.leader_of_numbers.Tie as tie
 
 abbrev Inv-loop : tie.InvT-loop
 Inv-loop ids roles terms best₀ i₀ best i = Choosing ids roles terms best i

@@ -1,4 +1,4 @@
--- What the proofs of checks' functions cite. Assumes nothing.
+-- What the proofs of leader's functions cite. Assumes nothing.
 use mathlib.Core.Path.{_≡_, refl}
 use mathlib.Core.Bool.{Bool, true, false, _&&_}
 use mathlib.Core.List.{List}
@@ -14,10 +14,10 @@ use Rattle.units.specs.declared.NodeOption.the-variants.{None as NoNode}
 use Rattle.protocol.specs.Numbers.{roleOf, leads}
 use Rattle.protocol.specs.declared.Role.{Role}
 use Rattle.protocol.specs.declared.RoleOption.{RoleOption}
-use Rattle.checks.specs.declared.Reported.{Reported}
-use Rattle.checks.specs.declared.LeaderOption.{LeaderOption}
-use Rattle.checks.specs.declared.LeaderOption.the-variants.{None, Some}
-use Rattle.checks.specs.Leader.{notBelow, better, leaderFrom, leader, orFollower, reportedOf, zipReported}
+use Rattle.leader.specs.declared.Reported.{Reported}
+use Rattle.leader.specs.declared.LeaderOption.{LeaderOption}
+use Rattle.leader.specs.declared.LeaderOption.the-variants.{None, Some}
+use Rattle.leader.specs.Leader.{notBelow, better, leaderFrom, leader, orFollower, reportedOf, zipReported}
 
 pub not-below-some : (best : LeaderOption) (id : NodeId) (term : Term) (r : Reported) → best ≡ Some id term → leb (term .0) (r .status .term .0) ≡ notBelow best r
 not-below-some best id term r e = rw e

@@ -11,10 +11,10 @@ use Rattle.laws.specs.Decides.{false-true}
 use Rattle.units.specs.declared.NodeId.{NodeId}
 use Rattle.units.specs.declared.Term.{Term}
 use Rattle.protocol.specs.Numbers.{leads}
-use Rattle.checks.specs.declared.Reported.{Reported}
-use Rattle.checks.specs.declared.LeaderOption.{LeaderOption}
-use Rattle.checks.specs.declared.LeaderOption.the-variants.{None, Some}
-use Rattle.checks.specs.Leader.{notBelow, better, leaderFrom, leader}
+use Rattle.leader.specs.declared.Reported.{Reported}
+use Rattle.leader.specs.declared.LeaderOption.{LeaderOption}
+use Rattle.leader.specs.declared.LeaderOption.the-variants.{None, Some}
+use Rattle.leader.specs.Leader.{notBelow, better, leaderFrom, leader}
 
 -- A server leads.
 abbrev pub Leads : Reported → Type 0

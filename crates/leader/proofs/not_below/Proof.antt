@@ -1,8 +1,8 @@
--- Made by tools/uniform from proofs.txt, not by hand: c2b102fd1d9d0c94
-use Rattle.checks.specs.Laws.{not-below-some}
+-- Made by tools/uniform from proofs.txt, not by hand: 40e6f70dbdfcf837
+use Rattle.leader.specs.Laws.{not-below-some}
 use borrow.Author.Needs.{needs}
-use Rattle.checks.proofs.not_below.Statement.{statement}
-use Rattle.checks.proofs.not_below.Tie as tie
+use Rattle.leader.proofs.not_below.Statement.{statement}
+use Rattle.leader.proofs.not_below.Tie as tie
 
 pub not-below-spec : {M : Type 1} → statement M
 not-below-spec =
