@@ -12,6 +12,8 @@ use log::Place;
 use units::LogIndex;
 use units::Term;
 
+pub mod pairs; // mismatches of pairs of logs reported
+
 // A term, if there is one.
 enum TermOption {
     None,
