@@ -1,6 +1,6 @@
--- Made by tools/uniform from proofs.txt, not by hand: cec2ff36cd6271e9
+-- Made by tools/uniform from proofs.txt, not by hand: 7f4e37bfefda1b30
 use Prim.Native.Nat.{_-_}
-use Rattle.log_matching.specs.Laws.{Searching, searches}
+use Rattle.log_matching.specs.Laws.{Searching, searches, searching-start}
 use borrow.Author.Needs.{needs}
 use Rattle.log_matching.proofs.log_matching_failure.Statement.{statement}
 use Rattle.log_matching.proofs.log_matching_failure.Tie as tie
@@ -20,7 +20,7 @@ log-matching-failure-spec =
     (λ c κs. search (searches, needs))  -- last-index-requires
     (λ c κs. search (searches, needs))  -- last-index-requires-2
     (λ c κs. search (searches, needs))  -- lower-requires
-    (λ c. search (searches, needs))  -- loop-holds
+    (λ c. searching-start _ _ _ _ _ _ _ (c .before .before .last-index .ensures) (c .before .last-index2 .ensures) (c .lower .ensures))  -- loop-holds
     (λ c. search (searches, needs))  -- add-t13
     (λ c κs. search (searches, needs))  -- mismatch-at-requires
     (λ c κs. search (searches, needs))  -- is-mismatch-requires
