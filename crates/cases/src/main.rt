@@ -1,7 +1,12 @@
 // Document 01's cases, each computed by the code and compared with what it must be.
 ghost use Prim.Native.Nat.{_≤_};
 ghost use lib.ListN.{length};
+use checks::Check;
+use checks::violations;
+use checks::violations::Detail;
+use checks::violations::Tally;
 use libc::STDOUT_FILENO;
+use log_matching::MismatchOption;
 use network::Network;
 use queue::Event;
 use queue::table;
@@ -146,6 +151,84 @@ fn earliest_first(s: &mut [u8]) -> bool {
     (first == 2) & (second == 1) & (earliest_client(s) == 3)
 }
 
+// Whether there is no mismatch.
+fn no_mismatch(found: MismatchOption) -> bool {
+    match found {
+        MismatchOption::None => true,
+        MismatchOption::Some {
+            term: _,
+            index: _,
+            difference: _,
+        } => false,
+    }
+}
+
+// Whether there is a mismatch at an index, after a difference at another.
+fn mismatch_at(found: MismatchOption, at: u64, differ: u64) -> bool {
+    match found {
+        MismatchOption::None => false,
+        MismatchOption::Some {
+            term: _,
+            index,
+            difference,
+        } => (index.0 == at) & (difference.0 == differ),
+    }
+}
+
+// A log of two places whose one entry is a command of term 1.
+fn single(s: &mut [u8], command: &[u8])
+    requires { ⌜ (64 ≤ length (now s)) × (length (now command) ≤ 12) ⌝ }
+{
+    log::clear(s, 2, 12);
+    log::put_command(s, 2, 12, LogIndex(1), Term(1), command);
+}
+
+// Single entries of one term with other payloads are no mismatch; an equal entry following at 2 is one, after a difference at 1. The bytes
+// are two logs of two places.
+fn mismatch_at_2(a: &mut [u8], b: &mut [u8]) -> bool {
+    if a.len() != 64 {
+        return false;
+    }
+    if b.len() != 64 {
+        return false;
+    }
+    single(a, b"1");
+    single(b, b"2");
+    let alone = log_matching::log_matching_failure(a, b, 2, 12);
+    log::put_command(a, 2, 12, LogIndex(2), Term(1), b"3");
+    log::put_command(b, 2, 12, LogIndex(2), Term(1), b"3");
+    let followed = log_matching::log_matching_failure(a, b, 2, 12);
+    no_mismatch(alone) & mismatch_at(followed, 2, 1)
+}
+
+// Of 33 reports 32 are kept. The bytes have room for 32 violations.
+fn first_32_kept(v: &mut [u8]) -> bool {
+    if v.len() != 2048 {
+        return false;
+    }
+    let mut kept: usize = 0;
+    let mut total: u64 = 0;
+    let mut i: u64 = 0;
+    while i < 33 {
+        let detail = Detail::Three(1, 2, 1);
+        let reported = violations::report(
+            v,
+            kept,
+            total,
+            SimTime(0),
+            Check::ElectionSafety,
+            detail,
+        );
+        let Tally::Counted { kept: k, total: t } = reported else {
+            return false;
+        };
+        kept = k;
+        total = t;
+        i += 1;
+    }
+    (kept == 32) & (total == 33)
+}
+
 fn main() {
     let draw = rng::drawn_u64(Rng::new(0));
     report(b"C1", draw.next.state == 0x9E37_79B9_7F4A_7C15);
@@ -179,4 +262,9 @@ fn main() {
     report(b"C9", earliest_first(&mut events));
     let two_groups = Network::new(Duration(0), Rng::new(0)).partition(3 + 256 * 6);
     report(b"C10", blocked_pairs(two_groups) == 7);
+    let mut one = [0u8; 64];
+    let mut other = [0u8; 64];
+    report(b"C11", mismatch_at_2(&mut one, &mut other));
+    let mut kept = [0u8; 2048];
+    report(b"C12", first_32_kept(&mut kept));
 }

@@ -1,0 +1,16 @@
+-- Made by tools/uniform from proofs.txt, not by hand: d76aa0d2ab03883c
+use Rattle.log_matching.specs.Laws.{terms-in}
+use borrow.Author.Needs.{needs}
+use Rattle.log_matching.proofs.term_of.Statement.{statement}
+use Rattle.log_matching.proofs.term_of.Tie as tie
+
+pub term-of-spec : {M : Type 1} → statement M
+term-of-spec =
+    tie.close
+    (tie.spec
+    (λ c. search (terms-in, needs))  -- enum-told
+    (λ c. search (terms-in, needs))  -- enum-known-place
+    (λ c. search (terms-in, needs))  -- enum-known-place-2
+    (λ c. search (terms-in, needs))  -- returns
+    (λ c. search (terms-in, needs))  -- returns-2
+    (λ c. search (terms-in, needs)))  -- returns-3

@@ -1,0 +1,4 @@
+pub mod Matching
+pub mod Laws
+pub mod Pairs
+pub mod PairLaws
