@@ -1,2 +1,4 @@
 pub mod Replies
 pub mod ReplyLaws
+pub mod Acknowledged
+pub mod AcknowledgedLaws
