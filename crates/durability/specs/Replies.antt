@@ -48,6 +48,13 @@ Outcome Full L C N n b b′ x reply = Unchanged N n b b′
 pub record Appends (reply : Reply) (n : ℕ) (r : Appending) (b b′ : List ℕ) : Type 0 where
   pub to : (L C : ℕ) → reply .index .0 ≤ L → reply .client < C → (N : ℕ) (x : List Reply) → Held (replies L C) N n b x → Outcome r L C N n b b′ x reply
 
--- Whatever n rows b holds, r is the one at place k.
+-- The bytes b hold the n replies x, in some ranges: what a reader asks.
+pub record Replied (n : ℕ) (b : List ℕ) (x : List Reply) : Type 0 where
+  pub indexes : ℕ
+  pub clients : ℕ
+  pub words : ℕ
+  pub held : Held (replies indexes clients) words n b x
+
+-- Whatever n replies b holds, r is the one at place k.
 pub record Reads (n k : ℕ) (r : Reply) (b : List ℕ) : Type 0 where
-  pub to : (L C N : ℕ) (x : List Reply) → Held (replies L C) N n b x → at x k ≡ some r
+  pub to : (x : List Reply) → Replied n b x → at x k ≡ some r

@@ -54,7 +54,8 @@ pub read-is : (n k : ℕ) (b : List ℕ) (s t i c q : ℕ) → k < n → s ≡ g
     → q ≡ getD (W b) (k * 5 + 4) 0
     → Reads n k (record { sent = record { 0 = s }; received = record { 0 = t }; index = record { 0 = i }; client = c; seq = q }) b
 read-is n k b s t i c q h es et ei ec eq = record {
-  to = λ L C N x held.
+  to = λ x h′.
+      let held = h′ .held in
       let a : Reply = getD x k noReply in
       let e₀ : s ≡ a .sent .0 = es ∙ ap (λ (j : ℕ). getD (W b) j 0) (sym (add-zero (k * 5))) ∙ row-word held k 0 noReply h (omega arith) in
       let e₁ : t ≡ a .received .0 = et ∙ row-word held k 1 noReply h (omega arith) in
