@@ -7,6 +7,7 @@ use lib.ListN.{length, drop}
 use Rattle.laws.specs.Bools.{pick}
 use Rattle.laws.specs.Lists.{at}
 use Rattle.units.specs.Types.{Payload, command}
+use Rattle.units.specs.declared.LogIndex.{LogIndex}
 use Rattle.units.specs.declared.SimTime.{SimTime}
 use Rattle.client.specs.Key.{encode}
 use Rattle.layout.specs.Tables.{Held}
@@ -25,9 +26,13 @@ unfoldable pub acknowledgedFrom : ℕ → List Reply → List Acknowledged
 acknowledgedFrom size [] = []
 acknowledgedFrom size (r ∷ rs) = record { index = r .index; payload = rebuilt size r } ∷ acknowledgedFrom size rs
 
--- Whether the payload applied at a reply's index is its command; index 0 is compared with the payload at 1.
+-- The place of an index among the applied payloads: index 0 has that of index 1.
+unfoldable pub placeOf : LogIndex → ℕ
+placeOf index = index .0 - 1
+
+-- Whether the payload applied at a reply's index is its command.
 unfoldable pub isApplied : ℕ → Reply → List Payload → Bool
-isApplied size r applied = isPayload (at applied (r .index .0 - 1)) (rebuilt size r)
+isApplied size r payloads = isPayload (at payloads (placeOf (r .index))) (rebuilt size r)
 
 -- A reply's command stands at the front of b′, which was b, and n is its length.
 pub record Encodes (size : ℕ) (reply : Reply) (n : ℕ) (b b′ : List ℕ) : Type 0 where
@@ -38,7 +43,7 @@ pub record Encodes (size : ℕ) (reply : Reply) (n : ℕ) (b b′ : List ℕ) : 
 -- How many acknowledged commands are not the payloads applied at their indexes.
 unfoldable pub missing : List Payload → List Acknowledged → ℕ
 missing payloads [] = 0
-missing payloads (a ∷ more) = pick (not (isPayload (at payloads (a .index .0 - 1)) (a .payload))) 1 0 + missing payloads more
+missing payloads (a ∷ more) = pick (not (isPayload (at payloads (placeOf (a .index))) (a .payload))) 1 0 + missing payloads more
 
 -- Whatever n replies s holds and m payloads a, r is how many of their commands are missing.
 pub record CountsMissing (p size n m r : ℕ) (s a : List ℕ) : Type 0 where

@@ -13,6 +13,7 @@ use Rattle.words.specs.Words.{bytesOf, Bytes}
 use Rattle.words.specs.Sets.{sets-at}
 use Rattle.words.specs.Numbers.{length-bytesOf, bytesOf-each, each-append, each-zeros}
 use Rattle.units.specs.Types.{Payload, noop, command}
+use Rattle.units.specs.declared.LogIndex.{LogIndex}
 use Rattle.client.specs.Key.{encode}
 use Rattle.client.specs.Laws.{encode-length}
 use Rattle.layout.specs.Tables.{Holds, Gives}
@@ -25,7 +26,7 @@ use Rattle.layout.specs.Applied.{applied}
 use Rattle.checks.specs.Checks.{isPayload}
 use Rattle.checks.specs.AppliedLaws.{at-there, at-none}
 use Rattle.durability.specs.declared.replies.Reply.{Reply}
-use Rattle.durability.specs.Acknowledged.{rebuilt, Encodes, isApplied}
+use Rattle.durability.specs.Acknowledged.{rebuilt, Encodes, placeOf, isApplied}
 
 -- ---- the command rebuilt
 
@@ -93,7 +94,17 @@ rebuilds reply size n b ys b₂ b₃ h en e₂ e₃ =
 
 -- ---- compared with the payload applied there
 
-module _ (reply : Reply) (p m size : ℕ) (a : List ℕ) (place : ℕ) (e : place ≡ reply .index .0 - 1) where
+pub place-first : (index : LogIndex) → index .0 < 1 → 0 ≡ placeOf index
+unfolding placeOf
+place-first index h = omega arith
+
+pub place-before : (index : LogIndex) → 1 ≤ index .0 → index .0 - 1 ≡ placeOf index
+unfolding placeOf
+place-before index h = refl
+
+pub ruleset places = (place-first, place-before)
+
+module _ (reply : Reply) (p m size : ℕ) (a : List ℕ) (place : ℕ) (e : place ≡ placeOf (reply .index)) where
   pub none-applied : m ≤ place → Gives (applied p) m a false (isApplied size reply)
   unfolding isApplied
   none-applied l = record {

@@ -17,7 +17,7 @@ use Rattle.checks.specs.Checks.{Checker, Acknowledged, isPayload, report, repor
 use Rattle.checks.specs.Violations.{violations}
 use Rattle.durability.specs.declared.replies.Reply.{Reply}
 use Rattle.durability.specs.Replies.{Replied}
-use Rattle.durability.specs.Acknowledged.{acknowledgedFrom, missing, CountsMissing, Highest, ReportsMissing}
+use Rattle.durability.specs.Acknowledged.{acknowledgedFrom, placeOf, missing, CountsMissing, Highest, ReportsMissing}
 use Rattle.durability.specs.Servers.{serversFrom, below, ReportsBelow}
 use Rattle.durability.specs.MissingLaws.{applied-if}
 use Rattle.durability.specs.Durability.{ChecksDurability}
@@ -30,7 +30,7 @@ total-if true c time k d = refl
 total-if false c time k d = omega arith
 
 total-acknowledged : (c : Checker) (time : SimTime) (x : List Acknowledged) → checkAcknowledged c time x .total ≡ c .total + missing (c .applied) x
-unfolding checkAcknowledged missing
+unfolding checkAcknowledged missing placeOf
 total-acknowledged c time [] = omega arith
 total-acknowledged c time (a ∷ x) =
     let t : Bool = not (isPayload (at (c .applied) (a .index .0 - 1)) (a .payload)) in

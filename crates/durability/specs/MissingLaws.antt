@@ -21,7 +21,7 @@ use Rattle.checks.specs.Checks.{Checker, report, reportIf, checkAcknowledged, h
 use Rattle.checks.specs.Violations.{violations, Keeps}
 use Rattle.durability.specs.declared.replies.Reply.{Reply}
 use Rattle.durability.specs.Replies.{Replied, Reads}
-use Rattle.durability.specs.Acknowledged.{acknowledgedFrom, isApplied, missing, CountsMissing, Highest, ReportsMissing}
+use Rattle.durability.specs.Acknowledged.{acknowledgedFrom, placeOf, isApplied, missing, CountsMissing, Highest, ReportsMissing}
 
 -- ---- the replies from a place on
 
@@ -52,7 +52,7 @@ counting-start l = record { upto = omega arith; most = omega arith; room = l; is
 pub counting-turn : {p size n m : ℕ} {s a content content′ : List ℕ} {count i : ℕ} (reply : Reply) (ok : Bool) (one : ℕ) → Counting p size n m s a content count i → i < n → Reads n i reply s
     → Gives (applied p) m a ok (isApplied size reply) → one ≡ pick (not ok) 1 0 → one ≤ 1 → length content′ ≡ length content
     → Counting p size n m s a content′ (count + one) (i + 1)
-unfolding missing acknowledgedFrom isApplied
+unfolding missing acknowledgedFrom isApplied placeOf
 counting-turn {p} {size} {n} {m} {s} {a} {content} {content′} {count} {i} reply ok one c h r g e l q = record {
   upto = omega arith;
   most = omega (arith, c .most);
@@ -129,7 +129,7 @@ pub reporting-turn : {p size n m : ℕ} {time : SimTime} {kept : ℕ} {s a v con
     → Reporting p size n m time kept s a v content k v₁ i → i < n → Reads n i reply s → Gives (applied p) m a ok (isApplied size reply)
     → Keeps (not ok) time Durability (reply .index .0 ∷ []) k k′ v₁ v₂ → length content′ ≡ length content → length v₂ ≡ length v₁
     → Reporting p size n m time kept s a v content′ k′ v₂ (i + 1)
-unfolding checkAcknowledged acknowledgedFrom isApplied
+unfolding checkAcknowledged acknowledgedFrom isApplied placeOf
 reporting-turn {p} {size} {n} {m} {time} {kept} {s} {a} {v} {content} {content′} {k} {v₁} {i} reply ok k′ v₂ c h r g q l l′ = record {
   upto = omega arith;
   room = l ∙ c .room;

@@ -8,7 +8,7 @@ ghost use Rattle.layout.specs.Marked.{wordsFor};
 ghost use Rattle.layout.specs.Payload.{payloadMarking};
 ghost use Rattle.layout.specs.MarkedCalls.{Puts};
 ghost use Rattle.layout.specs.Applied.{applied};
-ghost use Rattle.durability.specs.Acknowledged.{rebuilt, Encodes, isApplied, CountsMissing, Highest, ReportsMissing};
+ghost use Rattle.durability.specs.Acknowledged.{rebuilt, Encodes, placeOf, isApplied, CountsMissing, Highest, ReportsMissing};
 use crate::counts;
 use crate::replies;
 use crate::replies::Reply;
@@ -39,9 +39,9 @@ fn rebuild(reply: Reply, size: usize, content: &mut [u8])
     words::fill_zero(content, 8 + n, end);
 }
 
-// The place at which an index is applied; 0 for index 0 too.
+// The place of an index among the applied payloads: index 0 has that of index 1.
 fn place_of(index: LogIndex) -> usize
-    ensures { λ r. ⌜ r ≡ index .0 - 1 ⌝ }
+    ensures { λ r. ⌜ r ≡ placeOf index ⌝ }
 {
     let i = index.0;
     if i < 1 { 0 } else { (i - 1) as usize }
