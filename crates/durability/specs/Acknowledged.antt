@@ -34,16 +34,18 @@ placeOf index = index .0 - 1
 unfoldable pub isApplied : ℕ → Reply → List Payload → Bool
 isApplied size r payloads = isPayload (at payloads (placeOf (r .index))) (rebuilt size r)
 
+-- How many acknowledged commands are not the payloads applied at their indexes.
+unfoldable pub missing : List Payload → List Acknowledged → ℕ
+missing payloads [] = 0
+missing payloads (a ∷ more) = pick (not (isPayload (at payloads (placeOf (a .index))) (a .payload))) 1 0 + missing payloads more
+
+-- ---- what the code answers
+
 -- A reply's command stands at the front of b′, which was b, and n is its length.
 pub record Encodes (size : ℕ) (reply : Reply) (n : ℕ) (b b′ : List ℕ) : Type 0 where
   pub count : n ≡ length (encode (reply .client) (reply .seq) size)
   pub is : b′ ≡ encode (reply .client) (reply .seq) size ++ drop n b
   pub within : n ≤ length b
-
--- How many acknowledged commands are not the payloads applied at their indexes.
-unfoldable pub missing : List Payload → List Acknowledged → ℕ
-missing payloads [] = 0
-missing payloads (a ∷ more) = pick (not (isPayload (at payloads (placeOf (a .index))) (a .payload))) 1 0 + missing payloads more
 
 -- Whatever n replies s holds and m payloads a, r is how many of their commands are missing.
 pub record CountsMissing (p size n m r : ℕ) (s a : List ℕ) : Type 0 where

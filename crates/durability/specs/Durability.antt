@@ -24,6 +24,7 @@ pub record Unreported (v v′ : List ℕ) (c : Checker) : Type 0 where
   pub same : v′ ≡ v
   pub why : 2 ^ 64 ≤ c .total
 
+-- What an answer says.
 abbrev pub Outcome : Tally → (M : ℕ) (v v′ : List ℕ) → Checker → Type 0
 Outcome (Counted kept total) M v v′ c = Reported M kept total v′ c
 Outcome Past64Bits M v v′ c = Unreported v v′ c

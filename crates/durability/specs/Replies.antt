@@ -17,9 +17,11 @@ use Rattle.durability.specs.declared.replies.Appending.the-variants.{App
 abbrev pub Five : Type 0
 Five = ℕ × (ℕ × (ℕ × (ℕ × ℕ)))
 
+-- The reply of five numbers.
 abbrev pub replyOf : Five → Reply
 replyOf x = record { sent = record { 0 = x .0 }; received = record { 0 = x .1 .0 }; index = record { 0 = x .1 .1 .0 }; client = x .1 .1 .1 .0; seq = x .1 .1 .1 .1 }
 
+-- And back.
 abbrev pub numbersOf : Reply → Five
 numbersOf r = (r .sent .0, (r .received .0, (r .index .0, (r .client, r .seq))))
 
@@ -31,20 +33,24 @@ replyRow = iso (pair word (pair word (pair word (pair word word)))) replyOf numb
 abbrev pub replies : ℕ → ℕ → Table Reply
 replies L C = record { row = such replyRow (λ r. leb (r .index .0) L and ltb (r .client) C); rule = λ x. true }
 
--- A reply was appended to b, which holds the n rows x: b′ holds one more, with the new count; without room nothing changed.
+-- ---- what the code answers
+
+-- A reply was appended to n rows x: b′ holds one more, and m is the new count.
 pub record Grown (L C N n m : ℕ) (b′ : List ℕ) (x : List Reply) (reply : Reply) : Type 0 where
   pub count : m ≡ n + 1
   pub held : Held (replies L C) N m b′ (append reply x)
 
+-- There is no room for it, and nothing changed.
 pub record Unchanged (N n : ℕ) (b b′ : List ℕ) : Type 0 where
   pub same : b′ ≡ b
   pub full : N < n * 5 + 5
 
+-- What an answer says.
 abbrev pub Outcome : Appending → (L C N n : ℕ) (b b′ : List ℕ) → List Reply → Reply → Type 0
 Outcome (Appended m) L C N n b b′ x reply = Grown L C N n m b′ x reply
 Outcome Full L C N n b b′ x reply = Unchanged N n b b′
 
--- The same whatever rows b holds.
+-- A reply was appended to b, whatever n rows it holds; the reply itself is in range.
 pub record Appends (reply : Reply) (n : ℕ) (r : Appending) (b b′ : List ℕ) : Type 0 where
   pub to : (L C : ℕ) → reply .index .0 ≤ L → reply .client < C → (N : ℕ) (x : List Reply) → Held (replies L C) N n b x → Outcome r L C N n b b′ x reply
 
