@@ -20,7 +20,8 @@ use Rattle.protocol.specs.declared.RequestId.{RequestId}
 use Rattle.storage.specs.Storage as storage
 use Rattle.storage.specs.Storage.{Write}
 use Rattle.storage.specs.declared.HardState.{HardState}
-use Rattle.model.specs.State.{Reply, Confirmation}
+use Rattle.durability.specs.declared.replies.Reply.{Reply}
+use Rattle.model.specs.State.{Confirmation}
 use Rattle.model.specs.Simulation.{Opening, noInput, openStart, openMessage, openTimer, openProposal, openConfirmation}
 use Rattle.model.specs.Calls.{nodeOption, payloadOf, timerOf, Asked, Sealing, synced, nothingToSync, cut}
 use Rattle.model.specs.Calls as model

@@ -18,7 +18,8 @@ use Rattle.metrics.specs.declared.Metrics.{Metrics}
 use Rattle.storage.specs.declared.HardState.{HardState}
 use Rattle.checks.specs.Checks.{Violation}
 use Rattle.leader.specs.declared.LeaderOption.{LeaderOption}
-use Rattle.model.specs.State.{State, Reply, Confirmation}
+use Rattle.durability.specs.declared.replies.Reply.{Reply}
+use Rattle.model.specs.State.{State, Confirmation}
 use Rattle.model.specs.Simulation.{Opening}
 use Rattle.model.specs.Calls as model
 use Rattle.model.specs.Calls.{Out, refused, done, Stepped, Asked, Sealed}

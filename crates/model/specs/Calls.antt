@@ -29,8 +29,9 @@ use Rattle.config.specs.declared.Limits.{Limits}
 use Rattle.config.specs.Limits.{judge, number}
 use Rattle.storage.specs.Storage.{Write, writeHardState, writePut, writeTruncate, unsynced}
 use Rattle.queue.specs.Queue.{Popped, empty, taken, pop}
-use Rattle.checks.specs.Checks.{ServerLog, Acknowledged, AppliedUpTo, checkLogMatching, checkDurability}
-use Rattle.model.specs.State.{State, Server, Reply, direct, Input, startInput, messageInput, timerInput, proposeInput, confirmInput, Verdict, accepted, notLeader, Owed, nothing, Phase, closed, writing, sending, serverAt, idOf, slotOf}
+use Rattle.checks.specs.Checks.{ServerLog, AppliedUpTo, checkLogMatching, checkDurability}
+use Rattle.durability.specs.Acknowledged.{acknowledgedFrom}
+use Rattle.model.specs.State.{State, Server, direct, Input, startInput, messageInput, timerInput, proposeInput, confirmInput, Verdict, accepted, notLeader, Owed, nothing, Phase, closed, writing, sending, serverAt, idOf, slotOf}
 use Rattle.model.specs.Fields.{withNow, withQueue, withChecker, withDirectSeq, withEvents, withPhase}
 use Rattle.model.specs.Simulation.{Opening, noInput, openProposal, openConfirmation, running, openedTimer, scheduleFault, process, begin, writeAt, cutInput, syncInput, send, setTimer, cancelTimer, apply, confirm, endInput}
 
@@ -325,11 +326,6 @@ logsFrom slot (v ∷ vs) = record { server = idOf slot; log = v .storage .curren
 -- Log matching checked over every pair of logs (check_log_matching).
 unfoldable pub checkLogMatchingCall : State → Out (Unit {0})
 checkLogMatchingCall s = ask (isClosed (s .phase)) 6 (done tt (withChecker s (checkLogMatching (s .checker) (s .now) (logsFrom 0 (s .servers)))))
-
--- The acknowledged commands, each rebuilt from its reply.
-unfoldable pub acknowledgedFrom : ℕ → List Reply → List Acknowledged
-acknowledgedFrom size [] = []
-acknowledgedFrom size (r ∷ rs) = record { index = r .index; payload = command (client.encode (r .client) (r .seq) size) } ∷ acknowledgedFrom size rs
 
 -- How far each server has applied since it last started; next_apply is 1 more.
 unfoldable pub appliedFrom : ℕ → List Server → List AppliedUpTo

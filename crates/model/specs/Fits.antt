@@ -24,7 +24,8 @@ use Rattle.queue.specs.Queue.{Queue}
 use Rattle.queue.specs.Range.{word, byte, idFits, scheduledFits, inOrder}
 use Rattle.checks.specs.Checks.{Violation, Seen, seenKey, Checker, leaderKey}
 use Rattle.checks.specs.declared.TermLeader.{TermLeader}
-use Rattle.model.specs.State.{State, Server, Client, Outstanding, Reply, Confirmation, direct, fromClient, Input, startInput, messageInput, timerInput, proposeInput, confirmInput, Verdict, accepted, notLeader, Owed, nothing, construction, healing, Phase, closed, writing, sending}
+use Rattle.durability.specs.declared.replies.Reply.{Reply}
+use Rattle.model.specs.State.{State, Server, Client, Outstanding, Confirmation, direct, fromClient, Input, startInput, messageInput, timerInput, proposeInput, confirmInput, Verdict, accepted, notLeader, Owed, nothing, construction, healing, Phase, closed, writing, sending}
 
 -- ---- numbers
 

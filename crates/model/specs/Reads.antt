@@ -15,7 +15,8 @@ use Rattle.log.specs.Log.{count, lastIndex, gaps, entryAt}
 use Rattle.storage.specs.declared.HardState.{HardState}
 use Rattle.checks.specs.Checks.{Violation}
 use Rattle.leader.specs.declared.LeaderOption.{LeaderOption}
-use Rattle.model.specs.State.{State, Server, Reply, Confirmation, Phase, serverAt}
+use Rattle.durability.specs.declared.replies.Reply.{Reply}
+use Rattle.model.specs.State.{State, Server, Confirmation, Phase, serverAt}
 use Rattle.model.specs.Simulation.{leaderOf}
 use Rattle.model.specs.Calls.{Out, done, ask, inCluster}
 

@@ -24,7 +24,6 @@ use Rattle.config.specs.declared.SimConfig.{SimConfig}
 use Rattle.config.specs.declared.Limits.{Limits}
 use Rattle.client.specs.Key.{decode, keyOf}
 use Rattle.client.specs.Key as client
-use Rattle.client.specs.declared.ClientKey.{ClientKey}
 use Rattle.client.specs.declared.Decoded.{Decoded}
 use Rattle.client.specs.declared.Decoded.the-variants as decoded
 use Rattle.protocol.specs.declared.Timer.{Timer}
@@ -53,7 +52,8 @@ use Rattle.leader.specs.Leader.{leader}
 use Rattle.leader.specs.declared.Reported.{Reported}
 use Rattle.leader.specs.declared.LeaderOption.{LeaderOption}
 use Rattle.leader.specs.declared.LeaderOption.the-variants as led
-use Rattle.model.specs.State.{State, Server, newServer, Client, Outstanding, Reply, direct, fromClient, Input, startInput, messageInput, timerInput, proposeInput, confirmInput, Verdict, accepted, notLeader, Owed, nothing, construction, healing, closed, writing, sending, serverAt, clientAt, idOf, slotOf}
+use Rattle.durability.specs.declared.replies.Reply.{Reply}
+use Rattle.model.specs.State.{State, Server, newServer, Client, Outstanding, direct, fromClient, Input, startInput, messageInput, timerInput, proposeInput, confirmInput, Verdict, accepted, notLeader, Owed, nothing, construction, healing, closed, writing, sending, serverAt, clientAt, idOf, slotOf}
 use Rattle.model.specs.Fields.{withQueue, withServers, withNetwork, withClients, withWorkload, withMetrics, withChecker, withReplies, withConfirmations, withMaxLogGaps, withPhase, withStatus, withStorage, withIncarnation, withElection, withHeartbeat, withCrashOnNextInput, withNextApply, withPending, withLeading, withTarget, withAttempt, withOutstanding}
 
 -- ---- parts of the state

@@ -20,6 +20,7 @@ use Rattle.metrics.specs.declared.Metrics.{Metrics}
 use Rattle.storage.specs.Storage.{Storage, emptyStorage}
 use Rattle.queue.specs.Queue.{Queue}
 use Rattle.checks.specs.Checks.{Checker}
+use Rattle.durability.specs.declared.replies.Reply.{Reply}
 
 -- ---- servers
 
@@ -72,14 +73,6 @@ pub record Client : Type 0 where
   -- rises with every send, so that old timeouts and redirects are ignored
   pub attempt : ℕ
   pub outstanding : Option Outstanding
-
--- A command whose reply reached its client (Reply, and what acknowledged keeps: the command is rebuilt from client and sequence).
-pub record Reply : Type 0 where
-  pub sent : SimTime
-  pub received : SimTime
-  pub index : LogIndex
-  pub client : ℕ
-  pub seq : ℕ
 
 -- The answer to a request to confirm leadership (Confirmation): the read index, or that the server stopped leading.
 pub record Confirmation : Type 0 where

@@ -1,0 +1,9 @@
+pub mod Replies
+pub mod ReplyLaws
+pub mod Acknowledged
+pub mod AcknowledgedLaws
+pub mod MissingLaws
+pub mod Servers
+pub mod ServerLaws
+pub mod Durability
+pub mod DurabilityLaws
