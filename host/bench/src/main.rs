@@ -3,13 +3,11 @@
 use std::hint::black_box;
 use std::time::{Duration, Instant};
 
+use bench::{ENTRIES, QUEUED, fastest};
 use consensus::{Command, Entry, LogIndex, NodeId, Payload, Rng, Storage, Term, Timer};
 use nodes::{Correct, Message, Raft};
 use sim::leaves::{self, EventQueue, TrackedStorage};
 use sim::{SimConfig, Simulation};
-
-/// Times each measurement is made; the fastest counts.
-const ROUNDS: usize = 5;
 
 fn main() {
     println!("| measurement | reference |");
@@ -38,13 +36,6 @@ fn main() {
     );
 }
 
-/// Makes a measurement several times, and takes the one with the least time.
-fn fastest(measure: impl Fn() -> (u64, Duration)) -> (u64, Duration) {
-    let rounds = (0..ROUNDS).map(|_| measure());
-    let least = rounds.min_by_key(|(_, time)| *time);
-    least.expect("there is a round")
-}
-
 /// Twenty simulated seconds of a Raft without faults.
 fn events(servers: usize, clients: usize, count_bytes: bool) -> (u64, Duration) {
     let config = SimConfig {
@@ -61,9 +52,6 @@ fn events(servers: usize, clients: usize, count_bytes: bool) -> (u64, Duration) 
     assert_eq!(sim.violation_count(), 0);
     (sim.events(), time)
 }
-
-/// Events in the queue during its measurement.
-const QUEUED: u64 = 1_000;
 
 /// An event of the size that the simulation's have with the Raft's messages.
 #[allow(dead_code)] // only timers are pushed; the message gives the size
@@ -103,9 +91,6 @@ fn queue() -> (u64, Duration) {
     }
     (PAIRS, begun.elapsed())
 }
-
-/// Entries in the log during its measurement.
-const ENTRIES: u64 = 1_024;
 
 /// Truncations of a full log; filling it again is not counted.
 fn truncations() -> (u64, Duration) {
