@@ -35,7 +35,7 @@ use Rattle.checks.specs.OnApply.{oneIf}
 use Rattle.checks.specs.Violations.{violations, Keeps}
 use Rattle.on_write.specs.declared.Writing.{Writing}
 use Rattle.on_write.specs.declared.Writing.the-variants.{Done, Past64Bits, NoRoom}
-use Rattle.on_write.specs.Payloads.{payload-held, entry-place}
+use Rattle.on_write.specs.Payloads.{entry-held, entry-place}
 use Rattle.on_write.specs.OnWrite.{termIn, entryTerm, ReadsTerm, isOther, Outcome, WritesEntry, Writes}
 
 -- ---- term_in, term_at
@@ -178,7 +178,7 @@ module _ (p l : ℕ) (time : SimTime) (server : NodeId) (index : LogIndex) (b : 
         by N M L c log h g t k (some d) eo et =
             let same : term ≡ d .term = cc in
             let x : Holds (payload p) (lentRow at (1 + wordsFor p) b) (d .payload) =
-            payload-held p l k (index .0 - 1) at term-high ea d (sym (entry-place log (index .0) term-low) ∙ eo) in
+            entry-held p l k (index .0 - 1) at term-high ea d (sym (entry-place log (index .0) term-low) ∙ eo) in
             subst (λ (u : Term). Outcome a p N M n s s′ v v′ (compareSeen (lookup pairs seenKey (index .0, u .0) (c .entries)) c time server index (record { term = u; payload = d .payload }))) same
             (w .to N M c (d .payload) x h g t)
 
