@@ -3,7 +3,7 @@ use mathlib.Core.Path.{_≡_, refl, sym, ap, _∙_, subst}
 use mathlib.Core.Bool.{Bool, true, false, not, _&&_}
 use mathlib.Core.List.{List, [], _∷_}
 use mathlib.Core.Option.{Option, none, some}
-use Prim.Native.Nat.{ℕ, _+_, _-_, _^_, _≤_, _<_}
+use Prim.Native.Nat.{ℕ, _+_, _-_, _≤_, _<_}
 use native.Mathlib.Omega.{arith}
 use lib.Dec.{eqb}
 use mir.Syntax.{w64}
@@ -23,11 +23,10 @@ use Rattle.protocol.specs.declared.Status.{Status}
 use Rattle.layout.specs.Tables.{Held}
 use Rattle.log.specs.Log.{Log}
 use Rattle.checks.specs.declared.TermLeader.{TermLeader}
-use Rattle.checks.specs.declared.Check.{Check}
 use Rattle.checks.specs.declared.Check.the-variants.{ElectionSafety, LeaderCompleteness}
 use Rattle.checks.specs.declared.leaders.LeaderSeen.{LeaderSeen}
 use Rattle.checks.specs.declared.leaders.LeaderSeen.the-variants.{Same, Other, Inserted, Full}
-use Rattle.checks.specs.Checks.{Checker, Led, report, reportIf, leaderKey, compareLeader, firstMissing, reportMissing, checkLeaderCompleteness, alreadyLeads, onStatus}
+use Rattle.checks.specs.Checks.{Checker, report, reportIf, leaderKey, compareLeader, firstMissing, reportMissing, checkLeaderCompleteness, alreadyLeads, onStatus}
 use Rattle.checks.specs.Leaders.{leaders, leadersAfter, isFull, afterLeader, ComparesLeader}
 use Rattle.checks.specs.Violations.{violations, Keeps}
 use Rattle.checks.specs.OnApply.{oneIf}
@@ -196,7 +195,29 @@ pub ruleset leader-compares = (leader-late, leader-full, leader-past, leader-don
 
 -- ---- on_status
 
-module _ (raftChecks : Bool) (time : SimTime) (server : NodeId) (status : Status) (p l m : ℕ) (leading : TermOption) (b a : List ℕ) (n kept total : ℕ) (s v : List ℕ) (r : Bool)
+-- whether leader completeness is asked
+abbrev asked : Bool → TermOption → Term → Bool
+asked raftChecks leading term = raftChecks && not (alreadyLeads (termOption leading) term)
+
+-- the status of a leader: what is missing is asked of the applied payloads, which the comparison of leaders does not change
+status-is : (raftChecks : Bool) (c : Checker) (time : SimTime) (server : NodeId) (status : Status) (log : Log) (leading : TermOption) → leads (status .role) ≡ true
+    → onStatus raftChecks c time server status log (termOption leading)
+    ≡ record { checker = leaderSeen (pick (asked raftChecks leading (status .term)) (firstMissing log 1 (c .applied)) none) c time server (status .term); leading = some (status .term) }
+unfolding onStatus checkLeaderCompleteness
+status-is raftChecks c time server status log leading t =
+    rw t (ap (λ (d : Checker). record { checker = d; leading = some (status .term) }) (by (asked raftChecks leading (status .term))))
+  where
+    first : Option TermLeader
+    first = lookup numbers leaderKey (status .term .0) (c .leaders)
+
+    seen : Checker
+    seen = compareLeader first c time server (status .term)
+
+    by : (t : Bool) → pick t (checkLeaderCompleteness seen time server (status .term) log) seen ≡ leaderSeen (pick t (firstMissing log 1 (c .applied)) none) c time server (status .term)
+    by true = ap (λ (x : List Payload). reportMissing (firstMissing log 1 x) seen time server (status .term)) (compare-applied time server (status .term) first c)
+    by false = refl
+
+module _ {raftChecks : Bool} {time : SimTime} {server : NodeId} {status : Status} {p l m : ℕ} {leading : TermOption} {b a : List ℕ} {n kept total : ℕ} {s v : List ℕ} {r : Bool}
     (e : r ≡ leads (status .role)) where
   pub status-follows : not r ≡ true → ChecksStatus raftChecks time server status p l m leading b a n kept total (Done n kept total NoTerm) s s v v
   unfolding onStatus termOption
@@ -204,33 +225,16 @@ module _ (raftChecks : Bool) (time : SimTime) (server : NodeId) (status : Status
     to = λ S lo hi N M L A c log h g q k w. rw (sym e ∙ not-true r t) (record { leaders = h; violations = g; counted = q; led = refl });
   }
 
-  -- the checks of a leader: the missing index is asked of the checks before it is compared
-  abbrev asked : Bool
-  asked = raftChecks && not (alreadyLeads (termOption leading) (status .term))
-
-  status-is : not r ≡ false → (c : Checker) (log : Log)
-      → onStatus raftChecks c time server status log (termOption leading)
-      ≡ record { checker = leaderSeen (pick asked (firstMissing log 1 (c .applied)) none) c time server (status .term); leading = some (status .term) }
-  unfolding onStatus checkLeaderCompleteness
-  status-is t c log = rw (sym e ∙ not-false r t) (ap (λ (d : Checker). record { checker = d; leading = some (status .term) }) (asks asked))
-    where
-      seen : Checker
-      seen = compareLeader (lookup numbers leaderKey (status .term .0) (c .leaders)) c time server (status .term)
-
-      asks : (t : Bool) → pick t (checkLeaderCompleteness seen time server (status .term) log) seen ≡ leaderSeen (pick t (firstMissing log 1 (c .applied)) none) c time server (status .term)
-      asks true = ap (λ (x : List Payload). reportMissing (firstMissing log 1 x) seen time server (status .term)) (compare-applied time server (status .term) (lookup numbers leaderKey (status .term .0) (c .leaders)) c)
-      asks false = refl
-
-  pub status-leads : (led : Bool) (missing : Missing) (x : Checking) (s′ v′ : List ℕ) → not r ≡ false → led ≡ alreadyLeads (termOption leading) (status .term)
-      → AsksMissing (raftChecks && not led) p l m missing b a
-      → ComparesStatus time server (status .term) missing n kept total x s s′ v v′
+  pub status-leads : {led : Bool} {missing : Missing} {x : Checking} {s′ v′ : List ℕ} → not r ≡ false → led ≡ alreadyLeads (termOption leading) (status .term)
+      → AsksMissing (raftChecks && not led) p l m missing b a → ComparesStatus time server (status .term) missing n kept total x s s′ v v′
       → ChecksStatus raftChecks time server status p l m leading b a n kept total x s s′ v v′
-  status-leads led missing x s′ v′ t el q w = record {
+  status-leads {led} {missing} {x} {s′} {v′} t el q w = record {
     to = λ S lo hi N M L A c log h g k u z.
-        let o : missingOption missing ≡ pick asked (firstMissing log 1 (c .applied)) none =
+        let o : missingOption missing ≡ pick (asked raftChecks leading (status .term)) (firstMissing log 1 (c .applied)) none =
         q .to L A log (c .applied) u z ∙ ap (λ (i : Bool). pick (raftChecks && not i) (firstMissing log 1 (c .applied)) none) el in
         subst (Outcome x S N M n s s′ v v′)
-        (ap (λ (i : Option ℕ). record { checker = leaderSeen i c time server (status .term); leading = some (status .term) }) o ∙ sym (status-is t c log))
+        (ap (λ (i : Option ℕ). record { checker = leaderSeen i c time server (status .term); leading = some (status .term) }) o
+        ∙ sym (status-is raftChecks c time server status log leading (sym e ∙ not-false r t)))
         (w .to S lo hi N M c h g k);
   }
 

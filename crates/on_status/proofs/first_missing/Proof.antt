@@ -1,6 +1,6 @@
--- Made by tools/uniform from proofs.txt, not by hand: 9cd994f4740f8e50
+-- Made by tools/uniform from proofs.txt, not by hand: 6f06233927115f2a
 use Prim.Native.Nat.{_-_}
-use Rattle.on_status.specs.MissingLaws.{Seeking, seeking}
+use Rattle.on_status.specs.MissingLaws.{Seeking, seeking, seeking-found}
 use borrow.Author.Needs.{needs}
 use Rattle.on_status.proofs.first_missing.Statement.{statement}
 use Rattle.on_status.proofs.first_missing.Tie as tie
@@ -20,7 +20,7 @@ first-missing-spec =
     (λ c. search (seeking, needs))  -- loop-holds
     (λ c κs. search (seeking, needs))  -- holds-requires
     (λ c. search (seeking, needs))  -- add-t10
-    (λ c. search (seeking, needs))  -- returns
+    (λ c. seeking-found (search needs) (search needs) (c .before .holds .ensures) (search needs))  -- returns
     (λ c. search (seeking, needs))  -- add-i
     (λ c. search (seeking, needs))  -- loop-less
     (λ c. search (seeking, needs))  -- loop-again

@@ -1,5 +1,5 @@
--- Made by tools/uniform from proofs.txt, not by hand: 1b4bafb21b5442c5
-use Rattle.on_status.specs.Laws.{statuses}
+-- Made by tools/uniform from proofs.txt, not by hand: b4f478ca97cd6f2e
+use Rattle.on_status.specs.Laws.{statuses, status-leads}
 use borrow.Author.Needs.{needs}
 use Rattle.on_status.proofs.on_status.Statement.{statement}
 use Rattle.on_status.proofs.on_status.Tie as tie
@@ -15,4 +15,4 @@ on-status-spec =
     (λ c κs. search (statuses, needs))  -- compare-leader-requires
     (λ c. search (statuses, needs))  -- same-length
     (λ c. search (statuses, needs))  -- same-length-2
-    (λ c. search (statuses, needs)))  -- returns-2
+    (λ c. status-leads (c .before .before .before .before .before .before .before .before .before .before .before .leads .ensures) (search needs) (c .before .before .before .before .before .before .before .before .already-leads .ensures) (c .before .before .before .before .before .before .before .check-leader-completeness .ensures) (c .before .before .before .before .compare-leader .ensures)))  -- returns-2
