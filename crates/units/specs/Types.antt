@@ -1,9 +1,17 @@
 -- Log entries (types.rs). Assumes nothing.
 use mathlib.Core.Bool.{Bool, true, false}
 use mathlib.Core.List.{List}
+use mathlib.Core.Option.{Option, none, some}
 use Prim.Native.Nat.{ℕ}
 use Rattle.laws.specs.Lists.{sameList}
 use Rattle.units.specs.declared.Term.{Term}
+use Rattle.units.specs.declared.TermOption.{TermOption}
+use Rattle.units.specs.declared.TermOption.the-variants.{None, Some}
+
+-- A term that may be absent, as an option.
+unfoldable pub termOption : TermOption → Option Term
+termOption None = none
+termOption (Some term) = some term
 
 -- The contents of a log entry: nothing, or a client command's bytes.
 pub data Payload : Type 0 where

@@ -14,6 +14,12 @@ pub enum NodeOption {
 // An election term.
 pub struct Term(pub u64);
 
+// A term that may be absent: the Rust's Option<Term>, as in the term that a server leads.
+pub enum TermOption {
+    None,
+    Some(Term),
+}
+
 // A position in the log. The first entry has index 1.
 pub struct LogIndex(pub u64);
 

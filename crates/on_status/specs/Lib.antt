@@ -1,0 +1,3 @@
+pub mod OnStatus
+pub mod MissingLaws
+pub mod Laws

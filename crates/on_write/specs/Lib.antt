@@ -1,0 +1,3 @@
+pub mod OnWrite
+pub mod Payloads
+pub mod Laws
