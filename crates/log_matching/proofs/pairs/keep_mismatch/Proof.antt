@@ -1,5 +1,5 @@
--- Made by tools/uniform from proofs.txt, not by hand: 6373be967cecce16
-use Rattle.log_matching.specs.PairLaws.{keeps}
+-- Made by tools/uniform from proofs.txt, not by hand: 4c08018628236e63
+use Rattle.log_matching.specs.PairLaws.{keeps, mismatch-kept}
 use borrow.Author.Needs.{needs}
 use Rattle.log_matching.proofs.pairs.keep_mismatch.Statement.{statement}
 use Rattle.log_matching.proofs.pairs.keep_mismatch.Tie as tie
@@ -13,4 +13,4 @@ keep-mismatch-spec =
     (λ c κs. search (keeps, needs))  -- keep-requires
     (λ c. search (keeps, needs))  -- returns
     (λ c. search (keeps, needs))  -- same-length
-    (λ c. search (keeps, needs)))  -- returns-2
+    (λ c. mismatch-kept _ _ _ _ _ _ _ _ _ _ _ (c .before .before .before .before .before .found .given .1) (c .before .before .keep .ensures)))  -- returns-2
