@@ -1,7 +1,7 @@
-// Every pair of servers' logs (check_log_matching of checks.rs). The logs of servers 1, 2, .. lie side by side in one region, that of slot k at byte
-// k * stride; mismatches are reported to the region of violations (checks, violations.rt), and the caller keeps how many are kept and how many there were.
-ghost use Prim.Native.Nat.{_+_, _*_, _≤_, _<_};
+// Every pair of servers' logs (check_log_matching of checks.rs). The logs of servers 1, 2, .., at most 8, lie side by side in one region, that of slot k at
+// byte k * stride; mismatches are reported to the region of violations (checks, violations.rt), and the caller keeps how many are kept and how many there were.
 ghost use mathlib.Core.Path.{_≡_};
+ghost use Prim.Native.Nat.{_+_, _*_, _≤_, _<_};
 ghost use lib.ListN.{length};
 ghost use Rattle.layout.specs.Marked.{wordsFor};
 ghost use Rattle.checks.specs.Checks.{logMatchingFailure};
