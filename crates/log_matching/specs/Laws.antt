@@ -214,7 +214,7 @@ pub ruleset mismatches = (mismatch-none, mismatch-unshared, mismatch-shared)
 
 pub ruleset differences = (difference-kept, difference-none, difference-here)
 
--- ---- is_mismatch, the lower of two indexes
+-- ---- the last index is that of a place
 
 last-within : (x : Log) → lastIndex x ≤ length x
 unfolding lastIndex

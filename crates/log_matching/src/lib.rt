@@ -12,7 +12,7 @@ use log::Place;
 use units::LogIndex;
 use units::Term;
 
-pub mod pairs; // mismatches of pairs of logs reported
+pub mod pairs; // every pair of logs, and mismatches reported
 
 // A term, if there is one.
 enum TermOption {

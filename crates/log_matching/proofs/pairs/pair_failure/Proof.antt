@@ -1,0 +1,26 @@
+-- Made by tools/uniform from proofs.txt, not by hand: cf3bdb0948456e28
+use Rattle.log_matching.specs.PairLaws.{pair-compared}
+use borrow.Author.Needs.{needs}
+use Rattle.log_matching.proofs.pairs.pair_failure.Statement.{statement}
+use Rattle.log_matching.proofs.pairs.pair_failure.Tie as tie
+
+pub pair-failure-spec : {M : Type 1} → statement M
+pair-failure-spec =
+    tie.close
+    (tie.spec
+    (λ c. search (pair-compared, needs))  -- add-size
+    (λ c. search (pair-compared, needs))  -- add-size-2
+    (λ c. search (pair-compared, needs))  -- mul-size
+    (λ c. search (pair-compared, needs))  -- mul-size-2
+    (λ c κs. search (pair-compared, needs))  -- start-of-requires
+    (λ c κs. search (pair-compared, needs))  -- start-of-requires-2
+    (λ c. search (pair-compared, needs))  -- add-a-end
+    (λ c. search (pair-compared, needs))  -- add-b-end
+    (λ c. search (pair-compared, needs))  -- sub-log-matching-failure
+    (λ c. search (pair-compared, needs))  -- part-log-matching-failure-start
+    (λ c. search (pair-compared, needs))  -- part-log-matching-failure-end
+    (λ c. search (pair-compared, needs))  -- sub-log-matching-failure-2
+    (λ c. search (pair-compared, needs))  -- part-log-matching-failure-start-2
+    (λ c. search (pair-compared, needs))  -- part-log-matching-failure-end-2
+    (λ c κs. search (pair-compared, needs))  -- log-matching-failure-requires
+    (λ c. search (pair-compared, needs)))  -- returns
