@@ -1,2 +1,4 @@
 pub mod Listed
 pub mod ListLaws
+pub mod Schedules
+pub mod WriteLaws

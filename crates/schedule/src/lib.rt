@@ -2,13 +2,20 @@
 // numbers, in order of time, equal times as generated. What the list has behind them is zero.
 ghost use mathlib.Core.Path.{_≡_};
 ghost use Prim.Native.Nat.{_+_, _*_, _/_, _%_, _^_, _≤_, _<_};
+ghost use mathlib.Core.List.{[]};
 ghost use lib.ListN.{length, getD};
-ghost use Rattle.chaos.specs.Answers.{countOf};
-ghost use Rattle.layout.specs.Tables.{Becomes, Gives};
+ghost use Rattle.chaos.specs.Schedule.{chaosSchedule};
+ghost use Rattle.chaos.specs.Answers.{idsOf, countOf};
+ghost use Rattle.layout.specs.Tables.{Held, Becomes, Gives};
 ghost use Rattle.schedule.specs.Listed.{numbersOf, schedule, push, noFault, Places};
+ghost use Rattle.schedule.specs.Schedules.{Accepted, ListAfter};
+use chaos::ChaosConfig;
 use chaos::Entries;
 use chaos::Timed;
+use faults::Fault;
 use layout::rows;
+use rng::Rng;
+use units::Duration;
 use units::SimTime;
 
 // A fault of the list: its time and its numbers.
@@ -17,6 +24,12 @@ pub struct Listed {
     pub kind: u64,
     pub first: u64,
     pub second: u64,
+}
+
+// A schedule's answer: the number of a refusal (1, 7, 9, 10 or 11), or how many entries were written and how many draws were made.
+pub enum Scheduled {
+    Refused(u64),
+    Made { count: u64, draws: u64 },
 }
 
 // A scheduled fault as its numbers.
@@ -60,6 +73,38 @@ fn push_entries(list: &mut [u8], n: usize, entries: Entries) -> usize
             push(list, n + 1, undone);
             n + 2
         }
+    }
+}
+
+// Draws a schedule again that was not refused, and writes it into an empty list.
+fn write(servers: &[u64], config: ChaosConfig, list: &mut [u8], g: Rng)
+    requires { ⌜ (length (now list) % 32 ≡ 0) × (length (now list) / 32 < 2 ^ 32) ⌝ }
+    requires { ⌜ Accepted (chaosSchedule (idsOf (now servers)) config (length (now list) / 32) g) ⌝ }
+    requires { ⌜ Held schedule (length (now list) / 8) 0 (now list) [] ⌝ }
+    ensures { λ _. ⌜ ListAfter (chaosSchedule (idsOf (now (servers .entry))) config (length (now (list .entry)) / 32) g) (now (list .entry)) (now (list .exit)) ⌝ }
+{
+    let end = config.end.0;
+    let gaps = Duration(config.mean_gap.0 * 2);
+    let mut time = config.start;
+    let mut count: usize = 0;
+    let mut next = g;
+    loop {
+        let gap = chaos::uniform(next, Duration(0), gaps);
+        let start = SimTime(time.0 + gap.duration.0);
+        let drawn = gap.next;
+        if end <= start.0 {
+            let healed = Timed {
+                time: SimTime(end),
+                fault: Fault::HealAll,
+            };
+            push(list, count, healed);
+            return;
+        }
+        let fault = chaos::one_fault(servers, config, start, drawn);
+        let entries = fault.entries;
+        count = push_entries(list, count, entries);
+        next = fault.next;
+        time = start;
     }
 }
 
