@@ -2,3 +2,4 @@ pub mod Listed
 pub mod ListLaws
 pub mod Schedules
 pub mod WriteLaws
+pub mod AnswerLaws

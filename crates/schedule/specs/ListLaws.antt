@@ -1,21 +1,23 @@
 -- What the proofs of the list's functions cite. Assumes nothing.
 use mathlib.Core.Path.{_≡_, refl, sym, ap, _∙_, subst}
-use mathlib.Core.List.{List, [], _∷_}
-use Prim.Native.Nat.{ℕ, _+_, _*_, _≤_, _<_}
+use mathlib.Core.List.{List, [], _∷_, append-nil}
+use Prim.Native.Nat.{ℕ, _+_, _-_, _*_, _/_, _%_, _≤_, _<_}
 use native.Mathlib.Nat.{add-zero}
 use native.Mathlib.Omega.{arith}
 use mir.Syntax.{w64}
 use mir.Val.{Fits}
-use lib.ListN.{length, getD}
-use lib.Seq.{sets}
+use lib.ListN.{length, getD, replicate, length-replicate}
+use lib.Seq.{sets, length-sets}
 use borrow.Author.Tests.{lt-ltb}
 use Rattle.laws.specs.Bools.{and-both}
-use Rattle.laws.specs.Order.{numbers, pushBy}
-use Rattle.words.specs.Words.{bytes, W}
+use Rattle.laws.specs.Order.{numbers, chain, pushBy}
+use Rattle.words.specs.Words.{bytes, W, allz}
+use Rattle.words.specs.Sets.{sets-at}
+use Rattle.words.specs.Zero.{allz-zeros}
 use Rattle.layout.specs.Tables.{Becomes, Gives, opened}
 use Rattle.layout.specs.Order.{lastPlace, one, heads}
 use Rattle.layout.specs.SortedTables.{Queued, queued-push}
-use Rattle.layout.specs.TableLaws.{row-word, then}
+use Rattle.layout.specs.TableLaws.{row-word, then, empty-held}
 use Rattle.faults.specs.Fault.{faultKind, faultFirst, faultSecond}
 use Rattle.chaos.specs.declared.Timed.{Timed}
 use Rattle.chaos.specs.declared.Entries.{Entries}
@@ -23,7 +25,7 @@ use Rattle.chaos.specs.declared.Entries.the-variants.{NoSecondServer, One, Two}
 use Rattle.chaos.specs.Answers.{countOf}
 use Rattle.chaos.specs.Plans.{listOf}
 use Rattle.schedule.specs.declared.Listed.{Listed}
-use Rattle.schedule.specs.Listed.{timeOf, schedule, numbersOf, push, pushEach, noFault, Places}
+use Rattle.schedule.specs.Listed.{timeOf, schedule, numbersOf, push, pushEach, noFault, Places, Empties}
 
 queued : Queued schedule numbers timeOf one
 unfolding one
@@ -91,3 +93,12 @@ entry-is b n k t c f s h et ec ef es = record {
       let e3 : s ≡ a .second = es ∙ row-word held k 3 noFault h (omega arith) in
       λ i. record { time = record { 0 = e0 i }; kind = e1 i; first = e2 i; second = e3 i };
 }
+
+pub emptied : (b b′ : List ℕ) → length b % 32 ≡ 0 → b′ ≡ sets b 0 (replicate (length b - 0) 0) → Empties b b′
+unfolding chain
+emptied b b′ w f =
+    let z : List ℕ = replicate (length b - 0) 0 in
+    let n : length b - 0 ≡ length b = omega arith in
+    let l : length b′ ≡ length b = ap length f ∙ length-sets b 0 z in
+    let e : b′ ≡ z = f ∙ ap (λ (y : List ℕ). sets y 0 z) (sym (append-nil b)) ∙ sets-at [] b [] z 0 refl (length-replicate (length b - 0) 0 ∙ n) ∙ append-nil z in
+    record { long = l; held = empty-held schedule (length b′ / 8) b′ (omega arith) refl (ap allz e ∙ allz-zeros (length b - 0)) }

@@ -1,7 +1,8 @@
 -- The list of a schedule as a table: rows of 4 words, in order of their times, equal times in the order of their pushes. Assumes nothing.
 use mathlib.Core.Path.{_≡_, refl}
 use mathlib.Core.List.{List, [], _∷_, map}
-use Prim.Native.Nat.{ℕ, _+_}
+use Prim.Native.Nat.{ℕ, _+_, _/_}
+use lib.ListN.{length}
 use Rattle.laws.specs.Order.{numbers, sorted, pushBy}
 use Rattle.faults.specs.Fault.{faultKind, faultFirst, faultSecond}
 use Rattle.chaos.specs.declared.Timed.{Timed}
@@ -9,7 +10,7 @@ use Rattle.chaos.specs.declared.Entries.{Entries}
 use Rattle.chaos.specs.Answers.{countOf}
 use Rattle.chaos.specs.Plans.{listOf}
 use Rattle.layout.specs.Code.{Code, word, pair, iso}
-use Rattle.layout.specs.Tables.{Table, Becomes}
+use Rattle.layout.specs.Tables.{Table, Held, Becomes}
 use Rattle.schedule.specs.declared.Listed.{Listed}
 
 -- The numbers of a row: the time, the kind and two numbers.
@@ -51,6 +52,11 @@ pushEach (t ∷ ts) x = pushEach ts (push t x)
 pub record Places (entries : Entries) (n r : ℕ) (b b′ : List ℕ) : Type 0 where
   pub count : r ≡ n + countOf entries
   pub to : Becomes schedule n r b b′ (pushEach (listOf entries))
+
+-- b, of whole rows, has become a list of no rows.
+pub record Empties (b b′ : List ℕ) : Type 0 where
+  pub long : length b′ ≡ length b
+  pub held : Held schedule (length b′ / 8) 0 b′ []
 
 -- Any row, for `getD`.
 abbrev pub noFault : Listed

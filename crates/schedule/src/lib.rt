@@ -7,10 +7,11 @@ ghost use lib.ListN.{length, getD};
 ghost use Rattle.chaos.specs.Schedule.{chaosSchedule};
 ghost use Rattle.chaos.specs.Answers.{idsOf, countOf};
 ghost use Rattle.layout.specs.Tables.{Held, Becomes, Gives};
-ghost use Rattle.schedule.specs.Listed.{numbersOf, schedule, push, noFault, Places};
-ghost use Rattle.schedule.specs.Schedules.{Accepted, ListAfter};
+ghost use Rattle.schedule.specs.Listed.{numbersOf, schedule, push, noFault, Places, Empties};
+ghost use Rattle.schedule.specs.Schedules.{Accepted, ListAfter, Schedules};
 use chaos::ChaosConfig;
 use chaos::Entries;
+use chaos::Planned;
 use chaos::Timed;
 use faults::Fault;
 use layout::rows;
@@ -105,6 +106,50 @@ fn write(servers: &[u64], config: ChaosConfig, list: &mut [u8], g: Rng)
         count = push_entries(list, count, entries);
         next = fault.next;
         time = start;
+    }
+}
+
+// Empties the list.
+fn clear(list: &mut [u8])
+    requires { ⌜ length (now list) % 32 ≡ 0 ⌝ }
+    ensures { λ _. ⌜ Empties (now (list .entry)) (now (list .exit)) ⌝ }
+{
+    let all = list.len();
+    words::fill_zero(list, 0, all);
+}
+
+// A random fault schedule for a list of servers, written into a lent list of 32 bytes an entry; `state` is the lent generator's word.
+// Refused, neither is changed.
+pub fn chaos_schedule(
+    servers: &[u64],
+    config: ChaosConfig,
+    list: &mut [u8],
+    state: &mut [u64],
+) -> Scheduled
+    requires { ⌜ (length (now list) % 32 ≡ 0) × (length (now list) / 32 < 2 ^ 32) × (length (now state) ≡ 1) ⌝ }
+    ensures { λ r. ⌜ Schedules (chaosSchedule (idsOf (now (servers .entry))) config (length (now (list .entry)) / 32) (record { state = getD (now (state .entry)) 0 0 })) r (now (list .entry)) (now (list .exit)) (now (state .entry)) (now (state .exit)) ⌝ }
+{
+    let room = (list.len() / 32) as u64;
+    let g = Rng { state: state[0] };
+    match chaos::chaos_plan(servers, config, room, g) {
+        Planned::ServerCount => Scheduled::Refused(1),
+        Planned::UnknownServer => Scheduled::Refused(7),
+        Planned::TimeLimit => Scheduled::Refused(9),
+        Planned::NoRoom => Scheduled::Refused(10),
+        Planned::NoSecondServer => Scheduled::Refused(11),
+        Planned::Made {
+            entries,
+            draws,
+            next,
+        } => {
+            clear(list);
+            write(servers, config, list, g);
+            state[0] = next.state;
+            Scheduled::Made {
+                count: entries,
+                draws,
+            }
+        }
     }
 }
 
