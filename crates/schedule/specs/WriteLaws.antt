@@ -101,20 +101,20 @@ asked ids config room g a = by (leb 1 (length (idsOf ids)) and leb (length (idsO
 
 -- ---- the loop: the faults that were drawn so far are in the list
 
-pub record Writing (ids : List ℕ) (config : ChaosConfig) (all : ℕ) (g : Rng) (end : ℕ) (gaps : Duration) (time : SimTime) (count : ℕ) (next : Rng) (b : List ℕ) : Type 0 where
-  pub accepted : Accepted (generate (idsOf ids) config (all / 32) (all / 32 + 1) (config .start) [] 0 g)
-  pub whole : all % 32 ≡ 0
-  pub long : length b ≡ all
+pub record Writing (ids : List ℕ) (config : ChaosConfig) (b₀ : List ℕ) (g : Rng) (end : ℕ) (gaps : Duration) (time : SimTime) (count : ℕ) (next : Rng) (b : List ℕ) : Type 0 where
+  pub accepted : Accepted (generate (idsOf ids) config (length b₀ / 32) (length b₀ / 32 + 1) (config .start) [] 0 g)
+  pub whole : length b₀ % 32 ≡ 0
+  pub long : length b ≡ length b₀
   pub draws : ℕ
-  pub plan : Planning ids config (all / 32) g end gaps time count draws next
-  pub held : Held schedule (all / 8) count b (rowsOf (sortBy numbers timedAt (plan .schedule)))
+  pub plan : Planning ids config (length b₀ / 32) g end gaps time count draws next
+  pub held : Held schedule (length b₀ / 8) count b (rowsOf (sortBy numbers timedAt (plan .schedule)))
 
 pub gaps-fit : (ids : List ℕ) (config : ChaosConfig) (room : ℕ) (g : Rng) → Accepted (chaosSchedule (idsOf ids) config room g) → Fits w64 (config .«mean_gap» .0 * 2)
 gaps-fit ids config room g a = record { fits = omega (arith, asked ids config room g a .times .gap) }
 
 pub writing-start : (ids : List ℕ) (config : ChaosConfig) (g : Rng) (b : List ℕ) → length b % 32 ≡ 0 → length b / 32 < 2 ^ 32
     → Accepted (chaosSchedule (idsOf ids) config (length b / 32) g) → Held schedule (length b / 8) 0 b []
-    → Writing ids config (length b) g (config .end .0) (record { 0 = config .«mean_gap» .0 * 2 }) (config .start) 0 g b
+    → Writing ids config b g (config .end .0) (record { 0 = config .«mean_gap» .0 * 2 }) (config .start) 0 g b
 unfolding planning-start rowsOf sortBy pushAll
 writing-start ids config g b w r a h =
     let q = asked ids config (length b / 32) g a in
@@ -127,14 +127,14 @@ writing-start ids config g b w r a h =
       held = h;
     }
 
-module _ (ids : List ℕ) (config : ChaosConfig) (all : ℕ) (g : Rng) (end : ℕ) (gaps : Duration) (time : SimTime) (count : ℕ) (next : Rng) (b : List ℕ)
-    (w : Writing ids config all g end gaps time count next b) (d : DrawnDuration) (e : durationDrawn d ≡ uniform 0 (gaps .0) next) where
+module _ (ids : List ℕ) (config : ChaosConfig) (b₀ : List ℕ) (g : Rng) (end : ℕ) (gaps : Duration) (time : SimTime) (count : ℕ) (next : Rng) (b : List ℕ)
+    (w : Writing ids config b₀ g end gaps time count next b) (d : DrawnDuration) (e : durationDrawn d ≡ uniform 0 (gaps .0) next) where
   -- HealAll's place
   module _ (h : end ≤ time .0 + d .duration .0) where
-    last-free : count < all / 32
+    last-free : count < length b₀ / 32
     unfolding outcomeOf
     last-free =
-        let full : all / 32 ≤ count → ⊥ = λ k. not-made 10 _ (w .accepted) (plan-full ids config (all / 32) g end gaps time count (w .draws) next (w .plan) d e h k) in
+        let full : length b₀ / 32 ≤ count → ⊥ = λ k. not-made 10 _ (w .accepted) (plan-full ids config (length b₀ / 32) g end gaps time count (w .draws) next (w .plan) d e h k) in
         omega (arith, full)
 
     pub last-room : 32 * (count + 1) ≤ length b
@@ -144,44 +144,44 @@ module _ (ids : List ℕ) (config : ChaosConfig) (all : ℕ) (g : Rng) (end : �
   module _ (f : DrawnFault) (h : time .0 + d .duration .0 < end) (k : faultDrawn f ≡ oneFault (idsOf ids) config (record { 0 = time .0 + d .duration .0 }) (d .next)) where
     some-entry : countOf (f .entries) ≡ 0 → ⊥
     unfolding outcomeOf
-    some-entry z = not-made 11 _ (w .accepted) (plan-no-second ids config (all / 32) g end gaps time count (w .draws) next (w .plan) d e f h k (countOf (f .entries)) refl z)
+    some-entry z = not-made 11 _ (w .accepted) (plan-no-second ids config (length b₀ / 32) g end gaps time count (w .draws) next (w .plan) d e f h k (countOf (f .entries)) refl z)
 
-    entries-fit : countOf (f .entries) ≤ all / 32 - count
+    entries-fit : countOf (f .entries) ≤ length b₀ / 32 - count
     unfolding outcomeOf
     entries-fit =
-        let full : all / 32 - count < countOf (f .entries) → ⊥ =
-        λ r. not-made 10 _ (w .accepted) (plan-no-room ids config (all / 32) g end gaps time count (w .draws) next (w .plan) d e f h k (countOf (f .entries)) refl some-entry r) in
+        let full : length b₀ / 32 - count < countOf (f .entries) → ⊥ =
+        λ r. not-made 10 _ (w .accepted) (plan-no-room ids config (length b₀ / 32) g end gaps time count (w .draws) next (w .plan) d e f h k (countOf (f .entries)) refl some-entry r) in
         omega (arith, full)
 
     pub entries-room : 32 * (count + countOf (f .entries)) ≤ length b
     entries-room = omega (arith, w .long, entries-fit, some-entry, w .whole)
 
     module _ (r : ℕ) (b′ : List ℕ) (p : Places (f .entries) count r b b′) where
-      pub writing-less : all / 32 - r < all / 32 - count
+      pub writing-less : length b₀ / 32 - r < length b₀ / 32 - count
       writing-less = omega (arith, p .count, entries-fit, some-entry)
 
-      pub writing-next : f .draws ≤ 67 → Writing ids config all g end gaps (record { 0 = time .0 + d .duration .0 }) r (f .next) b′
+      pub writing-next : f .draws ≤ 67 → Writing ids config b₀ g end gaps (record { 0 = time .0 + d .duration .0 }) r (f .next) b′
       writing-next m =
           let x : List Timed = w .plan .schedule in
-          let plan : Planning ids config (all / 32) g end gaps (record { 0 = time .0 + d .duration .0 }) (count + countOf (f .entries)) (w .draws + 1 + f .draws) (f .next) =
-          planning-next ids config (all / 32) g end gaps time count (w .draws) next (w .plan) d e f h k (countOf (f .entries)) refl some-entry entries-fit m in
+          let plan : Planning ids config (length b₀ / 32) g end gaps (record { 0 = time .0 + d .duration .0 }) (count + countOf (f .entries)) (w .draws + 1 + f .draws) (f .next) =
+          planning-next ids config (length b₀ / 32) g end gaps time count (w .draws) next (w .plan) d e f h k (countOf (f .entries)) refl some-entry entries-fit m in
           let same : plan .schedule ≡ x ++ listOf (f .entries) =
-          planning-schedule ids config (all / 32) g end gaps time count (w .draws) next (w .plan) d e f h k (countOf (f .entries)) refl some-entry entries-fit m in
-          let held : Held schedule (all / 8) (count + countOf (f .entries)) b′ (pushEach (listOf (f .entries)) (rowsOf (sortBy numbers timedAt x))) =
-          subst (λ (n : ℕ). Held schedule (all / 8) n b′ (pushEach (listOf (f .entries)) (rowsOf (sortBy numbers timedAt x)))) (p .count) (p .to .to (all / 8) _ (w .held)) in
-          subst (λ (n : ℕ). Writing ids config all g end gaps (record { 0 = time .0 + d .duration .0 }) n (f .next) b′) (sym (p .count))
+          planning-schedule ids config (length b₀ / 32) g end gaps time count (w .draws) next (w .plan) d e f h k (countOf (f .entries)) refl some-entry entries-fit m in
+          let held : Held schedule (length b₀ / 8) (count + countOf (f .entries)) b′ (pushEach (listOf (f .entries)) (rowsOf (sortBy numbers timedAt x))) =
+          subst (λ (n : ℕ). Held schedule (length b₀ / 8) n b′ (pushEach (listOf (f .entries)) (rowsOf (sortBy numbers timedAt x)))) (p .count) (p .to .to (length b₀ / 8) _ (w .held)) in
+          subst (λ (n : ℕ). Writing ids config b₀ g end gaps (record { 0 = time .0 + d .duration .0 }) n (f .next) b′) (sym (p .count))
           (record {
             accepted = w .accepted;
             whole = w .whole;
             long = omega (arith, held-length held, w .whole);
             draws = w .draws + 1 + f .draws;
             plan = plan;
-            held = subst (Held schedule (all / 8) (count + countOf (f .entries)) b′) (sort-rows x (listOf (f .entries)) ∙ ap (λ (y : List Timed). rowsOf (sortBy numbers timedAt y)) (sym same)) held;
+            held = subst (Held schedule (length b₀ / 8) (count + countOf (f .entries)) b′) (sort-rows x (listOf (f .entries)) ∙ ap (λ (y : List Timed). rowsOf (sortBy numbers timedAt y)) (sym same)) held;
           })
 
 -- HealAll pushed: the list is written
 pub written : (ids : List ℕ) (config : ChaosConfig) (g : Rng) (end : ℕ) (gaps : Duration) (time : SimTime) (count : ℕ) (next : Rng) (b₀ b b′ : List ℕ)
-    → Accepted (chaosSchedule (idsOf ids) config (length b₀ / 32) g) → Writing ids config (length b₀) g end gaps time count next b
+    → Accepted (chaosSchedule (idsOf ids) config (length b₀ / 32) g) → Writing ids config b₀ g end gaps time count next b
     → (d : DrawnDuration) → durationDrawn d ≡ uniform 0 (gaps .0) next → end ≤ time .0 + d .duration .0
     → Becomes schedule count (count + 1) b b′ (push (record { time = record { 0 = end }; fault = HealAll }))
     → ListAfter (chaosSchedule (idsOf ids) config (length b₀ / 32) g) b₀ b′
@@ -191,7 +191,7 @@ written ids config g end gaps time count next b₀ b b′ a w d e h p =
     let before : List Timed = w .plan .schedule in
     let lastAt : ℕ → List Timed = λ n. record { time = record { 0 = n }; fault = HealAll } ∷ [] in
     let x : List Timed = sortBy numbers timedAt (before ++ lastAt (config .end .0)) in
-    let free : length before < room = omega (arith, w .plan .long, last-free ids config (length b₀) g end gaps time count next b w d e h) in
+    let free : length before < room = omega (arith, w .plan .long, last-free ids config b₀ g end gaps time count next b w d e h) in
     let ends : ended (idsOf ids) config room before (w .draws + 1) (d .next) ≡ made x (w .draws + 1) (d .next) = simp (lt-ltb (length before) room free) in
     let is : chaosSchedule (idsOf ids) config room g ≡ made x (w .draws + 1) (d .next) =
     asked ids config room g a .is ∙ at-end ids config room g end gaps time count (w .draws) next (w .plan) d e h ∙ ends in

@@ -1,4 +1,4 @@
--- Made by tools/uniform from proofs.txt, not by hand: 622f7c652f7968ce
+-- Made by tools/uniform from proofs.txt, not by hand: a3e95bb843d07d4d
 use Rattle.schedule.specs.ListLaws.{pushed}
 use borrow.Author.Needs.{needs}
 use Rattle.schedule.proofs.push.Statement.{statement}
@@ -15,4 +15,4 @@ push-spec =
     (λ c. search (pushed, needs))  -- slice-aggregate-store-all
     (λ c κs. search (pushed, needs))  -- store-all-requires
     (λ c. search (pushed, needs))  -- same-length
-    (λ c. search (pushed, needs)))  -- returns
+    (λ c. pushed _ _ _ _ _ _ _ (c .before .before .before .before .before .before .before .before .before .before .before .before .before .pre) (c .before .before .before .before .before .before .before .before .before .before .before .numbers .ensures) (search needs) (search needs) (search needs) (search needs) (search needs) (search needs) (c .before .before .before .before .before .before .before .open-row .ensures) (c .before .before .store-all .ensures)))  -- returns
