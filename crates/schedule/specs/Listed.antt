@@ -13,10 +13,11 @@ use Rattle.layout.specs.Code.{Code, word, pair, iso}
 use Rattle.layout.specs.Tables.{Table, Held, Becomes}
 use Rattle.schedule.specs.declared.Listed.{Listed}
 
--- The numbers of a row: the time, the kind and two numbers.
+-- Four numbers: the time, the kind and the fault's two numbers.
 abbrev pub Four : Type 0
 Four = ℕ × (ℕ × (ℕ × ℕ))
 
+-- A row of numbers, and the numbers of a row.
 abbrev pub fromFour : Four → Listed
 fromFour x = record { time = record { 0 = x .0 }; kind = x .1 .0; first = x .1 .1 .0; second = x .1 .1 .1 }
 

@@ -1,4 +1,4 @@
--- What the proofs of `write` and `chaos_schedule` cite. Assumes nothing.
+-- What the proof of `write` cites. Assumes nothing.
 use mathlib.Core.Path.{_≡_, refl, sym, ap, _∙_, subst}
 use mathlib.Core.Bool.{Bool, true, false}
 use mathlib.Core.List.{List, [], _∷_, _++_}
@@ -53,7 +53,7 @@ unfolding pushEach pushAll
 push-rows [] x = refl
 push-rows (t ∷ ts) x = ap (pushEach ts) (push-row t x) ∙ push-rows ts (pushBy numbers timedAt t x)
 
-pub sort-rows : (x ts : List Timed) → pushEach ts (rowsOf (sortBy numbers timedAt x)) ≡ rowsOf (sortBy numbers timedAt (x ++ ts))
+sort-rows : (x ts : List Timed) → pushEach ts (rowsOf (sortBy numbers timedAt x)) ≡ rowsOf (sortBy numbers timedAt (x ++ ts))
 unfolding sortBy
 sort-rows x ts = push-rows ts (pushAll numbers timedAt x []) ∙ ap rowsOf (sym (push-append numbers timedAt x ts []))
 

@@ -1,8 +1,8 @@
 // A random fault schedule (chaos_schedule of faults.rs), written into a lent list: rows of 4 words, a fault's time, its kind and its two
 // numbers, in order of time, equal times as generated. What the list has behind them is zero.
 ghost use mathlib.Core.Path.{_≡_};
-ghost use Prim.Native.Nat.{_+_, _*_, _/_, _%_, _^_, _≤_, _<_};
 ghost use mathlib.Core.List.{[]};
+ghost use Prim.Native.Nat.{_+_, _*_, _/_, _%_, _^_, _≤_, _<_};
 ghost use lib.ListN.{length, getD};
 ghost use Rattle.chaos.specs.Schedule.{chaosSchedule};
 ghost use Rattle.chaos.specs.Answers.{idsOf, countOf};
