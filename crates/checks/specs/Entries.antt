@@ -4,6 +4,8 @@ use mathlib.Core.Bool.{Bool, true, false}
 use mathlib.Core.List.{List, [], _∷_, map}
 use Prim.Native.Nat.{ℕ, _+_, _*_, _<_}
 use native.Mathlib.Omega.{arith}
+use lib.Dec.{leb}
+use Rattle.laws.specs.Bools.{_and_}
 use Rattle.laws.specs.Order.{pairs, rising, lookup, insertBy}
 use Rattle.units.specs.Types.{Payload, Entry}
 use Rattle.units.specs.declared.NodeId.{NodeId}
@@ -11,7 +13,7 @@ use Rattle.units.specs.declared.Term.{Term}
 use Rattle.units.specs.declared.LogIndex.{LogIndex}
 use Rattle.units.specs.declared.SimTime.{SimTime}
 use Rattle.layout.specs.Code.{Code, word, pair, iso, sized}
-use Rattle.layout.specs.Tables.{Holds, Table, Held}
+use Rattle.layout.specs.Tables.{Holds, Table, suchTable, Held}
 use Rattle.layout.specs.Marked.{wordsFor}
 use Rattle.layout.specs.Payload.{payload}
 use Rattle.checks.specs.declared.Check.the-variants.{UniqueEntries}
@@ -36,6 +38,14 @@ seenRow p = sized (iso (seenParts p) fromParts toParts (λ s. refl) (λ x h. ref
 -- Entries seen, rising by index and term.
 abbrev pub seen : ℕ → Table Seen
 seen p = record { row = seenRow p; rule = λ x. rising pairs (map seenKey x) }
+
+-- Whether an entry's index is one of a log of L places.
+abbrev pub indexWithin : ℕ → Seen → Bool
+indexWithin L s = leb 1 (s .index .0) and leb (s .index .0) L
+
+-- Entries seen in logs of L places.
+abbrev pub seenIn : ℕ → ℕ → Table Seen
+seenIn L p = suchTable (seen p) (indexWithin L)
 
 -- How many rows there are after an answer, and whether there was no room.
 abbrev pub seenAfter : ℕ → EntrySeen → ℕ

@@ -1,43 +1,44 @@
 -- What the proofs of entries.rt cite. Assumes nothing.
-use mathlib.Core.Path.{_≡_, refl, sym, ap, ap₂, _∙_, subst}
-use mathlib.Core.Bool.{Bool, true, false, not}
-use mathlib.Core.List.{List, [], _∷_, _++_, map}
-use mathlib.Core.Option.{Option, none, some}
+use mathlib.Core.Path.{_≡_, refl, sym, ap, ap₂, _∙_}
+use mathlib.Core.Bool.{Bool, true, false}
+use mathlib.Core.List.{List, [], _∷_}
+use mathlib.Core.Option.{some}
 use Prim.Native.Nat.{ℕ, _+_, _-_, _*_, _^_, _≤_, _<_}
 use native.Mathlib.Omega.{arith}
+use lib.Dec.{leb}
 use lib.ListN.{length, getD, take, drop, length-drop}
-use lib.Seq.{sets, getD-drop, drop-drop, drop-at, take-all}
+use lib.Seq.{sets, getD-drop, drop-at, take-all}
 use mir.Syntax.{w64}
 use mir.Val.{Fits}
-use borrow.Author.Tests.{lt-ltb, not-true, not-false}
-use Rattle.laws.specs.Bools.{_and_, and-left, and-right, and-both, and-no}
+use borrow.Author.Tests.{lt-ltb, le-leb, lt-leb}
+use Rattle.laws.specs.Bools.{_and_, and-left, and-right, and-both, no-and, and-no, true-and, and-true}
 use Rattle.laws.specs.Decides.{Decides, false-true}
 use Rattle.laws.specs.Order.{pairs, rising, lookup}
 use Rattle.words.specs.Words.{bytes, W, Bytes}
 use Rattle.words.specs.Sets.{sets-append, part-part}
 use Rattle.words.specs.Numbers.{each-drop}
 use Rattle.words.specs.Lift.{length-bytes, bytes-append, length-W, W-fit, W-part}
-use Rattle.units.specs.Types.{Payload, noop, Entry, samePayload}
+use Rattle.units.specs.Types.{Payload, noop, samePayload}
 use Rattle.units.specs.declared.NodeId.{NodeId}
 use Rattle.units.specs.declared.Term.{Term}
 use Rattle.units.specs.declared.LogIndex.{LogIndex}
 use Rattle.units.specs.declared.SimTime.{SimTime}
 use Rattle.layout.specs.declared.rows.Found.{Found}
 use Rattle.layout.specs.declared.rows.Found.the-variants.{At, Absent}
-use Rattle.layout.specs.Code.{Code, word, pair, okN}
+use Rattle.layout.specs.Code.{Code, word, pair}
 use Rattle.layout.specs.Tables.{Holds, Held, opened, rowsIn}
-use Rattle.layout.specs.Contents.{holds-length, ok-prefix}
-use Rattle.layout.specs.Rows.{row-end}
-use Rattle.layout.specs.TableLaws.{rows-are, row-held, held-length, Rowed, rowed-start, rowed-turn, rowed-fail, rowed-done}
+use Rattle.layout.specs.Contents.{ok-prefix}
+use Rattle.layout.specs.TableLaws.{rows-are, row-held, held-length, rowed-start, rowed-done}
 use Rattle.layout.specs.Order.{find, two, heads}
 use Rattle.layout.specs.RowLaws.{heads-are}
 use Rattle.layout.specs.SortedTables.{Keyed, keyed-insert, found-inside, found-row, found-none}
 use Rattle.layout.specs.Marked.{wordsFor}
+use Rattle.layout.specs.Parts.{lent-fine, lent-fails}
 use Rattle.layout.specs.Payload.{payload}
 use Rattle.layout.specs.MarkedLaws.{payloads-same}
 use Rattle.checks.specs.declared.entries.EntrySeen.the-variants.{Same, Other, Inserted, Full}
 use Rattle.checks.specs.Checks.{Checker, Seen, seenKey, compareSeen, report}
-use Rattle.checks.specs.Entries.{seenParts, toParts, seenRow, seen, withSeen, afterSeen, ComparesSeen}
+use Rattle.checks.specs.Entries.{seenParts, toParts, seenRow, seen, indexWithin, seenIn, withSeen, ComparesSeen}
 
 -- ---- the second of two parts of a row
 
@@ -153,24 +154,28 @@ module _ (p n : ℕ) (b content : List ℕ) (index : LogIndex) (term : Term) (f 
 
 pub ruleset entry-calls = (entry-same, entry-other, entry-full, entry-new)
 
--- ---- the test of each row: its payload's
+-- ---- the test of a row: its index, then its payload
 
-module _ (p n : ℕ) (s : List ℕ) (i : ℕ) (r : Rowed (seenRow p) n (W s) i) (h : i < n) (B : Bytes s) (at : ℕ) (a : at ≡ i * (3 + wordsFor p)) (m : 8 * (n * (3 + wordsFor p)) ≤ length s) (q : Bool)
-    (t : q ≡ payload p .ok (W (take (8 * (at + (3 + wordsFor p)) - 8 * (at + 2)) (drop (8 * (at + 2)) s)))) where
-  payload-at : payload p .ok (drop 2 (drop (i * w p) (W s))) ≡ q
-  payload-at =
-      ap (λ (j : ℕ). payload p .ok (drop 2 (drop j (W s)))) (sym a) ∙ ap (payload p .ok) (drop-drop 2 at (W s))
-      ∙ sym (t ∙ part-ok (payload p) s (at + 2) (at + w p) B (omega arith) (omega (arith, row-end i n (w p) h)))
+module _ (L p : ℕ) (s : List ℕ) (B : Bytes s) (l : length s ≡ 8 * (3 + wordsFor p)) (x : ℕ) (e : x ≡ getD (W s) 0 0) where
+  pub index-zero : x < 1 → false ≡ seenIn L p .row .ok (W s)
+  index-zero h = sym (and-no _ _ (no-and _ _ (ap (leb 1) (sym e) ∙ lt-leb 1 x h)))
 
-  pub entry-fine : not q ≡ false → Rowed (seenRow p) n (W s) (i + 1)
-  entry-fine f = rowed-turn (seenRow p) n (W s) i r h (and-both _ _ (and-both _ _ refl refl) (payload-at ∙ not-false q f))
+  pub index-above : L < x → false ≡ seenIn L p .row .ok (W s)
+  index-above h = sym (and-no _ _ (and-no _ _ (ap (λ (y : ℕ). leb y L) (sym e) ∙ lt-leb x L h)))
 
-  pub entry-fails : not q ≡ true → false ≡ okN (seenRow p) n (W s)
-  entry-fails f = rowed-fail (seenRow p) n (W s) i r h (and-no _ _ (payload-at ∙ not-true q f))
+  pub index-fine : (q : Bool) → 1 ≤ x → x ≤ L → q ≡ payload p .ok (W (take (8 * (3 + wordsFor p) - 16) (drop 16 s))) → q ≡ seenIn L p .row .ok (W s)
+  index-fine q g h t =
+      let y : Bool = payload p .ok (drop 2 (W s)) in
+      let z : indexWithin L (seenRow p .parse (W s)) ≡ true =
+      and-both _ _ (ap (leb 1) (sym e) ∙ le-leb 1 x g) (ap (λ (j : ℕ). leb j L) (sym e) ∙ le-leb x L h) in
+      t ∙ part-ok (payload p) s 2 (3 + wordsFor p) B (omega arith) (omega arith)
+      ∙ sym (ap (λ (v : Bool). ((true and true) and y) and v) z ∙ and-true _ ∙ ap (λ (v : Bool). v and y) (true-and true) ∙ true-and y)
 
-pub ruleset entry-rows = (rowed-start, entry-fine, entry-fails, rowed-done)
+pub ruleset index-tests = (index-zero, index-above, index-fine)
+
+pub ruleset entry-rows = (rowed-start, lent-fine, lent-fails, rowed-done)
 
 -- ---- check: the order of the words is that of the rows
 
-pub entries-rising : (p n : ℕ) (b : List ℕ) (r : Bool) → r ≡ rising pairs (heads two (3 + wordsFor p) n (W b)) → r ≡ seen p .rule (rowsIn (seen p .row) n b)
-entries-rising p n b r e = e ∙ ap (rising pairs) (heads-are (seenRow p) two seenKey (seen-read p) n b)
+pub entries-rising : (L p n : ℕ) (b : List ℕ) (r : Bool) → r ≡ rising pairs (heads two (3 + wordsFor p) n (W b)) → r ≡ seenIn L p .rule (rowsIn (seenIn L p .row) n b)
+entries-rising L p n b r e = e ∙ ap (rising pairs) (heads-are (seenIn L p .row) two seenKey (seen-read p) n b)

@@ -8,7 +8,7 @@ ghost use Rattle.words.specs.Words.{W};
 ghost use Rattle.layout.specs.Code.{okN};
 ghost use Rattle.layout.specs.Tables.{Tabled};
 ghost use Rattle.layout.specs.Marked.{wordsFor};
-ghost use Rattle.checks.specs.Entries.{seenRow, seen, ComparesSeen};
+ghost use Rattle.checks.specs.Entries.{seenIn, ComparesSeen};
 use layout::marked;
 use layout::rows;
 use layout::rows::Found;
@@ -62,18 +62,34 @@ pub fn compare(
     }
 }
 
-// Whether each row has a payload of up to p bytes.
-fn payloads(s: &[u8], n: usize, p: usize) -> bool
+// Whether a row is an entry at an index 1 to l with a payload of up to p bytes.
+fn check_entry(s: &[u8], l: u64, p: usize) -> bool
+    requires { ⌜ (p ≤ 256) × (length (now s) ≡ 8 * (3 + wordsFor p)) ⌝ }
+    ensures { λ r. ⌜ r ≡ seenIn l p .row .ok (W (now (s .entry))) ⌝ }
+{
+    let index = words::load(s, 0);
+    if index < 1 {
+        return false;
+    }
+    if l < index {
+        return false;
+    }
+    let e = 8 * (3 + (p + 7) / 8);
+    marked::check_payload(&s[16..e], p)
+}
+
+// Whether each row is an entry.
+fn check_entries(s: &[u8], n: usize, l: u64, p: usize) -> bool
     requires { ⌜ (p ≤ 256) × (8 * (n * (3 + wordsFor p)) ≤ length (now s)) ⌝ }
-    ensures { λ r. ⌜ r ≡ okN (seenRow p) n (W (now (s .entry))) ⌝ }
+    ensures { λ r. ⌜ r ≡ okN (seenIn l p .row) n (W (now (s .entry))) ⌝ }
 {
     let w = 3 + (p + 7) / 8;
     let mut i = 0;
     while i < n {
         let at = rows::start_of(i, n, w);
-        let a = 8 * (at + 2);
+        let a = 8 * at;
         let e = 8 * (at + w);
-        if !marked::check_payload(&s[a..e], p) {
+        if !check_entry(&s[a..e], l, p) {
             return false;
         }
         i += 1;
@@ -81,16 +97,16 @@ fn payloads(s: &[u8], n: usize, p: usize) -> bool
     true
 }
 
-// Whether the bytes are a table of n entries with payloads of up to p bytes.
-pub fn check(s: &[u8], n: usize, p: usize) -> bool
+// Whether the bytes are a table of n entries seen in logs of l places, with payloads of up to p bytes.
+pub fn check(s: &[u8], n: usize, l: u64, p: usize) -> bool
     requires { ⌜ p ≤ 256 ⌝ }
-    ensures { λ r. ⌜ Decides r (Tabled (seen p) n (now (s .entry))) ⌝ }
+    ensures { λ r. ⌜ Decides r (Tabled (seenIn l p) n (now (s .entry))) ⌝ }
 {
     let w = 3 + (p + 7) / 8;
     if !rows::padding(s, n, w) {
         return false;
     }
-    if !payloads(s, n, p) {
+    if !check_entries(s, n, l, p) {
         return false;
     }
     rows::rising2(s, n, w)

@@ -10,14 +10,14 @@ use native.Mathlib.Omega.{arith}
 use lib.ListN.{length, getD, set, take, drop, replicate, length-append, length-drop, length-set, length-replicate, replicate-append-replicate}
 use lib.Seq.{sets, length-sets, take-all, drop-drop, getD-drop, getD-take}
 use borrow.Author.Tests.{eqb-true, eq-eqb, leb-true, not-true, not-false}
-use Rattle.laws.specs.Bools.{_and_, and-left, and-right, and-both, true-and, no-and, every, every-append, every-get, every-set}
+use Rattle.laws.specs.Bools.{_and_, and-left, and-right, and-both, true-and, no-and, every, every-append, every-get, every-set, every-first, every-second, every-both}
 use Rattle.laws.specs.Decides.{Decides, fails, false-true}
 use Rattle.words.specs.Words.{bytes, W, allz, Bytes}
 use Rattle.words.specs.Sets.{sets-at}
 use Rattle.words.specs.Zero.{zeros-allz}
 use Rattle.words.specs.Lift.{bytes-zeros, length-W, part-whole, sets-whole}
-use Rattle.layout.specs.Code.{Code, zeros, flat, lay, okN, parseN, length-flat, length-lay, length-parseN, Fitting, fitting, fitted}
-use Rattle.layout.specs.Tables.{Holds, Table, Held, Tabled, content, Becomes, Gives, rowsIn, insertAt, removeAt, fillFrom, append, opened, removed, padded}
+use Rattle.layout.specs.Code.{Code, such, zeros, flat, lay, okN, parseN, length-flat, length-lay, length-parseN, Fitting, fitting, fitted}
+use Rattle.layout.specs.Tables.{Holds, Table, suchTable, Held, Tabled, content, Becomes, Gives, rowsIn, insertAt, removeAt, fillFrom, append, opened, removed, padded}
 use Rattle.layout.specs.Contents.{holds-length, holds-W, holds-ok, holds-parse, parse-holds}
 use Rattle.layout.specs.Rows.{row-start, row-end, every-replicate, flat-zeros, every-insertAt, every-removeAt, every-fillFrom, length-insertAt, length-removeAt, length-fillFrom, row-at, fill-rows, put-row, insert-row, remove-row, append-row, zeros-row, opened-bytes, removed-bytes}
 
@@ -350,3 +350,24 @@ module _ {T : Type 0} (c : Code T) (n : ℕ) (ws : List ℕ) where
 
   pub rowed-done : (i : ℕ) → Rowed c n ws i → n ≤ i → true ≡ okN c n ws
   rowed-done i r h = sym (r .is ∙ ap (λ (m : ℕ). okN c m (drop (i * c .size) ws)) (let e : n - i ≡ 0 = omega arith in e))
+
+-- ---- a table whose rows are asked one more test: it is held where the plain one is and every row passes
+
+module _ {T : Type 0} (t : Table T) (q : T → Bool) {N n : ℕ} {b : List ℕ} {x : List T} where
+  pub such-plain : Held (suchTable t q) N n b x → Held t N n b x
+  such-plain h =
+      let f = held-rows h in
+      record { holds = record { good = and-both _ _ (fitted (t .row) N n x (record { room = f .room; count = f .count; each = every-first (t .row .good) q x (f .each) })) (held-rule h); is = h .holds .is } }
+
+  pub such-tested : Held (suchTable t q) N n b x → every q x ≡ true
+  such-tested h = every-second (t .row .good) q x (held-rows h .each)
+
+  pub plain-such : Held t N n b x → every q x ≡ true → Held (suchTable t q) N n b x
+  plain-such h e =
+      let f = held-rows h in
+      record {
+        holds = record {
+          good = and-both _ _ (fitted (such (t .row) q) N n x (record { room = f .room; count = f .count; each = every-both (t .row .good) q x (f .each) e })) (held-rule h);
+          is = h .holds .is;
+        };
+      }

@@ -31,6 +31,10 @@ pub record Table (T : Type 0) : Type 1 where
   pub row : Code T
   pub rule : List T → Bool
 
+-- The table whose rows are asked one more test.
+abbrev pub suchTable : {T : Type 0} → Table T → (T → Bool) → Table T
+suchTable t q = record { row = such (t .row) q; rule = t .rule }
+
 -- The code of a table of n rows in N words.
 abbrev pub content : {T : Type 0} → Table T → ℕ → ℕ → Code (List T)
 content t N n = such (rows (t .row) N n) (t .rule)

@@ -14,7 +14,7 @@ use Rattle.units.specs.declared.LogIndex.{LogIndex}
 use Rattle.units.specs.declared.NodeOption.{NodeOption}
 use Rattle.units.specs.declared.NodeOption.the-variants.{None, Some}
 use Rattle.layout.specs.Code.{Code, word, pair, such, iso, sized}
-use Rattle.layout.specs.Tables.{Table, Becomes, Gives, append}
+use Rattle.layout.specs.Tables.{Table, suchTable, Becomes, Gives, append}
 use Rattle.layout.specs.Marked.{wordsFor, Marking, marked}
 use Rattle.storage.specs.declared.HardState.{HardState}
 use Rattle.storage.specs.declared.waiting.Shape.{Shape}
@@ -209,7 +209,7 @@ withinMark L (suc (suc (suc m))) a = leb 1 a and leb a L
 
 -- The waiting writes to a log of L places.
 abbrev pub waitingIn : ℕ → ℕ → Table Write
-waitingIn L p = record { row = such (writeCode p) (putWithin L); rule = λ x. true }
+waitingIn L p = suchTable (waiting p) (putWithin L)
 
 -- ---- answers
 

@@ -10,7 +10,7 @@ use lib.Seq.{sets, getD-at, getD-append-add, getD-drop, take-take}
 use mir.Syntax.{w64}
 use mir.Val.{Fits}
 use borrow.Author.Tests.{lt-ltb, le-leb, lt-leb, not-true, not-false}
-use Rattle.laws.specs.Bools.{pick, _and_, and-left, and-both, no-and, true-and, code-and, every, every-first, every-second, every-both}
+use Rattle.laws.specs.Bools.{pick, _and_, and-left, and-both, no-and, true-and, code-and}
 use Rattle.units.specs.Types.{Payload, noop, command}
 use Rattle.units.specs.declared.Term.{Term}
 use Rattle.units.specs.declared.LogIndex.{LogIndex}
@@ -20,9 +20,8 @@ use Rattle.units.specs.declared.NodeOption.the-variants.{None, Some}
 use Rattle.words.specs.Words.{bytes, W, Bytes, allz}
 use Rattle.words.specs.Sets.{sets-append}
 use Rattle.words.specs.Lift.{bytes-append, length-bytes, W-part}
-use Rattle.layout.specs.Code.{fitted}
 use Rattle.layout.specs.Tables.{Holds, Held, Becomes, append}
-use Rattle.layout.specs.TableLaws.{row-word, row-held, held-rows, appends, rowed-start, rowed-done}
+use Rattle.layout.specs.TableLaws.{row-word, row-held, appends, rowed-start, rowed-done}
 use Rattle.layout.specs.Marked.{wordsFor, Sound, sound, sounds, marked, bodyIn}
 use Rattle.layout.specs.MarkedCalls.{laid, restOk}
 use Rattle.layout.specs.MarkedLaws.{puts}
@@ -274,24 +273,3 @@ module _ (n p : ℕ) (s : List ℕ) (B : Bytes s) (l : length s ≡ 8 * (3 + wor
 pub ruleset write-tests = (write-fails, write-within)
 
 pub ruleset write-rows = (rowed-start, lent-fine, lent-fails, rowed-done)
-
--- ---- the writes to a log of L places are waiting writes whose puts are within it
-
-module _ (L p : ℕ) {N m : ℕ} {b : List ℕ} {ws : List Write} where
-  pub within-waiting : Held (waitingIn L p) N m b ws → Held (waiting p) N m b ws
-  within-waiting h =
-      let f = held-rows h in
-      record { holds = record { good = and-both _ _ (fitted (writeCode p) N m ws (record { room = f .room; count = f .count; each = every-first (writeCode p .good) (putWithin L) ws (f .each) })) refl; is = h .holds .is } }
-
-  pub puts-within : Held (waitingIn L p) N m b ws → every (putWithin L) ws ≡ true
-  puts-within h = every-second (writeCode p .good) (putWithin L) ws (held-rows h .each)
-
-  pub waiting-within : Held (waiting p) N m b ws → every (putWithin L) ws ≡ true → Held (waitingIn L p) N m b ws
-  waiting-within h q =
-      let f = held-rows h in
-      record {
-        holds = record {
-          good = and-both _ _ (fitted (waitingIn L p .row) N m ws (record { room = f .room; count = f .count; each = every-both (writeCode p .good) (putWithin L) ws (f .each) q })) refl;
-          is = h .holds .is;
-        };
-      }

@@ -1,21 +1,21 @@
--- Made by tools/uniform from proofs.txt, not by hand: ee5b2ce0d32880b9
+-- Made by tools/uniform from proofs.txt, not by hand: 5625d44fc90babc6
 use Prim.Native.Nat.{_-_}
 use Rattle.words.specs.Words.{W}
 use Rattle.layout.specs.TableLaws.{Rowed}
-use Rattle.checks.specs.Entries.{seenRow}
+use Rattle.checks.specs.Entries.{seenIn}
 use Rattle.checks.specs.EntryLaws.{entry-rows}
 use borrow.Author.Needs.{needs}
-use Rattle.checks.proofs.entries.payloads.Statement.{statement}
-use Rattle.checks.proofs.entries.payloads.Tie as tie
+use Rattle.checks.proofs.entries.check_entries.Statement.{statement}
+use Rattle.checks.proofs.entries.check_entries.Tie as tie
 
 abbrev Inv-loop : tie.InvT-loop
-Inv-loop s n p w i₀ i = Rowed (seenRow p) n (W s) i
+Inv-loop s n l p w i₀ i = Rowed (seenIn l p .row) n (W s) i
 
 abbrev μ-loop : tie.MeasureT-loop
-μ-loop s n p w i₀ i = n - i
+μ-loop s n l p w i₀ i = n - i
 
-pub payloads-spec : {M : Type 1} → statement M
-payloads-spec =
+pub check-entries-spec : {M : Type 1} → statement M
+check-entries-spec =
     tie.close
     (tie.spec
     Inv-loop
@@ -24,14 +24,13 @@ payloads-spec =
     (λ c. search (entry-rows, needs))  -- add-w-2
     (λ c. search (entry-rows, needs))  -- loop-holds
     (λ c κs. search (entry-rows, needs))  -- start-of-requires
-    (λ c. search (entry-rows, needs))  -- add-a
     (λ c. search (entry-rows, needs))  -- mul-a
     (λ c. search (entry-rows, needs))  -- add-e
     (λ c. search (entry-rows, needs))  -- mul-e
-    (λ c. search (entry-rows, needs))  -- sub-check-payload
-    (λ c. search (entry-rows, needs))  -- part-check-payload-start
-    (λ c. search (entry-rows, needs))  -- part-check-payload-end
-    (λ c κs. search (entry-rows, needs))  -- check-payload-requires
+    (λ c. search (entry-rows, needs))  -- sub-check-entry
+    (λ c. search (entry-rows, needs))  -- part-check-entry-start
+    (λ c. search (entry-rows, needs))  -- part-check-entry-end
+    (λ c κs. search (entry-rows, needs))  -- check-entry-requires
     (λ c. search (entry-rows, needs))  -- returns
     (λ c. search (entry-rows, needs))  -- add-i
     (λ c. search (entry-rows, needs))  -- loop-less
