@@ -101,7 +101,7 @@ pub record Planning (ids : List ℕ) (config : ChaosConfig) (room : ℕ) (g : Rn
   pub is-gaps : gaps .0 ≡ config .«mean_gap» .0 * 2
   pub small : gaps .0 ≤ 2 ^ 41
   pub early : time .0 ≤ 2 ^ 62
-  pub room-small : room < 2 ^ 32
+  pub room-small : room < 2 ^ 57
   pub within : count ≤ room
   pub few : draws ≤ 68 * count
   pub turns : ℕ
@@ -110,7 +110,7 @@ pub record Planning (ids : List ℕ) (config : ChaosConfig) (room : ℕ) (g : Rn
   pub long : length schedule ≡ count
   pub rest : generate (idsOf ids) config room (room + 1) (config .start) [] 0 g ≡ generate (idsOf ids) config room turns time schedule draws next
 
-unfoldable pub planning-start : (ids : List ℕ) (config : ChaosConfig) (room : ℕ) (g : Rng) → 0 < length ids → length ids ≤ 8 → knownIds (idsOf ids) ≡ true → Times config → room < 2 ^ 32
+unfoldable pub planning-start : (ids : List ℕ) (config : ChaosConfig) (room : ℕ) (g : Rng) → 0 < length ids → length ids ≤ 8 → knownIds (idsOf ids) ≡ true → Times config → room < 2 ^ 57
     → Planning ids config room g (config .end .0) (record { 0 = config .«mean_gap» .0 * 2 }) (config .start) 0 0 g
 planning-start ids config room g h m k t r =
     record {

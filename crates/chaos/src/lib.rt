@@ -541,7 +541,7 @@ pub fn plan(servers: &[u64], config: ChaosConfig, room: u64, g: Rng) -> Planned
     requires { ⌜ (0 < length (now servers)) × (length (now servers) ≤ 8) ⌝ }
     requires { ⌜ knownIds (idsOf (now servers)) ≡ true ⌝ }
     requires { ⌜ Times config ⌝ }
-    requires { ⌜ room < 2 ^ 32 ⌝ }
+    requires { ⌜ room < 2 ^ 57 ⌝ }
     ensures { λ r. ⌜ outcomeOf r ≡ summary (generate (idsOf (now (servers .entry))) config room (room + 1) (config .start) [] 0 g) ⌝ }
 {
     let end = config.end.0;
@@ -610,7 +610,7 @@ pub fn times_in_range(config: ChaosConfig) -> bool
 
 // The plan of a random fault schedule for a list of servers, into a list with room for so many entries.
 pub fn chaos_plan(servers: &[u64], config: ChaosConfig, room: u64, g: Rng) -> Planned
-    requires { ⌜ room < 2 ^ 32 ⌝ }
+    requires { ⌜ room < 2 ^ 57 ⌝ }
     ensures { λ r. ⌜ outcomeOf r ≡ summary (chaosSchedule (idsOf (now (servers .entry))) config room g) ⌝ }
 {
     let n = servers.len();

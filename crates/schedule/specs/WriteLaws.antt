@@ -112,7 +112,7 @@ pub record Writing (ids : List ℕ) (config : ChaosConfig) (b₀ : List ℕ) (g 
 pub gaps-fit : (ids : List ℕ) (config : ChaosConfig) (room : ℕ) (g : Rng) → Accepted (chaosSchedule (idsOf ids) config room g) → Fits w64 (config .«mean_gap» .0 * 2)
 gaps-fit ids config room g a = record { fits = omega (arith, asked ids config room g a .times .gap) }
 
-pub writing-start : (ids : List ℕ) (config : ChaosConfig) (g : Rng) (b : List ℕ) → length b % 32 ≡ 0 → length b / 32 < 2 ^ 32
+pub writing-start : (ids : List ℕ) (config : ChaosConfig) (g : Rng) (b : List ℕ) → length b % 32 ≡ 0 → length b / 32 < 2 ^ 57
     → Accepted (chaosSchedule (idsOf ids) config (length b / 32) g) → Held schedule (length b / 8) 0 b []
     → Writing ids config b g (config .end .0) (record { 0 = config .«mean_gap» .0 * 2 }) (config .start) 0 g b
 unfolding planning-start rowsOf sortBy pushAll

@@ -79,7 +79,7 @@ fn push_entries(list: &mut [u8], n: usize, entries: Entries) -> usize
 
 // Draws a schedule again that was not refused, and writes it into an empty list.
 fn write(servers: &[u64], config: ChaosConfig, list: &mut [u8], g: Rng)
-    requires { ⌜ (length (now list) % 32 ≡ 0) × (length (now list) / 32 < 2 ^ 32) ⌝ }
+    requires { ⌜ (length (now list) % 32 ≡ 0) × (length (now list) / 32 < 2 ^ 57) ⌝ }
     requires { ⌜ Accepted (chaosSchedule (idsOf (now servers)) config (length (now list) / 32) g) ⌝ }
     requires { ⌜ Held schedule (length (now list) / 8) 0 (now list) [] ⌝ }
     ensures { λ _. ⌜ ListAfter (chaosSchedule (idsOf (now (servers .entry))) config (length (now (list .entry)) / 32) g) (now (list .entry)) (now (list .exit)) ⌝ }
@@ -126,7 +126,7 @@ pub fn chaos_schedule(
     list: &mut [u8],
     state: &mut [u64],
 ) -> Scheduled
-    requires { ⌜ (length (now list) % 32 ≡ 0) × (length (now list) / 32 < 2 ^ 32) × (length (now state) ≡ 1) ⌝ }
+    requires { ⌜ (length (now list) % 32 ≡ 0) × (length (now list) / 32 < 2 ^ 57) × (length (now state) ≡ 1) ⌝ }
     ensures { λ r. ⌜ Schedules (chaosSchedule (idsOf (now (servers .entry))) config (length (now (list .entry)) / 32) (record { state = getD (now (state .entry)) 0 0 })) r (now (list .entry)) (now (list .exit)) (now (state .entry)) (now (state .exit)) ⌝ }
 {
     let room = (list.len() / 32) as u64;
