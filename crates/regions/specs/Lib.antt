@@ -1,0 +1,5 @@
+pub mod Links
+pub mod LinkLaws
+pub mod Regions
+pub mod Conditions
+pub mod ConditionLaws
