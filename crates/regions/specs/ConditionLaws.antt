@@ -1,15 +1,15 @@
 -- What the proofs of conditions.rt cite. Assumes nothing.
-use mathlib.Core.Path.{_≡_, refl, ap, _∙_}
-use mathlib.Core.Bool.{Bool, true, false, _&&_}
+use mathlib.Core.Path.{_≡_, refl, sym, ap, _∙_}
+use mathlib.Core.Bool.{Bool, true, false, not, _&&_}
 use mathlib.Core.List.{List, [], _∷_}
 use Prim.Native.Nat.{ℕ, _*_, _%_, _^_, _<_}
 use native.Mathlib.Omega.{arith}
-use lib.Dec.{ltb, leb}
+use lib.Dec.{ltb, leb, eqb}
 use lib.ListN.{length, getD}
 use lib.Seq.{sets, getD-drop, drop-drop}
 use mir.Syntax.{w64}
 use mir.Val.{Fits}
-use borrow.Author.Tests.{lt-ltb, eq-eqb}
+use borrow.Author.Tests.{lt-ltb, eq-eqb, eqb-true, eqb-false, not-true, not-false}
 use Rattle.laws.specs.Bools.{and-left, and-right, and-both, true-and, and-true, and-assoc, code-and}
 use Rattle.laws.specs.Decides.{Decides, fails}
 use Rattle.units.specs.declared.Duration.{Duration}
@@ -62,13 +62,13 @@ module _ (n : Network) where
 
 -- ---- check
 
-module _ (d : ℕ) (b : List ℕ) where
-  pub not-forty : (length b ≡ 40 → ⊥) → Decides false (Content (networkCode d) b)
-  not-forty h = fails (λ k. h (holds-length (k .held)))
+module _ (d : ℕ) (b : List ℕ) (t : Bool) (e : t ≡ eqb (length b) (8 * 5)) where
+  pub not-five : not t ≡ true → Decides false (Content (networkCode d) b)
+  not-five f = fails (λ k. eqb-false _ 40 (sym e ∙ not-true t f) (holds-length (k .held)))
 
-  pub ranges-decide : (loss duplication factor : ℕ) → Bytes b → length b ≡ 40 → loss ≡ getD (W b) 0 0 → duplication ≡ getD (W b) 1 0 → factor ≡ getD (W b) 2 0
+  pub ranges-decide : (loss duplication factor : ℕ) → not t ≡ false → Bytes b → loss ≡ getD (W b) 0 0 → duplication ≡ getD (W b) 1 0 → factor ≡ getD (W b) 2 0
       → Decides (((leb d 1099511627776 && ltb loss 4294967296) && ltb duplication 4294967296) && leb factor 65536) (Content (networkCode d) b)
   unfolding networkInRange
-  ranges-decide loss duplication factor B l e₀ e₁ e₂ =
-      decides-ok (networkCode d) b B l _
+  ranges-decide loss duplication factor f B e₀ e₁ e₂ =
+      decides-ok (networkCode d) b B (eqb-true _ 40 (sym e ∙ not-false t f)) _
       (rw (e₀, e₁, e₂) (simp (code-and, and-assoc, true-and, and-true, getD-drop, drop-drop, length-bits)))

@@ -3,3 +3,5 @@ pub mod LinkLaws
 pub mod Regions
 pub mod Conditions
 pub mod ConditionLaws
+pub mod Counters
+pub mod CounterLaws

@@ -97,7 +97,7 @@ pub fn store(s: &mut [u8], n: Network)
 pub fn check(s: &[u8], base_delay: Duration) -> bool
     ensures { λ r. ⌜ Decides r (Content (networkCode («base_delay» .0)) (now (s .entry))) ⌝ }
 {
-    if s.len() != 40 {
+    if !crate::has_words(s, 5) {
         return false;
     }
     let loss = words::load(s, 0);
