@@ -3,6 +3,9 @@ ghost use Prim.Native.Nat.{_+_, _^_, _≤_, _<_};
 ghost use Rattle.io.specs.Counts.{Counts};
 ghost use Rattle.network.specs.Network.{Limits};
 ghost use Rattle.record.specs.Postcard.{commandLength};
+
+mod disk; // the operations on a disk
+
 use client::Decoded;
 use config::Config;
 use config::Validity;
@@ -343,19 +346,35 @@ fn counted(differ: u64, agrees: bool) -> u64
     if agrees { differ } else { differ + 1 }
 }
 
+// A tally of no rows.
+fn none() -> Tally
+    ensures { λ r. ⌜ (r .rows ≤ 0) × (r .differ ≤ 0) ⌝ }
+{
+    Tally { rows: 0, differ: 0 }
+}
+
+// A tally of one more row.
+fn tallied(t: Tally, agrees: bool) -> Tally
+    requires { ⌜ (t .rows < 2 ^ 63) × (t .differ < 2 ^ 63) ⌝ }
+    ensures { λ r. ⌜ (r .rows ≤ t .rows + 1) × (r .differ ≤ t .differ + 1) ⌝ }
+{
+    Tally {
+        rows: t.rows + 1,
+        differ: counted(t.differ, agrees),
+    }
+}
+
 // Compares the rows of a file.
 fn compared(file: File, s: &[u8]) -> Tally {
     let w = 8 * width(file);
-    let mut rows: u64 = 0;
-    let mut differ: u64 = 0;
+    let mut tally = none();
     let mut at: usize = 0;
     while w <= s.len() - at {
         let end = at + w;
-        differ = counted(differ, agrees(file, &s[at..end]));
-        rows += 1;
+        tally = tallied(tally, agrees(file, &s[at..end]));
         at = end;
     }
-    Tally { rows, differ }
+    tally
 }
 
 // A network after an operation on its links: 0 partitions, 1 blocks, 2 unblocks, 3 heals; ids that are no server's change nothing.
@@ -425,18 +444,16 @@ fn link_row(n: Network, row: &[u8]) -> Operated {
 // Compares the rows of links.bin, each with the links that those before it left.
 fn compared_links(s: &[u8]) -> Tally {
     let mut n = Network::new(Duration(0), Rng { state: 0 });
-    let mut rows: u64 = 0;
-    let mut differ: u64 = 0;
+    let mut tally = none();
     let mut at: usize = 0;
     while 40 <= s.len() - at {
         let end = at + 40;
         let row = link_row(n, &s[at..end]);
         n = row.network;
-        differ = counted(differ, row.agrees);
-        rows += 1;
+        tally = tallied(tally, row.agrees);
         at = end;
     }
-    Tally { rows, differ }
+    tally
 }
 
 // A queue's count after a row, and whether the row agrees.
@@ -525,18 +542,16 @@ fn queue_row(area: &mut [u8], n: usize, row: &[u8]) -> Queued {
 // Compares the rows of queue.bin, each with the queue that those before it left.
 fn compared_queue(s: &[u8], area: &mut [u8]) -> Tally {
     let mut n: usize = 0;
-    let mut rows: u64 = 0;
-    let mut differ: u64 = 0;
+    let mut tally = none();
     let mut at: usize = 0;
     while 32 <= s.len() - at {
         let end = at + 32;
         let row = queue_row(area, n, &s[at..end]);
         n = row.count;
-        differ = counted(differ, row.agrees);
-        rows += 1;
+        tally = tallied(tally, row.agrees);
         at = end;
     }
-    Tally { rows, differ }
+    tally
 }
 
 fn report(name: &[u8], t: Tally) {
@@ -578,6 +593,15 @@ fn replay_queue(buffer: &mut [u8], area: &mut [u8]) {
     report(b"queue", compared_queue(&buffer[..n], area));
 }
 
+fn replay_disk(buffer: &mut [u8]) {
+    let n = read(b"disk.bin", buffer);
+    let mut current = [0u8; 384];
+    let mut durable = [0u8; 384];
+    let mut waiting = [0u8; 512];
+    let tally = disk::compared(&buffer[..n], &mut current, &mut durable, &mut waiting);
+    report(b"disk", tally);
+}
+
 fn main() {
     let mut buffer = io::large_buffer();
     replay(b"draws", b"draws.bin", File::Draws, &mut buffer);
@@ -601,4 +625,5 @@ fn main() {
     replay_links(&mut buffer);
     let mut area = [0u8; 7168];
     replay_queue(&mut buffer, &mut area);
+    replay_disk(&mut buffer);
 }
