@@ -4,7 +4,8 @@ ghost use Rattle.io.specs.Counts.{Counts};
 ghost use Rattle.network.specs.Network.{Limits};
 ghost use Rattle.record.specs.Postcard.{commandLength};
 
-mod disk; // the operations on a disk
+mod disk; // operations on a disk
+mod matching; // log matching of two logs
 
 use client::Decoded;
 use config::Config;
@@ -36,6 +37,7 @@ enum File {
     Config,
     Records,
     Routes,
+    LogMatching,
 }
 
 // The words of a row.
@@ -51,6 +53,7 @@ fn width(file: File) -> usize
         File::Config => 6,
         File::Records => 6,
         File::Routes => 12,
+        File::LogMatching => 20,
     }
 }
 
@@ -329,6 +332,7 @@ fn agrees(file: File, row: &[u8]) -> bool {
         File::Config => config_agrees(row),
         File::Records => record_agrees(row),
         File::Routes => route_agrees(row),
+        File::LogMatching => matching::agrees(row),
     }
 }
 
@@ -626,4 +630,10 @@ fn main() {
     let mut area = [0u8; 7168];
     replay_queue(&mut buffer, &mut area);
     replay_disk(&mut buffer);
+    replay(
+        b"log matching",
+        b"log_matching.bin",
+        File::LogMatching,
+        &mut buffer,
+    );
 }
