@@ -59,7 +59,7 @@ times-of config h =
     }
 
 -- The entries of a fault as a list.
-listOf : Entries → List Timed
+unfoldable pub listOf : Entries → List Timed
 listOf Entries.NoSecondServer = []
 listOf (Entries.One a) = a ∷ []
 listOf (Entries.Two a b) = a ∷ b ∷ []
@@ -110,7 +110,7 @@ pub record Planning (ids : List ℕ) (config : ChaosConfig) (room : ℕ) (g : Rn
   pub long : length schedule ≡ count
   pub rest : generate (idsOf ids) config room (room + 1) (config .start) [] 0 g ≡ generate (idsOf ids) config room turns time schedule draws next
 
-pub planning-start : (ids : List ℕ) (config : ChaosConfig) (room : ℕ) (g : Rng) → 0 < length ids → length ids ≤ 8 → knownIds (idsOf ids) ≡ true → Times config → room < 2 ^ 32
+unfoldable pub planning-start : (ids : List ℕ) (config : ChaosConfig) (room : ℕ) (g : Rng) → 0 < length ids → length ids ≤ 8 → knownIds (idsOf ids) ≡ true → Times config → room < 2 ^ 32
     → Planning ids config room g (config .end .0) (record { 0 = config .«mean_gap» .0 * 2 }) (config .start) 0 0 g
 planning-start ids config room g h m k t r =
     record {
@@ -170,7 +170,7 @@ module _ (ids : List ℕ) (config : ChaosConfig) (room : ℕ) (g : Rng) (end : �
   left : generate (idsOf ids) config room (room + 1) (config .start) [] 0 g ≡ generate (idsOf ids) config room (suc (p .turns - 1)) time (p .schedule) draws next
   left = let n : p .turns ≡ suc (p .turns - 1) = omega (arith, p .enough, p .within) in p .rest ∙ ap (λ (t : ℕ). generate (idsOf ids) config room t time (p .schedule) draws next) n
 
-  at-end : end ≤ time .0 + d .duration .0
+  pub at-end : end ≤ time .0 + d .duration .0
       → generate (idsOf ids) config room (room + 1) (config .start) [] 0 g ≡ ended (idsOf ids) config room (p .schedule) (draws + 1) (d .next)
   at-end h = left ∙ turn-ended (idsOf ids) config room (p .turns - 1) time (p .schedule) draws next d gap (omega (arith, p .is-end))
 
@@ -234,6 +234,10 @@ module _ (ids : List ℕ) (config : ChaosConfig) (room : ℕ) (g : Rng) (end : �
           long = length-append (p .schedule) (listOf (f .entries)) ∙ omega (arith, p .long, length-list (f .entries), c);
           rest = at-some z ∙ simp fits;
         }
+
+    pub planning-schedule : (z : n ≡ 0 → ⊥) (r : n ≤ room - count) (b : f .draws ≤ 67) → planning-next z r b .schedule ≡ p .schedule ++ listOf (f .entries)
+    unfolding planning-next
+    planning-schedule z r b = refl
 
 -- The ids that are not tested yet decide whether all are known.
 pub record Testing (ids : List ℕ) (i : ℕ) : Type 0 where

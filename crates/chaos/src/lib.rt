@@ -114,7 +114,7 @@ fn saturating_sub(a: u64, b: u64) -> u64
 }
 
 // A duration from `low` to `high`, or `low` where `high` is below it.
-fn uniform(g: Rng, low: Duration, high: Duration) -> DrawnDuration
+pub fn uniform(g: Rng, low: Duration, high: Duration) -> DrawnDuration
     requires { ⌜ (low .0 ≤ 2 ^ 41) × (high .0 ≤ 2 ^ 41) ⌝ }
     ensures { λ r. ⌜ durationDrawn r ≡ uniform (low .0) (high .0) g ⌝ }
     ensures { λ r. ⌜ r .duration .0 ≤ 2 ^ 42 ⌝ }
