@@ -158,7 +158,7 @@ fn id(node: NodeOption) -> u64 {
 }
 
 // Whether a row tells the hard state: term, 1 where voted, vote.
-fn tells_state(state: HardState, row: &[u8]) -> bool
+fn state_told(state: HardState, row: &[u8]) -> bool
     requires { ⌜ length (now row) ≡ 112 ⌝ }
 {
     let vote = state.voted_for;
@@ -168,7 +168,7 @@ fn tells_state(state: HardState, row: &[u8]) -> bool
 }
 
 // Whether a row tells the log: entries, last index, gaps.
-fn tells_log(log: &[u8], row: &[u8]) -> bool
+fn log_told(log: &[u8], row: &[u8]) -> bool
     requires { ⌜ (length (now log) ≡ 384) × (length (now row) ≡ 112) ⌝ }
 {
     (log::count(log, 16, 8) == words::load(row, 10))
@@ -177,7 +177,7 @@ fn tells_log(log: &[u8], row: &[u8]) -> bool
 }
 
 // Whether a row tells what an operation left and answered.
-fn tells(after: Operated, log: &[u8], row: &[u8]) -> bool
+fn told(after: Operated, log: &[u8], row: &[u8]) -> bool
     requires { ⌜ (length (now log) ≡ 384) × (length (now row) ≡ 112) ⌝ }
 {
     let v = after.state;
@@ -185,8 +185,8 @@ fn tells(after: Operated, log: &[u8], row: &[u8]) -> bool
     after.made
         & (after.wrote as u64 == words::load(row, 5))
         & (after.bytes == words::load(row, 6))
-        & tells_state(state, row)
-        & tells_log(log, row)
+        & state_told(state, row)
+        & log_told(log, row)
         & (v.discarded == words::load(row, 13))
 }
 
@@ -210,7 +210,7 @@ fn disk_row(
     let state = after.state;
     Replayed {
         state,
-        agrees: tells(after, current, row),
+        agrees: told(after, current, row),
     }
 }
 

@@ -6,6 +6,7 @@ ghost use Rattle.record.specs.Postcard.{commandLength};
 
 mod disk; // operations on a disk
 mod matching; // log matching of two logs
+mod schedules; // random fault schedules
 
 use client::Decoded;
 use config::Config;
@@ -606,6 +607,12 @@ fn replay_disk(buffer: &mut [u8]) {
     report(b"disk", tally);
 }
 
+fn replay_schedules(buffer: &mut [u8]) {
+    let n = read(b"schedules.bin", buffer);
+    let mut list = [0u8; 2048];
+    report(b"schedules", schedules::compared(&buffer[..n], &mut list));
+}
+
 fn main() {
     let mut buffer = io::large_buffer();
     replay(b"draws", b"draws.bin", File::Draws, &mut buffer);
@@ -636,4 +643,5 @@ fn main() {
         File::LogMatching,
         &mut buffer,
     );
+    replay_schedules(&mut buffer);
 }
