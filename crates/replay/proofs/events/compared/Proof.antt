@@ -1,19 +1,19 @@
--- Made by tools/uniform from proofs.txt, not by hand: 3f6ff3bc4d1a32aa
+-- Made by tools/uniform from proofs.txt, not by hand: b7d017d88f6ed67d
 use Prim.Native.Nat.{_-_, _≤_}
 use mathlib.Core.Path.{_≡_}
 use lib.ListN.{length}
 use borrow.Author.Needs.{needs}
-use Rattle.replay.proofs.compared_queue.Statement.{statement}
-use Rattle.replay.proofs.compared_queue.Tie as tie
+use Rattle.replay.proofs.events.compared.Statement.{statement}
+use Rattle.replay.proofs.events.compared.Tie as tie
 
 abbrev Inv-loop : tie.InvT-loop
-Inv-loop s area₀ n₀ tally₀ at₀ area n tally at = (at ≤ length s) × (tally .rows ≤ at) × (tally .differ ≤ at) × (length area ≡ length area₀)
+Inv-loop s area₀ n₀ tally₀ at₀ area n tally at = (at ≤ length s) × (tally .rows ≤ at) × (tally .differ ≤ at) × (length area ≡ 7168)
 
 abbrev μ-loop : tie.MeasureT-loop
 μ-loop s area₀ n₀ tally₀ at₀ area n tally at = length s - at
 
-pub compared-queue-spec : {M : Type 1} → statement M
-compared-queue-spec =
+pub compared-spec : {M : Type 1} → statement M
+compared-spec =
     tie.close
     (tie.spec
     Inv-loop

@@ -1,9 +1,9 @@
--- Made by tools/uniform from proofs.txt, not by hand: 73b80e02ed6de0ce
+-- Made by tools/uniform from proofs.txt, not by hand: cee8537896dcf6f1
 use Prim.Native.Nat.{_-_, _≤_}
 use lib.ListN.{length}
 use borrow.Author.Needs.{needs}
-use Rattle.replay.proofs.compared_links.Statement.{statement}
-use Rattle.replay.proofs.compared_links.Tie as tie
+use Rattle.replay.proofs.links.compared.Statement.{statement}
+use Rattle.replay.proofs.links.compared.Tie as tie
 
 abbrev Inv-loop : tie.InvT-loop
 Inv-loop s n₀ tally₀ at₀ n tally at = (at ≤ length s) × (tally .rows ≤ at) × (tally .differ ≤ at)
@@ -11,8 +11,8 @@ Inv-loop s n₀ tally₀ at₀ n tally at = (at ≤ length s) × (tally .rows �
 abbrev μ-loop : tie.MeasureT-loop
 μ-loop s n₀ tally₀ at₀ n tally at = length s - at
 
-pub compared-links-spec : {M : Type 1} → statement M
-compared-links-spec =
+pub compared-spec : {M : Type 1} → statement M
+compared-spec =
     tie.close
     (tie.spec
     Inv-loop
