@@ -3,6 +3,13 @@ ghost use Prim.Native.Nat.{_+_, _^_, _≤_, _<_};
 ghost use Rattle.io.specs.Counts.{Counts};
 ghost use Rattle.network.specs.Network.{Limits};
 ghost use Rattle.record.specs.Postcard.{commandLength};
+
+mod links; // operations on a network's links
+mod events; // the order of a queue's events
+mod disk; // operations on a disk
+mod matching; // log matching of two logs
+mod schedules; // random fault schedules
+
 use client::Decoded;
 use config::Config;
 use config::Validity;
@@ -10,8 +17,6 @@ use libc::STDOUT_FILENO;
 use network::Duplicate;
 use network::Network;
 use network::Route;
-use queue::Event;
-use queue::table;
 use record::PayloadShape;
 use rng::Bounded;
 use rng::Rng;
@@ -20,7 +25,6 @@ use units::Duration;
 use units::LogIndex;
 use units::NodeId;
 use units::NodeOption;
-use units::SimTime;
 use units::Term;
 
 // A file of rows that are compared one by one.
@@ -33,6 +37,7 @@ enum File {
     Config,
     Records,
     Routes,
+    LogMatching,
 }
 
 // The words of a row.
@@ -48,6 +53,7 @@ fn width(file: File) -> usize
         File::Config => 6,
         File::Records => 6,
         File::Routes => 12,
+        File::LogMatching => 20,
     }
 }
 
@@ -326,6 +332,7 @@ fn agrees(file: File, row: &[u8]) -> bool {
         File::Config => config_agrees(row),
         File::Records => record_agrees(row),
         File::Routes => route_agrees(row),
+        File::LogMatching => matching::agrees(row),
     }
 }
 
@@ -343,200 +350,35 @@ fn counted(differ: u64, agrees: bool) -> u64
     if agrees { differ } else { differ + 1 }
 }
 
+// A tally of no rows.
+fn none() -> Tally
+    ensures { λ r. ⌜ (r .rows ≤ 0) × (r .differ ≤ 0) ⌝ }
+{
+    Tally { rows: 0, differ: 0 }
+}
+
+// A tally of one more row.
+fn tallied(t: Tally, agrees: bool) -> Tally
+    requires { ⌜ (t .rows < 2 ^ 63) × (t .differ < 2 ^ 63) ⌝ }
+    ensures { λ r. ⌜ (r .rows ≤ t .rows + 1) × (r .differ ≤ t .differ + 1) ⌝ }
+{
+    Tally {
+        rows: t.rows + 1,
+        differ: counted(t.differ, agrees),
+    }
+}
+
 // Compares the rows of a file.
 fn compared(file: File, s: &[u8]) -> Tally {
     let w = 8 * width(file);
-    let mut rows: u64 = 0;
-    let mut differ: u64 = 0;
+    let mut tally = none();
     let mut at: usize = 0;
     while w <= s.len() - at {
         let end = at + w;
-        differ = counted(differ, agrees(file, &s[at..end]));
-        rows += 1;
+        tally = tallied(tally, agrees(file, &s[at..end]));
         at = end;
     }
-    Tally { rows, differ }
-}
-
-// A network after an operation on its links: 0 partitions, 1 blocks, 2 unblocks, 3 heals; ids that are no server's change nothing.
-fn after_operation(n: Network, kind: u64, from: u64, to: u64, groups: u64) -> Network {
-    if kind == 0 {
-        return n.partition(groups);
-    }
-    if kind == 3 {
-        return n.heal_links();
-    }
-    if from < 1 {
-        return n;
-    }
-    if 8 < from {
-        return n;
-    }
-    if to < 1 {
-        return n;
-    }
-    if 8 < to {
-        return n;
-    }
-    if kind == 1 {
-        n.block(NodeId(from), NodeId(to))
-    } else {
-        n.unblock(NodeId(from), NodeId(to))
-    }
-}
-
-// Whether the blocked links are the bits of a word.
-fn links_are(n: Network, word: u64) -> bool {
-    let links = n.blocked;
-    let mut same = true;
-    let mut k: usize = 0;
-    while k < 64 {
-        same = same & (links[k] == ((word >> (k as u64)) % 2 == 1));
-        k += 1;
-    }
-    same
-}
-
-// The network after a row's operation, and whether its blocked links are the row's.
-struct Operated {
-    network: Network,
-    agrees: bool,
-}
-
-// A row of links.bin: an operation on the links of eight servers (kind, from, to, groups), and the blocked links after it.
-fn link_row(n: Network, row: &[u8]) -> Operated {
-    if row.len() != 40 {
-        return Operated {
-            network: n,
-            agrees: false,
-        };
-    }
-    let network = after_operation(
-        n,
-        words::load(row, 0),
-        words::load(row, 1),
-        words::load(row, 2),
-        words::load(row, 3),
-    );
-    let agrees = links_are(network, words::load(row, 4));
-    Operated { network, agrees }
-}
-
-// Compares the rows of links.bin, each with the links that those before it left.
-fn compared_links(s: &[u8]) -> Tally {
-    let mut n = Network::new(Duration(0), Rng { state: 0 });
-    let mut rows: u64 = 0;
-    let mut differ: u64 = 0;
-    let mut at: usize = 0;
-    while 40 <= s.len() - at {
-        let end = at + 40;
-        let row = link_row(n, &s[at..end]);
-        n = row.network;
-        differ = counted(differ, row.agrees);
-        rows += 1;
-        at = end;
-    }
-    Tally { rows, differ }
-}
-
-// A queue's count after a row, and whether the row agrees.
-struct Queued {
-    count: usize,
-    agrees: bool,
-}
-
-// The client of an event that has one to send.
-fn client_of(event: Event) -> u64 {
-    match event {
-        Event::ClientSend { client } => client,
-        _ => 0,
-    }
-}
-
-// An event pushed at a time. The area has room for 128 events without messages.
-fn pushed(area: &mut [u8], n: usize, time: u64, number: u64) -> Queued {
-    if area.len() != 7168 {
-        return Queued {
-            count: n,
-            agrees: false,
-        };
-    }
-    if 128 <= n {
-        return Queued {
-            count: n,
-            agrees: false,
-        };
-    }
-    let event = Event::ClientSend { client: number };
-    table::push(area, n, 0, SimTime(time), event, b"");
-    Queued {
-        count: n + 1,
-        agrees: true,
-    }
-}
-
-// The earliest event taken, if there is one; `found` is 1 where the row has one.
-fn taken(area: &mut [u8], n: usize, found: u64, time: u64, number: u64) -> Queued {
-    if n == 0 {
-        return Queued {
-            count: 0,
-            agrees: found == 0,
-        };
-    }
-    if 128 < n {
-        return Queued {
-            count: n,
-            agrees: false,
-        };
-    }
-    if area.len() != 7168 {
-        return Queued {
-            count: n,
-            agrees: false,
-        };
-    }
-    let first = table::first(area);
-    let event = first.event;
-    let same = (found == 1) & (first.time.0 == time) & (client_of(event) == number);
-    table::remove_first(area, n, 0);
-    Queued {
-        count: n - 1,
-        agrees: same,
-    }
-}
-
-// A row of queue.bin: 0, 1, time, number pushes an event; 1, 1, time, number takes it; 1, 0, 0, 0 finds none.
-fn queue_row(area: &mut [u8], n: usize, row: &[u8]) -> Queued {
-    if row.len() != 32 {
-        return Queued {
-            count: n,
-            agrees: false,
-        };
-    }
-    let time = words::load(row, 2);
-    let number = words::load(row, 3);
-    if words::load(row, 0) == 0 {
-        pushed(area, n, time, number)
-    } else {
-        taken(area, n, words::load(row, 1), time, number)
-    }
-}
-
-// Compares the rows of queue.bin, each with the queue that those before it left.
-fn compared_queue(s: &[u8], area: &mut [u8]) -> Tally {
-    let mut n: usize = 0;
-    let mut rows: u64 = 0;
-    let mut differ: u64 = 0;
-    let mut at: usize = 0;
-    while 32 <= s.len() - at {
-        let end = at + 32;
-        let row = queue_row(area, n, &s[at..end]);
-        n = row.count;
-        differ = counted(differ, row.agrees);
-        rows += 1;
-        at = end;
-    }
-    Tally { rows, differ }
+    tally
 }
 
 fn report(name: &[u8], t: Tally) {
@@ -570,12 +412,28 @@ fn replay(name: &[u8], path: &[u8], file: File, buffer: &mut [u8]) {
 
 fn replay_links(buffer: &mut [u8]) {
     let n = read(b"links.bin", buffer);
-    report(b"links", compared_links(&buffer[..n]));
+    report(b"links", links::compared(&buffer[..n]));
 }
 
-fn replay_queue(buffer: &mut [u8], area: &mut [u8]) {
+fn replay_queue(buffer: &mut [u8]) {
     let n = read(b"queue.bin", buffer);
-    report(b"queue", compared_queue(&buffer[..n], area));
+    let mut area = [0u8; 7168];
+    report(b"queue", events::compared(&buffer[..n], &mut area));
+}
+
+fn replay_disk(buffer: &mut [u8]) {
+    let n = read(b"disk.bin", buffer);
+    let mut current = [0u8; 384];
+    let mut durable = [0u8; 384];
+    let mut waiting = [0u8; 512];
+    let tally = disk::compared(&buffer[..n], &mut current, &mut durable, &mut waiting);
+    report(b"disk", tally);
+}
+
+fn replay_schedules(buffer: &mut [u8]) {
+    let n = read(b"schedules.bin", buffer);
+    let mut list = [0u8; 2048];
+    report(b"schedules", schedules::compared(&buffer[..n], &mut list));
 }
 
 fn main() {
@@ -599,6 +457,13 @@ fn main() {
     replay(b"records", b"records.bin", File::Records, &mut buffer);
     replay(b"routes", b"routes.bin", File::Routes, &mut buffer);
     replay_links(&mut buffer);
-    let mut area = [0u8; 7168];
-    replay_queue(&mut buffer, &mut area);
+    replay_queue(&mut buffer);
+    replay_disk(&mut buffer);
+    replay(
+        b"log matching",
+        b"log_matching.bin",
+        File::LogMatching,
+        &mut buffer,
+    );
+    replay_schedules(&mut buffer);
 }

@@ -1,4 +1,4 @@
--- Made by tools/uniform from proofs.txt, not by hand: 1403d3d0649ff320
+-- Made by tools/uniform from proofs.txt, not by hand: 44452c9711e54137
 use Prim.Native.Nat.{_-_, _≤_}
 use lib.ListN.{length}
 use borrow.Author.Needs.{needs}
@@ -6,10 +6,10 @@ use Rattle.replay.proofs.compared.Statement.{statement}
 use Rattle.replay.proofs.compared.Tie as tie
 
 abbrev Inv-loop : tie.InvT-loop
-Inv-loop file s w rows₀ differ₀ at₀ rows differ at = (at ≤ length s) × (rows ≤ at) × (differ ≤ at) × (8 ≤ w)
+Inv-loop file s w tally₀ at₀ tally at = (at ≤ length s) × (tally .rows ≤ at) × (tally .differ ≤ at) × (8 ≤ w)
 
 abbrev μ-loop : tie.MeasureT-loop
-μ-loop file s w rows₀ differ₀ at₀ rows differ at = length s - at
+μ-loop file s w tally₀ at₀ tally at = length s - at
 
 pub compared-spec : {M : Type 1} → statement M
 compared-spec =
@@ -19,6 +19,7 @@ compared-spec =
     μ-loop
     (λ c κs. search needs)  -- width-requires
     (λ c. search needs)  -- mul-w
+    (λ c κs. search needs)  -- none-requires
     (λ c. search needs)  -- loop-holds
     (λ c. search needs)  -- sub-loop
     (λ c. search needs)  -- add-end
@@ -26,8 +27,7 @@ compared-spec =
     (λ c. search needs)  -- part-agrees-start
     (λ c. search needs)  -- part-agrees-end
     (λ c κs. search needs)  -- agrees-requires
-    (λ c κs. search needs)  -- counted-requires
-    (λ c. search needs)  -- add-rows
+    (λ c κs. search needs)  -- tallied-requires
     (λ c. search needs)  -- loop-less
     (λ c. search needs)  -- loop-again
     (λ c. search needs))  -- returns

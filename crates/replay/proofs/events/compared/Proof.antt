@@ -1,23 +1,24 @@
--- Made by tools/uniform from proofs.txt, not by hand: 968c334bcd701c54
+-- Made by tools/uniform from proofs.txt, not by hand: b7d017d88f6ed67d
 use Prim.Native.Nat.{_-_, _≤_}
 use mathlib.Core.Path.{_≡_}
 use lib.ListN.{length}
 use borrow.Author.Needs.{needs}
-use Rattle.replay.proofs.compared_queue.Statement.{statement}
-use Rattle.replay.proofs.compared_queue.Tie as tie
+use Rattle.replay.proofs.events.compared.Statement.{statement}
+use Rattle.replay.proofs.events.compared.Tie as tie
 
 abbrev Inv-loop : tie.InvT-loop
-Inv-loop s area₀ n₀ rows₀ differ₀ at₀ area n rows differ at = (at ≤ length s) × (rows ≤ at) × (differ ≤ at) × (length area ≡ length area₀)
+Inv-loop s area₀ n₀ tally₀ at₀ area n tally at = (at ≤ length s) × (tally .rows ≤ at) × (tally .differ ≤ at) × (length area ≡ 7168)
 
 abbrev μ-loop : tie.MeasureT-loop
-μ-loop s area₀ n₀ rows₀ differ₀ at₀ area n rows differ at = length s - at
+μ-loop s area₀ n₀ tally₀ at₀ area n tally at = length s - at
 
-pub compared-queue-spec : {M : Type 1} → statement M
-compared-queue-spec =
+pub compared-spec : {M : Type 1} → statement M
+compared-spec =
     tie.close
     (tie.spec
     Inv-loop
     μ-loop
+    (λ c κs. search needs)  -- none-requires
     (λ c. search needs)  -- loop-holds
     (λ c. search needs)  -- sub-loop
     (λ c. search needs)  -- add-end
@@ -25,8 +26,7 @@ compared-queue-spec =
     (λ c. search needs)  -- part-queue-row-start
     (λ c. search needs)  -- part-queue-row-end
     (λ c κs. search needs)  -- queue-row-requires
-    (λ c κs. search needs)  -- counted-requires
-    (λ c. search needs)  -- add-rows
+    (λ c κs. search needs)  -- tallied-requires
     (λ c. search needs)  -- loop-less
     (λ c. search needs)  -- loop-again
     (λ c. search needs)  -- same-length

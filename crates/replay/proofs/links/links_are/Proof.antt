@@ -1,10 +1,10 @@
--- Made by tools/uniform from proofs.txt, not by hand: e0435c64098a042f
+-- Made by tools/uniform from proofs.txt, not by hand: edec0724030a774e
 use Prim.Native.Nat.{_-_, _≤_}
 use mathlib.Core.Path.{_≡_}
 use lib.ListN.{length}
 use borrow.Author.Needs.{needs}
-use Rattle.replay.proofs.links_are.Statement.{statement}
-use Rattle.replay.proofs.links_are.Tie as tie
+use Rattle.replay.proofs.links.links_are.Statement.{statement}
+use Rattle.replay.proofs.links.links_are.Tie as tie
 
 abbrev Inv-loop : tie.InvT-loop
 Inv-loop word links same₀ k₀ same k = (k ≤ 64) × (length links ≡ 64)
