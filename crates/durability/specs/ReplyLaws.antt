@@ -12,10 +12,10 @@ use mir.Syntax.{w64}
 use mir.Val.{Fits}
 use borrow.Author.Tests.{lt-ltb, le-ltb, le-leb, lt-leb}
 use Rattle.laws.specs.Bools.{and-both, and-no, no-and}
+use Rattle.laws.specs.ListLaws.{at-there}
 use Rattle.words.specs.Words.{bytes, W}
 use Rattle.layout.specs.Code.{okN}
 use Rattle.layout.specs.TableLaws.{held-rows, held-length, row-word, append-held, Rowed, rowed-start, rowed-turn, rowed-fail, rowed-done}
-use Rattle.checks.specs.AppliedLaws.{at-there}
 use Rattle.durability.specs.declared.replies.Reply.{Reply}
 use Rattle.durability.specs.declared.replies.Appending.the-variants.{Appended, Full}
 use Rattle.durability.specs.Replies.{replies, Appends, Reads}

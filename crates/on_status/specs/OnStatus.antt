@@ -22,7 +22,7 @@ use Rattle.checks.specs.declared.leaders.LeaderSeen.the-variants.{Same, Other, 
 use Rattle.checks.specs.Checks.{Checker, Led, leaderKey, compareLeader, holds, firstMissing, reportMissing, onStatus}
 use Rattle.checks.specs.Leaders.{leaders}
 use Rattle.checks.specs.Violations.{violations}
-use Rattle.checks.specs.OnApply.{Unmade}
+use Rattle.checks.specs.Outcomes.{Unmade}
 use Rattle.on_status.specs.declared.Missing.{Missing}
 use Rattle.on_status.specs.declared.Missing.the-variants.{None, At}
 use Rattle.on_status.specs.declared.Checking.{Checking}

@@ -10,7 +10,7 @@ use mir.Val.{Fits}
 use Rattle.laws.specs.Bools.{pick}
 use Rattle.laws.specs.Decides.{false-true}
 use Rattle.laws.specs.Order.{pairs, lookup}
-use Rattle.units.specs.Types.{Payload, noop, command, Entry, termOption}
+use Rattle.units.specs.Types.{Payload, Entry, termOption}
 use Rattle.units.specs.declared.NodeId.{NodeId}
 use Rattle.units.specs.declared.Term.{Term}
 use Rattle.units.specs.declared.TermOption.{TermOption}
@@ -22,43 +22,27 @@ use Rattle.layout.specs.Parts.{lentRow}
 use Rattle.layout.specs.Marked.{wordsFor}
 use Rattle.layout.specs.Payload.{payload}
 use Rattle.log.specs.declared.Place.{Place}
-use Rattle.log.specs.declared.Place.the-variants.{None as NoPlace, Noop, Command}
+use Rattle.log.specs.declared.Place.the-variants.{None as NoPlace}
 use Rattle.log.specs.Log.{Log, entryAt}
-use Rattle.log.specs.Places.{places, kindIn, placeOf, placeAt}
+use Rattle.log.specs.Places.{places, placeAt, termIn, entryTerm}
 use Rattle.log.specs.Laws.{at-zero, at-past}
+use Rattle.log.specs.Payloads.{entry-place, place-start, entry-held, place-term}
 use Rattle.checks.specs.declared.Check.the-variants.{UniqueEntries}
 use Rattle.checks.specs.declared.entries.EntrySeen.{EntrySeen}
 use Rattle.checks.specs.declared.entries.EntrySeen.the-variants.{Same, Other, Inserted, Full}
 use Rattle.checks.specs.Checks.{Checker, seenKey, report, reportIf, compareSeen, writtenEntry, onWrite}
 use Rattle.checks.specs.Entries.{seen, seenAfter, noRoom, afterSeen, ComparesSeen}
-use Rattle.checks.specs.OnApply.{oneIf}
 use Rattle.checks.specs.Violations.{violations, Keeps}
+use Rattle.checks.specs.Reports.{one-due}
+use Rattle.checks.specs.Outcomes.{oneIf}
 use Rattle.on_write.specs.declared.Writing.{Writing}
 use Rattle.on_write.specs.declared.Writing.the-variants.{Done, Past64Bits, NoRoom}
-use Rattle.on_write.specs.Payloads.{entry-held, entry-place}
-use Rattle.on_write.specs.OnWrite.{termIn, entryTerm, ReadsTerm, isOther, Outcome, WritesEntry, Writes}
+use Rattle.on_write.specs.OnWrite.{ReadsTerm, isOther, Outcome, WritesEntry, Writes}
 
--- ---- term_in, term_at
-
-pub term-noop : (q : Place) (t : Term) → q ≡ Noop t → Some t ≡ termIn q
-term-noop q t e = rw e
-
-pub term-command : (q : Place) (t : Term) (k : ℕ) → q ≡ Command t k → Some t ≡ termIn q
-term-command q t k e = rw e
-
-pub ruleset term-ins = (term-noop, term-command)
+-- ---- term_at
 
 none-some : (t : Term) → None ≡ Some t → ⊥
 none-some t e = let z : _≡_ {A = ℕ} 0 1 = cc in absurd (omega arith)
-
-place-term : (o : Option Entry) → termOption (termIn (placeOf o)) ≡ entryTerm o
-unfolding termOption
-place-term none = refl
-place-term (some e) = by (e .payload)
-  where
-    by : (y : Payload) → termOption (termIn (kindIn (e .term) y)) ≡ some (e .term)
-    by noop = refl
-    by (command bs) = refl
 
 module _ (p l i : ℕ) (b : List ℕ) where
   term-is : (q : Place) → Gives (places p) l b q (placeAt i) → (N : ℕ) (log : Log) → Held (places p) N l b log → termOption (termIn q) ≡ entryTerm (entryAt log i)
@@ -118,17 +102,13 @@ module _ {p : ℕ} {time : SimTime} {server : NodeId} {index : LogIndex} {term :
     entry-past m = record {
       to = λ N M c x k h g t.
           let u = q .to N c time server x k h in
-          let o : other ≡ true = must other er in
+          let o : other ≡ true = one-due other reports er (omega (arith, f .fits)) in
           record {
             first = other-same seen p N n s s′ c time server index (entryWith term x) (sym eo ∙ o) h (u .held);
             second = refl;
             why = omega (arith, ap (λ (y : Checker). y .total) (u .is), total-after seen c time server index (entryWith term x), ap oneIf eo);
           };
     }
-      where
-        must : (o : Bool) → reports ≡ pick o 1 0 → o ≡ true
-        must true w = refl
-        must false w = absurd (omega (arith, f .fits))
 
     pub entry-done : {k′ count : ℕ} {v′ : List ℕ} → total ≤ 18446744073709551615 - reports → Keeps other time UniqueEntries (server .0 ∷ index .0 ∷ term .0 ∷ []) kept k′ v v′ → count ≡ seenAfter n seen
         → WritesEntry p time server index term content n kept total (Done count k′ (total + reports)) s s′ v v′
@@ -178,7 +158,7 @@ module _ (p l : ℕ) (time : SimTime) (server : NodeId) (index : LogIndex) (b : 
         by N M L c log h g t k (some d) eo et =
             let same : term ≡ d .term = cc in
             let x : Holds (payload p) (lentRow at (1 + wordsFor p) b) (d .payload) =
-            entry-held p l k (index .0 - 1) at term-high ea d (sym (entry-place log (index .0) term-low) ∙ eo) in
+            entry-held p l k (index .0 - 1) at term-high (place-start p (index .0 - 1) at ea) d (sym (entry-place log (index .0) term-low) ∙ eo) in
             subst (λ (u : Term). Outcome a p N M n s s′ v v′ (compareSeen (lookup pairs seenKey (index .0, u .0) (c .entries)) c time server index (record { term = u; payload = d .payload }))) same
             (w .to N M c (d .payload) x h g t)
 

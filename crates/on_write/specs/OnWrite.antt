@@ -2,44 +2,30 @@
 use mathlib.Core.Path.{_≡_}
 use mathlib.Core.Bool.{Bool, true, false}
 use mathlib.Core.List.{List}
-use mathlib.Core.Option.{Option, none, some}
 use Prim.Native.Nat.{ℕ, _+_, _*_, _^_, _≤_, _<_}
 use Rattle.laws.specs.Order.{pairs, lookup}
-use Rattle.units.specs.Types.{Payload, Entry, termOption}
+use Rattle.units.specs.Types.{Payload, termOption}
 use Rattle.units.specs.declared.NodeId.{NodeId}
 use Rattle.units.specs.declared.Term.{Term}
 use Rattle.units.specs.declared.TermOption.{TermOption}
-use Rattle.units.specs.declared.TermOption.the-variants.{None, Some}
+use Rattle.units.specs.declared.TermOption.the-variants.{Some}
 use Rattle.units.specs.declared.LogIndex.{LogIndex}
 use Rattle.units.specs.declared.SimTime.{SimTime}
 use Rattle.layout.specs.Tables.{Holds, Held}
 use Rattle.layout.specs.Marked.{wordsFor}
 use Rattle.layout.specs.Payload.{payload}
-use Rattle.log.specs.declared.Place.{Place}
-use Rattle.log.specs.declared.Place.the-variants.{None as NoPlace, Noop, Command}
 use Rattle.log.specs.Log.{Log, entryAt}
-use Rattle.log.specs.Places.{places}
+use Rattle.log.specs.Places.{places, entryTerm}
 use Rattle.checks.specs.declared.entries.EntrySeen.{EntrySeen}
 use Rattle.checks.specs.declared.entries.EntrySeen.the-variants.{Same, Other, Inserted, Full}
 use Rattle.checks.specs.Checks.{Checker, seenKey, compareSeen, onWrite}
 use Rattle.checks.specs.Entries.{seen}
-use Rattle.checks.specs.OnApply.{Unmade}
 use Rattle.checks.specs.Violations.{violations}
+use Rattle.checks.specs.Outcomes.{Unmade}
 use Rattle.on_write.specs.declared.Writing.{Writing}
 use Rattle.on_write.specs.declared.Writing.the-variants.{Done, Past64Bits, NoRoom}
 
 -- ---- the entry at an index
-
--- The term of what stands at a place.
-abbrev pub termIn : Place → TermOption
-termIn NoPlace = None
-termIn (Noop term) = Some term
-termIn (Command term k) = Some term
-
--- The term of an entry that may be absent.
-abbrev pub entryTerm : Option Entry → Option Term
-entryTerm none = none
-entryTerm (some e) = some (e .term)
 
 -- Whatever log of l places the bytes b hold, r is the term of its entry at index i. An index that is no place has none.
 pub record ReadsTerm (p l i : ℕ) (r : TermOption) (b : List ℕ) : Type 0 where

@@ -3,17 +3,15 @@
 ghost use mathlib.Core.Path.{_≡_};
 ghost use Prim.Native.Nat.{_+_, _*_, _≤_};
 ghost use lib.ListN.{length};
-ghost use Rattle.laws.specs.Bools.{pick};
 ghost use Rattle.layout.specs.Marked.{wordsFor};
 ghost use Rattle.checks.specs.Entries.{noRoom, seenAfter};
-ghost use Rattle.on_write.specs.OnWrite.{isOther, termIn, ReadsTerm, WritesEntry, Writes};
+ghost use Rattle.on_write.specs.OnWrite.{isOther, ReadsTerm, WritesEntry, Writes};
 use checks::Check;
 use checks::entries;
 use checks::entries::EntrySeen;
 use checks::violations;
 use checks::violations::Detail;
 use layout::rows;
-use log::Place;
 use units::LogIndex;
 use units::NodeId;
 use units::SimTime;
@@ -29,13 +27,6 @@ pub enum Writing {
     },
     Past64Bits,
     NoRoom,
-}
-
-// One where a test is true.
-fn one_if(b: bool) -> u64
-    ensures { λ r. ⌜ (r ≡ pick b 1 0) × (r ≤ 1) ⌝ }
-{
-    if b { 1 } else { 0 }
 }
 
 // Whether there was no room.
@@ -74,17 +65,6 @@ fn count_after(n: usize, seen: EntrySeen) -> usize
     }
 }
 
-// The term of what stands at a place.
-fn term_in(place: Place) -> TermOption
-    ensures { λ r. ⌜ r ≡ termIn place ⌝ }
-{
-    match place {
-        Place::None => TermOption::None,
-        Place::Noop { term } => TermOption::Some(term),
-        Place::Command { term, length: _ } => TermOption::Some(term),
-    }
-}
-
 // The term of the entry at an index, if there is one; the index is then a place of the log.
 fn term_at(log: &[u8], l: usize, p: usize, index: LogIndex) -> TermOption
     requires { ⌜ (p ≤ 256) × (8 * (l * (2 + wordsFor p)) ≤ length (now log)) ⌝ }
@@ -97,7 +77,7 @@ fn term_at(log: &[u8], l: usize, p: usize, index: LogIndex) -> TermOption
     if l < i {
         return TermOption::None;
     }
-    term_in(log::entry(log, l, p, index))
+    log::term_of(log::entry(log, l, p, index))
 }
 
 // Compares an entry that is there with the first seen under its index and term, and reports another payload. Its own is lent in words.
@@ -122,7 +102,7 @@ fn write_entry(
         return Writing::NoRoom;
     }
     let other = is_other(seen);
-    let reports = one_if(other);
+    let reports = violations::one_if(other);
     if 18446744073709551615 - reports < total {
         return Writing::Past64Bits;
     }

@@ -3,7 +3,6 @@ use mathlib.Core.Path.{_≡_}
 use mathlib.Core.Bool.{Bool, true, false}
 use mathlib.Core.List.{List}
 use Prim.Native.Nat.{ℕ, _+_, _*_, _^_, _≤_, _<_}
-use Rattle.laws.specs.Bools.{pick}
 use Rattle.units.specs.Types.{Payload}
 use Rattle.units.specs.declared.NodeId.{NodeId}
 use Rattle.units.specs.declared.LogIndex.{LogIndex}
@@ -12,16 +11,13 @@ use Rattle.layout.specs.Tables.{Holds, Held}
 use Rattle.layout.specs.Marked.{wordsFor}
 use Rattle.layout.specs.Payload.{payload}
 use Rattle.layout.specs.Applied.{applied}
 use Rattle.checks.specs.declared.applied.AppliedSeen.{AppliedSeen}
 use Rattle.checks.specs.declared.applied.AppliedSeen.the-variants.{Same, Other, Appended, Further, Full}
-use Rattle.checks.specs.declared.on_apply.Applying.{Applying}
-use Rattle.checks.specs.declared.on_apply.Applying.the-variants.{Done, Past64Bits, NoRoom}
 use Rattle.checks.specs.Checks.{Checker, onApply}
 use Rattle.checks.specs.Violations.{violations}
-
--- One where a test is true.
-abbrev pub oneIf : Bool → ℕ
-oneIf b = pick b 1 0
+use Rattle.checks.specs.Outcomes.{Unmade}
+use Rattle.on_apply.specs.declared.Applying.{Applying}
+use Rattle.on_apply.specs.declared.Applying.the-variants.{Done, Past64Bits, NoRoom}
 
 -- Whether an answer is that another payload was applied there.
 abbrev pub isOther : AppliedSeen → Bool
@@ -37,11 +33,6 @@ pub record Made (p N M : ℕ) (a′ v′ : List ℕ) (c : Checker) (count kept t
   pub payloads : Held (applied p) N count a′ (c .applied)
   pub violations : Held violations M kept v′ (c .violations)
   pub counted : c .total ≡ total
-
-pub record Unmade (a a′ v v′ : List ℕ) (P : Type 0) : Type 0 where
-  pub first : a′ ≡ a
-  pub second : v′ ≡ v
-  pub why : P
 
 abbrev pub Outcome : Applying → (p N M n : ℕ) (a a′ v v′ : List ℕ) → Checker → Type 0
 Outcome (Done count kept total) p N M n a a′ v v′ c = Made p N M a′ v′ c count kept total

@@ -4,14 +4,13 @@ ghost use mathlib.Core.Path.{_≡_};
 ghost use Prim.Native.Nat.{_+_, _*_, _≤_};
 ghost use lib.ListN.{length};
 ghost use Rattle.layout.specs.Marked.{wordsFor};
-ghost use Rattle.laws.specs.Bools.{pick};
 ghost use Rattle.checks.specs.Applied.{noPlace, appliedAfter};
-ghost use Rattle.checks.specs.OnApply.{isOther, Applies};
-use crate::Check;
-use crate::applied;
-use crate::applied::AppliedSeen;
-use crate::violations;
-use crate::violations::Detail;
+ghost use Rattle.on_apply.specs.OnApply.{isOther, Applies};
+use checks::Check;
+use checks::applied;
+use checks::applied::AppliedSeen;
+use checks::violations;
+use checks::violations::Detail;
 use units::LogIndex;
 use units::NodeId;
 use units::SimTime;
@@ -25,13 +24,6 @@ pub enum Applying {
     },
     Past64Bits,
     NoRoom,
-}
-
-// One where a test is true.
-fn one_if(b: bool) -> u64
-    ensures { λ r. ⌜ (r ≡ pick b 1 0) × (r ≤ 1) ⌝ }
-{
-    if b { 1 } else { 0 }
 }
 
 // Whether there was no room.
@@ -91,7 +83,7 @@ pub fn on_apply(
     ensures { λ r. ⌜ Applies p time server index (now (content .entry)) expected n kept total r (now (a .entry)) (now (a .exit)) (now (v .entry)) (now (v .exit)) ⌝ }
 {
     let late = index.0 != expected;
-    let first = one_if(late);
+    let first = violations::one_if(late);
     if 18446744073709551615 - first < total {
         return Applying::Past64Bits;
     }
@@ -100,7 +92,7 @@ pub fn on_apply(
         return Applying::NoRoom;
     }
     let other = is_other(seen);
-    let second = one_if(other);
+    let second = violations::one_if(other);
     if 18446744073709551615 - (first + second) < total {
         return Applying::Past64Bits;
     }
