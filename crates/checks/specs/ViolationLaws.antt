@@ -16,7 +16,7 @@ use Rattle.words.specs.Words.{bytes, W, allz}
 use Rattle.words.specs.Sets.{take-drop}
 use Rattle.units.specs.declared.SimTime.{SimTime}
 use Rattle.layout.specs.Code.{okN}
-use Rattle.layout.specs.UpTo.{is64, getD-padded}
+use Rattle.layout.specs.UpTo.{is64, is64-fits, getD-padded}
 use Rattle.layout.specs.Tables.{Held, Gives, append, rowsIn}
 use Rattle.layout.specs.TableLaws.{held-rows, row-word, append-held, length-rowsIn, Rowed, rowed-start, rowed-turn, rowed-fail, rowed-done}
 use Rattle.checks.specs.declared.Check.{Check}
@@ -76,9 +76,6 @@ module _ (time : SimTime) (check : Check) (detail : Detail) where
       by (Two a b) = refl
       by (Three a b c) = refl
       by (Five a b c d e) = refl
-
-  is64-fits : (n : ℕ) → Fits w64 n → is64 n ≡ true
-  is64-fits n f = lt-ltb n (2 ^ 64) (f .fits)
 
   detail-fine : (d : Detail) → Fits w64 (getD (detailOf d) 0 0) → Fits w64 (getD (detailOf d) 1 0) → Fits w64 (getD (detailOf d) 2 0) → Fits w64 (getD (detailOf d) 3 0) → Fits w64 (getD (detailOf d) 4 0)
       → (leb (length (detailOf d)) 5 and every is64 (detailOf d)) ≡ true

@@ -39,6 +39,17 @@ pub enum Tally {
     Past64Bits,
 }
 
+// The same of a check that has a table of its own, and how many rows this has; or a row has no room.
+pub enum Checked {
+    Done {
+        count: usize,
+        kept: usize,
+        total: u64,
+    },
+    Past64Bits,
+    NoRoom,
+}
+
 // One where a violation is due: reports are counted before any is kept.
 pub fn one_if(due: bool) -> u64
     ensures { λ r. ⌜ (r ≡ oneIf due) × (r ≤ 1) ⌝ }

@@ -1,11 +1,13 @@
 -- Elements by place, equal lists, and what holds of each element, by its place, and how it is kept as the list changes. Assumes nothing.
-use mathlib.Core.Path.{_≡_, refl, ap, ap₂, subst}
+use mathlib.Core.Path.{_≡_, refl, sym, ap, ap₂, _∙_, subst}
 use mathlib.Core.Bool.{Bool, true, false}
 use mathlib.Core.List.{List, [], _∷_, _++_}
 use mathlib.Core.Option.{none, some}
-use Prim.Native.Nat.{ℕ, zero, suc, _≤_, _<_}
+use Prim.Native.Nat.{ℕ, zero, suc, _+_, _≤_, _<_}
+use native.Mathlib.Numerals.{add-one}
 use native.Mathlib.Omega.{arith}
-use lib.ListN.{length, getD}
+use lib.ListN.{length, getD, drop}
+use lib.Seq.{drop-cons}
 use borrow.Author.Tests.{eqb-true, eq-eqb}
 use Rattle.laws.specs.Bools.{pick, and-left, and-right, and-both}
 use Rattle.laws.specs.Decides.{false-true}
@@ -26,6 +28,10 @@ module _ {A : Type 0} where
   at-none [] i h = refl
   at-none (a ∷ x) zero h = absurd (omega arith)
   at-none (a ∷ x) (suc i) h = at-none x i (omega arith)
+
+  -- from place i on: what stands there, and the rest, as a turn of a loop has it
+  pub drop-next : (x : List A) (i : ℕ) (d : A) → i < length x → drop i x ≡ getD x i d ∷ drop (i + 1) x
+  drop-next x i d h = drop-cons x i d h ∙ ap (λ (k : ℕ). getD x i d ∷ drop k x) (sym (add-one i))
 
 -- ---- equal lists
 

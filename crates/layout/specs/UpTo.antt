@@ -7,6 +7,8 @@ use native.Mathlib.Omega.{arith}
 use lib.Dec.{leb, ltb}
 use lib.ListN.{length, take, drop, getD, length-append, length-drop, length-replicate, take-append-drop}
 use lib.Seq.{take-at, drop-at, drop-drop, take-take, length-take-le}
+use mir.Syntax.{w64}
+use mir.Val.{Fits}
 use borrow.Author.Tests.{leb-true, le-leb, ltb-true, lt-ltb}
 use Rattle.laws.specs.Bools.{_and_, and-left, and-right, and-both, every}
 use Rattle.words.specs.Words.{Fit, allz}
@@ -16,6 +18,9 @@ use Rattle.layout.specs.Code.{Code, zeros, word-back}
 
 abbrev pub is64 : ℕ → Bool
 is64 n = ltb n (2 ^ 64)
+
+pub is64-fits : (n : ℕ) → Fits w64 n → is64 n ≡ true
+is64-fits n f = lt-ltb n (2 ^ 64) (f .fits)
 
 pub each-fit : (d : List ℕ) → every is64 d ≡ true → Fit d
 each-fit [] h k = omega arith

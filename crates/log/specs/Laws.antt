@@ -5,17 +5,16 @@ use mathlib.Core.List.{List, [], _∷_, _++_}
 use mathlib.Core.Option.{Option, none, some}
 use Prim.Native.Nat.{ℕ, zero, suc, _+_, _-_, _*_, _^_, _≤_, _<_}
 use native.Mathlib.Nat.{add-zero}
-use native.Mathlib.Numerals.{add-one}
 use native.Mathlib.Omega.{arith}
 use lib.Dec.{eqb, leb}
 use lib.ListN.{length, getD, set, take, drop, replicate, length-replicate, drop-of-length-le, List·getD-eq-default}
-use lib.Seq.{sets, getD-at, take-all, take-suc, drop-cons, getD-drop, length-take-le}
+use lib.Seq.{sets, getD-at, take-all, take-suc, getD-drop, length-take-le}
 use mir.Syntax.{w64}
 use mir.Val.{Fits}
 use borrow.Author.Tests.{eq-eqb, ne-eqb, eqb-true, lt-ltb, leb-true, leb-false}
 use Rattle.laws.specs.Bools.{pick, cases, and-left, and-both, and-true}
 use Rattle.laws.specs.Lists.{isSome, sameList}
-use Rattle.laws.specs.ListLaws.{list-itself, list-equal}
+use Rattle.laws.specs.ListLaws.{drop-next, list-itself, list-equal}
 use Rattle.laws.specs.Decides.{Decides, false-true, decided}
 use Rattle.units.specs.Types.{Payload, noop, command, Entry, samePayload}
 use Rattle.units.specs.PayloadLaws.{payload-itself, payload-equal}
@@ -273,7 +272,7 @@ module _ (p n : ℕ) (s : List ℕ) where
   counting-turn from r i at m d c k e q f l =
       let v : pick (isSome (getD log i none)) 1 0 ≡ d = ap (λ (b : Bool). pick b 1 0) (there i at m k e q) ∙ by (eqb m 0) ∙ sym f in
       let a : count (drop i log) ≡ d + count (drop (i + 1) log) =
-      ap count (drop-cons log i none (omega (arith, log-long))) ∙ ap₂ (λ (j o : ℕ). j + count (drop o log)) v (sym (add-one i)) in
+      ap count (drop-next log i none (omega (arith, log-long))) ∙ ap (λ (j : ℕ). j + count (drop (i + 1) log)) v in
       record { is = omega (arith, c .is); upto = omega arith; most = omega (arith, c .most) }
     where
       by : (b : Bool) → _≡_ {A = ℕ} (pick (not b) 1 0) (pick b 0 1)

@@ -21,12 +21,12 @@ use Rattle.layout.specs.Applied.{applied}
 use Rattle.checks.specs.declared.Check.the-variants.{ApplyOrder, StateMachineSafety}
 use Rattle.checks.specs.declared.applied.AppliedSeen.{AppliedSeen}
 use Rattle.checks.specs.declared.applied.AppliedSeen.the-variants.{Same, Other, Appended, Further, Full}
+use Rattle.checks.specs.declared.violations.Checked.the-variants.{Done, Past64Bits, NoRoom}
 use Rattle.checks.specs.Checks.{Checker, report, reportIf, compareApplied, recordApplied, withApplied, onApply}
 use Rattle.checks.specs.Violations.{violations, Keeps}
 use Rattle.checks.specs.Reports.{total-if, applied-if, one-due}
 use Rattle.checks.specs.Outcomes.{oneIf}
 use Rattle.checks.specs.Applied.{appliedAfter, noPlace, afterRecorded, RecordsApplied}
-use Rattle.on_apply.specs.declared.Applying.the-variants.{Done, Past64Bits, NoRoom}
 use Rattle.on_apply.specs.OnApply.{isOther, Applies}
 
 -- ---- totals
@@ -127,7 +127,7 @@ module _ {p : ℕ} {time : SimTime} {server : NodeId} {index : LogIndex} {conten
             let u = q .to N c₁ time server x k ha in
             let w : Held violations M k₂ v₂ (reportIf other c₁ time StateMachineSafety (server .0 ∷ index .0 ∷ []) .violations) = q₂ .to c₁ M (q₁ .to c M g) in
             record {
-              payloads = rw (u .is, en) (u .held (sym ez ∙ tz));
+              table = rw (u .is, en) (u .held (sym ez ∙ tz));
               violations = subst (Held violations M k₂ v₂)
                   (ap (λ (o : Bool). reportIf o c₁ time StateMachineSafety (server .0 ∷ index .0 ∷ []) .violations) eo
                   ∙ violations-after seen c₁ time server (index .0) x ∙ ap (λ (y : Checker). y .violations) (sym (u .is))) w;

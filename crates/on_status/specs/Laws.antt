@@ -164,16 +164,18 @@ module _ {time : SimTime} {server : NodeId} {term : Term} {missing : Missing} {n
               ∙ ap (λ (e : Checker). e .violations) (missing-is time server term missing d))
               (q₂ .to d M w₁) in
               record {
-                leaders = rw en (subst (Held (leaders S) N (leadersAfter n seen) s′) (sym (missing-leaders time server term missing d) ∙ ap (λ (e : Checker). made e .leaders) (sym (u .is))) (u .held (sym ez ∙ tz)));
-                violations = subst (Held violations M k₂ v₂) (ap (λ (e : Checker). made e .violations) (sym (u .is))) w₂;
-                counted = omega (
-                  arith,
-                  missing-total time server term missing (compareLeader (lookup numbers leaderKey (term .0) (c .leaders)) c time server term),
-                  ap (λ (e : Checker). e .total) (u .is),
-                  total-after time server term seen c,
-                  ap oneIf el,
-                  ap oneIf eo,
-                );
+                made = record {
+                  table = rw en (subst (Held (leaders S) N (leadersAfter n seen) s′) (sym (missing-leaders time server term missing d) ∙ ap (λ (e : Checker). made e .leaders) (sym (u .is))) (u .held (sym ez ∙ tz)));
+                  violations = subst (Held violations M k₂ v₂) (ap (λ (e : Checker). made e .violations) (sym (u .is))) w₂;
+                  counted = omega (
+                    arith,
+                    missing-total time server term missing (compareLeader (lookup numbers leaderKey (term .0) (c .leaders)) c time server term),
+                    ap (λ (e : Checker). e .total) (u .is),
+                    total-after time server term seen c,
+                    ap oneIf el,
+                    ap oneIf eo,
+                  );
+                };
                 led = refl;
               };
         }
@@ -209,7 +211,7 @@ module _ {raftChecks : Bool} {time : SimTime} {server : NodeId} {status : Status
   pub status-follows : not r ≡ true → ChecksStatus raftChecks time server status p l m leading b a n kept total (Done n kept total NoTerm) s s v v
   unfolding onStatus termOption
   status-follows t = record {
-    to = λ S lo hi N M L A c log h g q k w. rw (sym e ∙ not-true r t) (record { leaders = h; violations = g; counted = q; led = refl });
+    to = λ S lo hi N M L A c log h g q k w. rw (sym e ∙ not-true r t) (record { made = record { table = h; violations = g; counted = q }; led = refl });
   }
 
   pub status-leads : {led : Bool} {missing : Missing} {x : Checking} {s′ v′ : List ℕ} → not r ≡ false → led ≡ alreadyLeads (termOption leading) (status .term)

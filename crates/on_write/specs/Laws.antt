@@ -30,14 +30,14 @@ use Rattle.log.specs.Payloads.{entry-place, place-start, entry-held, place-term
 use Rattle.checks.specs.declared.Check.the-variants.{UniqueEntries}
 use Rattle.checks.specs.declared.entries.EntrySeen.{EntrySeen}
 use Rattle.checks.specs.declared.entries.EntrySeen.the-variants.{Same, Other, Inserted, Full}
+use Rattle.checks.specs.declared.violations.Checked.{Checked}
+use Rattle.checks.specs.declared.violations.Checked.the-variants.{Done, Past64Bits, NoRoom}
 use Rattle.checks.specs.Checks.{Checker, seenKey, report, reportIf, compareSeen, writtenEntry, onWrite}
 use Rattle.checks.specs.Entries.{seen, seenAfter, noRoom, afterSeen, ComparesSeen}
 use Rattle.checks.specs.Violations.{violations, Keeps}
 use Rattle.checks.specs.Reports.{one-due}
-use Rattle.checks.specs.Outcomes.{oneIf}
-use Rattle.on_write.specs.declared.Writing.{Writing}
-use Rattle.on_write.specs.declared.Writing.the-variants.{Done, Past64Bits, NoRoom}
-use Rattle.on_write.specs.OnWrite.{ReadsTerm, isOther, Outcome, WritesEntry, Writes}
+use Rattle.checks.specs.Outcomes.{oneIf, RowsOutcome}
+use Rattle.on_write.specs.OnWrite.{ReadsTerm, isOther, WritesEntry, Writes}
 
 -- ---- term_at
 
@@ -116,7 +116,7 @@ module _ {p : ℕ} {time : SimTime} {server : NodeId} {index : LogIndex} {term :
       to = λ N M c x k h g t.
           let u = q .to N c time server x k h in
           record {
-            entries = rw (u .is, en) (u .held (sym ez ∙ tz));
+            table = rw (u .is, en) (u .held (sym ez ∙ tz));
             violations = subst (Held violations M k′ v′)
                 (ap (λ (o : Bool). reportIf o c time UniqueEntries (server .0 ∷ index .0 ∷ term .0 ∷ []) .violations) eo
                 ∙ violations-after seen c time server index (entryWith term x) ∙ ap (λ (y : Checker). y .violations) (sym (u .is))) (w .to c M g);
@@ -134,8 +134,8 @@ module _ (p l : ℕ) (time : SimTime) (server : NodeId) (index : LogIndex) (b : 
   write-none e = record { to = λ N M L c log h g t k. by N M c h g t (entryAt log (index .0)) (ap termOption (sym e) ∙ q .to L log k) }
     where
       by : (N M : ℕ) (c : Checker) → Held (seen p) N n s (c .entries) → Held violations M kept v (c .violations) → c .total ≡ total → (o : Option Entry) → none ≡ entryTerm o
-          → Outcome (Done n kept total) p N M n s s v v (writtenEntry o c time server index)
-      by N M c h g t none e = record { entries = h; violations = g; counted = t }
+          → RowsOutcome (Done n kept total) (seen p) (λ (y : Checker). y .entries) N M n s s v v (writtenEntry o c time server index)
+      by N M c h g t none e = record { table = h; violations = g; counted = t }
       by N M c h g t (some d) e = let z : _≡_ {A = ℕ} 0 1 = cc in absurd (omega arith)
 
   module _ (term : Term) (e : r ≡ Some term) where
@@ -145,7 +145,7 @@ module _ (p l : ℕ) (time : SimTime) (server : NodeId) (index : LogIndex) (b : 
     pub term-high : index .0 - 1 < l
     term-high = omega (arith, q .low term e, q .high term e)
 
-    pub write-some : (at : ℕ) (a : Writing) (s′ v′ : List ℕ) → at ≡ (index .0 - 1) * (1 + wordsFor p + 1) → WritesEntry p time server index term (lentRow at (1 + wordsFor p) b) n kept total a s s′ v v′
+    pub write-some : (at : ℕ) (a : Checked) (s′ v′ : List ℕ) → at ≡ (index .0 - 1) * (1 + wordsFor p + 1) → WritesEntry p time server index term (lentRow at (1 + wordsFor p) b) n kept total a s s′ v v′
         → Writes p l time server index b n kept total a s s′ v v′
     unfolding onWrite termOption
     write-some at a s′ v′ ea w = record {
@@ -153,13 +153,13 @@ module _ (p l : ℕ) (time : SimTime) (server : NodeId) (index : LogIndex) (b : 
     }
       where
         by : (N M L : ℕ) (c : Checker) (log : Log) → Held (seen p) N n s (c .entries) → Held violations M kept v (c .violations) → c .total ≡ total → Held (places p) L l b log
-            → (o : Option Entry) → entryAt log (index .0) ≡ o → some term ≡ entryTerm o → Outcome a p N M n s s′ v v′ (writtenEntry o c time server index)
+            → (o : Option Entry) → entryAt log (index .0) ≡ o → some term ≡ entryTerm o → RowsOutcome a (seen p) (λ (y : Checker). y .entries) N M n s s′ v v′ (writtenEntry o c time server index)
         by N M L c log h g t k none eo et = let z : _≡_ {A = ℕ} 0 1 = cc in absurd (omega arith)
         by N M L c log h g t k (some d) eo et =
             let same : term ≡ d .term = cc in
             let x : Holds (payload p) (lentRow at (1 + wordsFor p) b) (d .payload) =
             entry-held p l k (index .0 - 1) at term-high (place-start p (index .0 - 1) at ea) d (sym (entry-place log (index .0) term-low) ∙ eo) in
-            subst (λ (u : Term). Outcome a p N M n s s′ v v′ (compareSeen (lookup pairs seenKey (index .0, u .0) (c .entries)) c time server index (record { term = u; payload = d .payload }))) same
+            subst (λ (u : Term). RowsOutcome a (seen p) (λ (y : Checker). y .entries) N M n s s′ v v′ (compareSeen (lookup pairs seenKey (index .0, u .0) (c .entries)) c time server index (record { term = u; payload = d .payload }))) same
             (w .to N M c (d .payload) x h g t)
 
 pub ruleset writing = (write-none, term-low, term-high, write-some)

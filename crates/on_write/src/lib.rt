@@ -10,6 +10,7 @@ use checks::Check;
 use checks::entries;
 use checks::entries::EntrySeen;
 use checks::violations;
+use checks::violations::Checked;
 use checks::violations::Detail;
 use layout::rows;
 use units::LogIndex;
@@ -17,17 +18,6 @@ use units::NodeId;
 use units::SimTime;
 use units::Term;
 use units::TermOption;
-
-// The counts after it; or the total has no 64 bits, or the entry no room, and nothing changed.
-pub enum Writing {
-    Done {
-        count: usize,
-        kept: usize,
-        total: u64,
-    },
-    Past64Bits,
-    NoRoom,
-}
 
 // Whether there was no room.
 fn no_room(seen: EntrySeen) -> bool
@@ -93,23 +83,23 @@ fn write_entry(
     index: LogIndex,
     term: Term,
     content: &[u8],
-) -> Writing
+) -> Checked
     requires { ⌜ (p ≤ 256) × (8 * (n * (3 + wordsFor p)) ≤ length (now s)) × (2048 ≤ length (now v)) × (length (now content) ≡ 8 * (1 + wordsFor p)) ⌝ }
     ensures { λ r. ⌜ WritesEntry p time server index term (now (content .entry)) n kept total r (now (s .entry)) (now (s .exit)) (now (v .entry)) (now (v .exit)) ⌝ }
 {
     let seen = entries::compare(s, n, p, index, term, content);
     if no_room(seen) {
-        return Writing::NoRoom;
+        return Checked::NoRoom;
     }
     let other = is_other(seen);
     let reports = violations::one_if(other);
     if 18446744073709551615 - reports < total {
-        return Writing::Past64Bits;
+        return Checked::Past64Bits;
     }
     let detail = Detail::Three(server.0, index.0, term.0);
     let kept = violations::keep(v, kept, other, time, Check::UniqueEntries, detail);
     let count = count_after(n, seen);
-    Writing::Done {
+    Checked::Done {
         count,
         kept,
         total: total + reports,
@@ -129,12 +119,12 @@ pub fn on_write(
     log: &[u8],
     l: usize,
     index: LogIndex,
-) -> Writing
+) -> Checked
     requires { ⌜ (p ≤ 256) × (8 * (n * (3 + wordsFor p)) ≤ length (now s)) × (2048 ≤ length (now v)) × (8 * (l * (2 + wordsFor p)) ≤ length (now log)) ⌝ }
     ensures { λ r. ⌜ Writes p l time server index (now (log .entry)) n kept total r (now (s .entry)) (now (s .exit)) (now (v .entry)) (now (v .exit)) ⌝ }
 {
     match term_at(log, l, p, index) {
-        TermOption::None => Writing::Done {
+        TermOption::None => Checked::Done {
             count: n,
             kept,
             total,
