@@ -1,6 +1,6 @@
 -- The first payload applied at each index: every check but that of an applied entry leaves them as they are. Assumes nothing.
 use mathlib.Core.Path.{_≡_, refl, _∙_}
-use mathlib.Core.Bool.{Bool, true, false, not, _&&_}
+use mathlib.Core.Bool.{Bool, not, _&&_}
 use mathlib.Core.List.{List, [], _∷_}
 use mathlib.Core.Option.{Option, none, some}
 use Prim.Native.Nat.{ℕ, zero, suc, _-_}
@@ -20,14 +20,9 @@ use Rattle.protocol.specs.Numbers.{leads}
 use Rattle.protocol.specs.declared.Status.{Status}
 use Rattle.log.specs.Log.{Log, entryAt}
 use Rattle.checks.specs.Checks.{Checker, report, reportIf, compareApplied, recordApplied, onApply, Seen, compareSeen, writtenEntry, onWrite, onWrites, compareLeader, firstMissing, reportMissing, checkLeaderCompleteness, onStatus, alreadyLeads, leaderKey, seenKey, Mismatch, reportMismatch, logMatchingFailure, ServerLog, checkAgainst, checkLogMatching, Acknowledged, AppliedUpTo, checkAcknowledged, highestOf, checkAppliedUpTo, checkDurability, isPayload}
-use Rattle.checks.specs.declared.Check.{Check}
+use Rattle.checks.specs.Reports.{applied-if}
 use Rattle.checks.specs.declared.Check.the-variants.{StateMachineSafety, ApplyOrder, Durability}
 use Rattle.checks.specs.declared.TermLeader.{TermLeader}
-
-report-if-applied : (t : Bool) (c : Checker) (time : SimTime) (check : Check) (detail : List ℕ) → reportIf t c time check detail .applied ≡ c .applied
-unfolding report
-report-if-applied true c time check detail = refl
-report-if-applied false c time check detail = refl
 
 -- ---- written entries
 
@@ -37,7 +32,7 @@ written-applied (some e) c time server index = by (lookup pairs seenKey (index .
   where
     by : (first : Option Seen) → compareSeen first c time server index e .applied ≡ c .applied
     by none = refl
-    by (some first) = report-if-applied (not (samePayload (first .payload) (e .payload))) c time _ _
+    by (some first) = applied-if (not (samePayload (first .payload) (e .payload))) c time _ _
 
 pub on-writes-applied : (c : Checker) (time : SimTime) (server : NodeId) (log : Log) (is : List LogIndex) → onWrites c time server log is .applied ≡ c .applied
 unfolding onWrites onWrite
@@ -49,7 +44,7 @@ on-writes-applied c time server log (i ∷ is) =
 
 leader-applied : (first : Option TermLeader) (c : Checker) (time : SimTime) (server : NodeId) (term : Term) → compareLeader first c time server term .applied ≡ c .applied
 leader-applied none c time server term = refl
-leader-applied (some first) c time server term = report-if-applied (not (eqb (first .server .0) (server .0))) c time _ _
+leader-applied (some first) c time server term = applied-if (not (eqb (first .server .0) (server .0))) c time _ _
 
 missing-applied : (first : Option ℕ) (c : Checker) (time : SimTime) (server : NodeId) (term : Term) → reportMissing first c time server term .applied ≡ c .applied
 unfolding report
@@ -94,14 +89,14 @@ unfolding checkAcknowledged
 acknowledged-applied c time [] = refl
 acknowledged-applied c time (x ∷ xs) =
     let t = not (isPayload (at (c .applied) (x .index .0 - 1)) (x .payload)) in
-    acknowledged-applied (reportIf t c time Durability (x .index .0 ∷ [])) time xs ∙ report-if-applied t c time Durability (x .index .0 ∷ [])
+    acknowledged-applied (reportIf t c time Durability (x .index .0 ∷ [])) time xs ∙ applied-if t c time Durability (x .index .0 ∷ [])
 
 up-to-applied : (c : Checker) (time : SimTime) (highest : ℕ) (xs : List AppliedUpTo) → checkAppliedUpTo c time highest xs .applied ≡ c .applied
 unfolding checkAppliedUpTo
 up-to-applied c time highest [] = refl
 up-to-applied c time highest (x ∷ xs) =
     let detail = x .server .0 ∷ x .upTo ∷ highest ∷ [] in
-    up-to-applied (reportIf (ltb (x .upTo) highest) c time Durability detail) time highest xs ∙ report-if-applied (ltb (x .upTo) highest) c time Durability detail
+    up-to-applied (reportIf (ltb (x .upTo) highest) c time Durability detail) time highest xs ∙ applied-if (ltb (x .upTo) highest) c time Durability detail
 
 pub durability-applied : (c : Checker) (time : SimTime) (xs : List Acknowledged) (ys : List AppliedUpTo) → checkDurability c time xs ys .applied ≡ c .applied
 unfolding checkDurability
@@ -116,7 +111,7 @@ unfolding onApply
 on-apply-applied P c time server index payload expected p h =
     let t = not (eqb (index .0) expected) in
     let detail = server .0 ∷ index .0 ∷ expected ∷ [] in
-    by (index .0) p (reportIf t c time ApplyOrder detail) (rw (report-if-applied t c time ApplyOrder detail) h)
+    by (index .0) p (reportIf t c time ApplyOrder detail) (rw (applied-if t c time ApplyOrder detail) h)
   where
     compared : (first : Option Payload) (d : Checker) (place : ℕ) → P place payload → Each P (d .applied)
         → Each P (compareApplied first d time server place payload .applied)
@@ -125,7 +120,7 @@ on-apply-applied P c time server index payload expected p h =
         (λ e. rw e (each-snoc P (d .applied) payload k (rw (eqb-true place (length (d .applied)) e) at q)))
         (λ e. rw e k)
     compared (some first) d place q k =
-        rw (report-if-applied (not (samePayload first payload)) d time StateMachineSafety (server .0 ∷ suc place ∷ [])) k
+        rw (applied-if (not (samePayload first payload)) d time StateMachineSafety (server .0 ∷ suc place ∷ [])) k
 
     by : (n : ℕ) → ((i : ℕ) → n ≡ suc i → P i payload) → (d : Checker) → Each P (d .applied) → Each P (recordApplied n d time server payload .applied)
     by zero q d k = k

@@ -1,60 +1,43 @@
 -- What the proofs of applied.rt cite. Assumes nothing.
-use mathlib.Core.Path.{_≡_, refl, sym, ap, ap₂, _∙_, subst}
+use mathlib.Core.Path.{_≡_, refl, sym, ap, _∙_, subst}
 use mathlib.Core.Bool.{Bool, true, false}
-use mathlib.Core.List.{List, [], _∷_}
+use mathlib.Core.List.{List}
 use mathlib.Core.Option.{none, some}
 use Prim.Native.Nat.{ℕ, zero, suc, _+_, _-_, _*_, _≤_, _<_}
 use native.Mathlib.Omega.{arith}
 use lib.Dec.{eqb}
-use lib.ListN.{length, getD, take, drop}
+use lib.ListN.{length, getD}
 use lib.Seq.{sets}
 use borrow.Author.Tests.{eq-eqb, ne-eqb}
 use Rattle.laws.specs.Decides.{Decides, false-true}
 use Rattle.laws.specs.Lists.{at}
+use Rattle.laws.specs.ListLaws.{at-there, at-none}
 use Rattle.units.specs.Types.{Payload, noop, samePayload}
 use Rattle.units.specs.declared.NodeId.{NodeId}
 use Rattle.units.specs.declared.LogIndex.{LogIndex}
 use Rattle.units.specs.declared.SimTime.{SimTime}
 use Rattle.layout.specs.Tables.{Holds, Held, append}
-use Rattle.layout.specs.TableLaws.{held-rows, held-length, row-held, append-held}
+use Rattle.layout.specs.TableLaws.{held-rows, held-length, append-held}
+use Rattle.layout.specs.Parts.{lentRow, row-lent}
 use Rattle.layout.specs.Marked.{wordsFor}
 use Rattle.layout.specs.Payload.{payload}
 use Rattle.layout.specs.MarkedLaws.{payloads-same}
 use Rattle.layout.specs.Applied.{applied}
 use Rattle.checks.specs.declared.applied.AppliedSeen.{AppliedSeen}
 use Rattle.checks.specs.declared.applied.AppliedSeen.the-variants.{Same, Other, Appended, Further, Full}
-use Rattle.checks.specs.Checks.{Checker, compareApplied, recordApplied, report}
+use Rattle.checks.specs.Checks.{Checker, recordApplied, report}
 use Rattle.checks.specs.Applied.{appliedAfter, afterApplied, afterRecorded, AppliedCompared, ComparesApplied, AppliedRecorded, RecordsApplied}
-
--- ---- the element at a place
-
-pub at-there : {A : Type 0} (x : List A) (i : ℕ) (d : A) → i < length x → at x i ≡ some (getD x i d)
-unfolding at
-at-there [] i d h = absurd (omega arith)
-at-there (a ∷ x) zero d h = refl
-at-there (a ∷ x) (suc i) d h = at-there x i d (omega arith)
-
-pub at-none : {A : Type 0} (x : List A) (i : ℕ) → length x ≤ i → at x i ≡ none
-unfolding at
-at-none [] i h = refl
-at-none (a ∷ x) zero h = absurd (omega arith)
-at-none (a ∷ x) (suc i) h = at-none x i (omega arith)
 
 -- ---- a payload compared
 
 module _ (p n : ℕ) (b content : List ℕ) (place : ℕ) where
   module _ (l : place < n) (o : ℕ) (a : o ≡ place * (1 + wordsFor p)) (q : Bool)
-      (d : Decides q (take (8 * (o + (1 + wordsFor p)) - 8 * o) (drop (8 * o) b) ≡ content)) where
+      (d : Decides q (lentRow o (1 + wordsFor p) b ≡ content)) where
     there : (N : ℕ) (x : List Payload) → Held (applied p) N n b x → at x place ≡ some (getD x place noop)
     there N x h = at-there x place noop (omega (arith, held-rows h .count))
 
     same : (N : ℕ) (x : List Payload) (y : Payload) → Holds (payload p) content y → Held (applied p) N n b x → samePayload (getD x place noop) y ≡ q
-    same N x y k h =
-        let g = row-held h place noop l in
-        let z : 8 * (o + (1 + wordsFor p)) - 8 * o ≡ 8 * (1 + wordsFor p) = omega arith in
-        let u : Holds (payload p) (take (8 * (o + (1 + wordsFor p)) - 8 * o) (drop (8 * o) b)) (getD x place noop) =
-        record { good = g .good; is = ap₂ (λ (j : ℕ) (m : ℕ). take j (drop (8 * m) b)) z a ∙ g .is } in
-        sym (payloads-same p _ content (getD x place noop) y q u k d)
+    same N x y k h = sym (payloads-same p (lentRow o (1 + wordsFor p) b) content (getD x place noop) y q (row-lent h place o noop l a) k d)
 
     pub applied-same : q ≡ true → ComparesApplied p place content n Same b b
     applied-same g = record {

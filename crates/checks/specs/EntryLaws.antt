@@ -6,18 +6,17 @@ use mathlib.Core.Option.{some}
 use Prim.Native.Nat.{ℕ, _+_, _-_, _*_, _^_, _≤_, _<_}
 use native.Mathlib.Omega.{arith}
 use lib.Dec.{leb}
-use lib.ListN.{length, getD, take, drop, length-drop}
-use lib.Seq.{sets, getD-drop, drop-at, take-all}
+use lib.ListN.{length, getD, take, drop}
+use lib.Seq.{sets, getD-drop}
 use mir.Syntax.{w64}
 use mir.Val.{Fits}
 use borrow.Author.Tests.{lt-ltb, le-leb, lt-leb}
-use Rattle.laws.specs.Bools.{_and_, and-left, and-right, and-both, no-and, and-no, true-and, and-true}
+use Rattle.laws.specs.Bools.{_and_, and-both, no-and, and-no, true-and, and-true}
 use Rattle.laws.specs.Decides.{Decides, false-true}
 use Rattle.laws.specs.Order.{pairs, rising, lookup}
 use Rattle.words.specs.Words.{bytes, W, Bytes}
-use Rattle.words.specs.Sets.{sets-append, part-part}
-use Rattle.words.specs.Numbers.{each-drop}
-use Rattle.words.specs.Lift.{length-bytes, bytes-append, length-W, W-fit, W-part}
+use Rattle.words.specs.Sets.{sets-append}
+use Rattle.words.specs.Lift.{length-bytes, bytes-append}
 use Rattle.units.specs.Types.{Payload, noop, samePayload}
 use Rattle.units.specs.declared.NodeId.{NodeId}
 use Rattle.units.specs.declared.Term.{Term}
@@ -25,45 +24,19 @@ use Rattle.units.specs.declared.LogIndex.{LogIndex}
 use Rattle.units.specs.declared.SimTime.{SimTime}
 use Rattle.layout.specs.declared.rows.Found.{Found}
 use Rattle.layout.specs.declared.rows.Found.the-variants.{At, Absent}
-use Rattle.layout.specs.Code.{Code, word, pair}
+use Rattle.layout.specs.Code.{word, pair}
 use Rattle.layout.specs.Tables.{Holds, Held, opened, rowsIn}
-use Rattle.layout.specs.Contents.{ok-prefix}
-use Rattle.layout.specs.TableLaws.{rows-are, row-held, held-length, rowed-start, rowed-done}
+use Rattle.layout.specs.TableLaws.{rows-are, held-length, rowed-start, rowed-done}
 use Rattle.layout.specs.Order.{find, two, heads}
 use Rattle.layout.specs.RowLaws.{heads-are}
 use Rattle.layout.specs.SortedTables.{Keyed, keyed-insert, found-inside, found-row, found-none}
 use Rattle.layout.specs.Marked.{wordsFor}
-use Rattle.layout.specs.Parts.{lent-fine, lent-fails}
+use Rattle.layout.specs.Parts.{lentRow, row-lent, pair-second, part-ok, lent-fine, lent-fails}
 use Rattle.layout.specs.Payload.{payload}
 use Rattle.layout.specs.MarkedLaws.{payloads-same}
 use Rattle.checks.specs.declared.entries.EntrySeen.the-variants.{Same, Other, Inserted, Full}
 use Rattle.checks.specs.Checks.{Checker, Seen, seenKey, compareSeen, report}
 use Rattle.checks.specs.Entries.{seenParts, toParts, seenRow, seen, indexWithin, seenIn, withSeen, ComparesSeen}
-
--- ---- the second of two parts of a row
-
--- what is lent of it, and its test
-pub part-held : {A B : Type 0} (c : Code A) (d : Code B) (b : List ℕ) (at e : ℕ) (x : A) (y : B) → e ≡ at + (c .size + d .size) → Holds (pair c d) (take (8 * (c .size + d .size)) (drop (8 * at) b)) (x, y)
-    → Holds d (take (8 * e - 8 * (at + c .size)) (drop (8 * (at + c .size)) b)) y
-part-held c d b at e x y q h =
-    let m : ℕ = 8 * e - 8 * (at + c .size) in
-    let lc : length (c .enc x) ≡ c .size = c .size-enc x (and-left _ _ (h .good)) in
-    let ld : length (d .enc y) ≡ d .size = d .size-enc y (and-right _ _ (h .good)) in
-    let o : 8 * at + 8 * c .size ≡ 8 * (at + c .size) = omega arith in
-    record {
-      good = and-right _ _ (h .good);
-      is = ap (λ (j : ℕ). take m (drop j b)) (sym o)
-          ∙ sym (part-part b (8 * at) (8 * (c .size + d .size)) (8 * c .size) m (omega arith))
-          ∙ ap (λ (l : List ℕ). take m (drop (8 * c .size) l)) (h .is ∙ bytes-append (c .enc x) (d .enc y))
-          ∙ ap (take m) (drop-at (bytes (c .enc x)) (bytes (d .enc y)) (8 * c .size) (length-bytes (c .enc x) ∙ ap (λ (j : ℕ). 8 * j) lc))
-          ∙ take-all m (bytes (d .enc y)) (omega (arith, length-bytes (d .enc y)));
-    }
-
-pub part-ok : {T : Type 0} (d : Code T) (s : List ℕ) (a e : ℕ) → Bytes s → e ≡ a + d .size → 8 * e ≤ length s → d .ok (W (take (8 * e - 8 * a) (drop (8 * a) s))) ≡ d .ok (drop a (W s))
-part-ok d s a e B q r =
-    let w : e - a ≡ d .size = omega arith in
-    ap (d .ok) (W-part s a e B (omega arith) r ∙ ap (λ (j : ℕ). take j (drop a (W s))) w)
-    ∙ ok-prefix d (drop a (W s)) (each-drop a (W s) (W-fit s B)) (omega (arith, length-drop a (W s), length-W s))
 
 -- ---- the key of a row is its first two words
 
@@ -94,12 +67,9 @@ module _ (p n : ℕ) (b content : List ℕ) (index : LogIndex) (term : Term) (f 
     same : (N : ℕ) (x : List Seen) (y : Payload) → Holds (payload p) content y → Held (seen p) N n b x → samePayload (getD x i noSeen .payload) y ≡ q
     same N x y k h =
         let s : Seen = getD x i noSeen in
-        let g = row-held h i noSeen (found-inside pairs (index .0, term .0) two (w p) n (W b) f i e t) in
-        let z : 8 * w p ≡ 8 * (2 + (1 + wordsFor p)) = omega arith in
-        let is : take (8 * (2 + (1 + wordsFor p))) (drop (8 * at) b) ≡ bytes (seenParts p .enc (toParts s)) =
-        ap₂ (λ (j : ℕ) (m : ℕ). take j (drop (8 * m) b)) (sym z) a ∙ g .is in
-        let u : Holds (seenParts p) (take (8 * (2 + (1 + wordsFor p))) (drop (8 * at) b)) (toParts s) = record { good = g .good; is = is } in
-        sym (payloads-same p _ content (s .payload) y q (part-held (pair word word) (payload p) b at (at + w p) (toParts s .0) (s .payload) (omega arith) u) k d)
+        let g = row-lent h i at noSeen (found-inside pairs (index .0, term .0) two (w p) n (W b) f i e t) a in
+        let u : Holds (seenParts p) (lentRow at (w p) b) (toParts s) = record { good = g .good; is = g .is } in
+        sym (payloads-same p _ content (s .payload) y q (pair-second (pair word word) (payload p) b at (w p) (omega arith) u) k d)
 
     pub entry-same : q ≡ true → ComparesSeen p index term content n Same b b
     entry-same g = record {

@@ -1,17 +1,17 @@
 -- What the proofs of leaders.rt cite. Assumes nothing.
-use mathlib.Core.Path.{_≡_, refl, sym, ap, _∙_, subst}
-use mathlib.Core.Bool.{Bool, true, false, not}
-use mathlib.Core.List.{List, [], _∷_, map}
-use mathlib.Core.Option.{Option, none, some}
+use mathlib.Core.Path.{_≡_, refl, sym, ap, _∙_}
+use mathlib.Core.Bool.{Bool, true, false}
+use mathlib.Core.List.{List, [], _∷_}
+use mathlib.Core.Option.{some}
 use Prim.Native.Nat.{ℕ, _+_, _-_, _*_, _^_, _≤_, _<_}
 use native.Mathlib.Omega.{arith}
 use lib.Dec.{leb, eqb}
 use lib.ListN.{length, getD, drop}
-use lib.Seq.{sets, getD-drop, drop-drop}
+use lib.Seq.{sets, getD-drop}
 use mir.Syntax.{w64}
 use mir.Val.{Fits}
 use borrow.Author.Tests.{lt-ltb, le-leb, lt-leb, eq-eqb, ne-eqb}
-use Rattle.laws.specs.Bools.{_and_, and-both, and-no, no-and}
+use Rattle.laws.specs.Bools.{and-both, and-no, no-and}
 use Rattle.laws.specs.Decides.{false-true}
 use Rattle.laws.specs.Order.{numbers, rising, lookup, insertBy}
 use Rattle.words.specs.Words.{bytes, W}
@@ -29,7 +29,7 @@ use Rattle.layout.specs.SortedTables.{Keyed, keyed-insert, found-inside, found-
 use Rattle.checks.specs.declared.TermLeader.{TermLeader}
 use Rattle.checks.specs.declared.leaders.LeaderSeen.the-variants.{Same, Other, Inserted, Full}
 use Rattle.checks.specs.Checks.{Checker, leaderKey, compareLeader, report, withLeaders}
-use Rattle.checks.specs.Leaders.{leaderRow, leaders, afterLeader, LeaderCompared, ComparesLeader}
+use Rattle.checks.specs.Leaders.{leaderRow, leaders, afterLeader, ComparesLeader}
 
 -- the key of a row is its first word
 pub leader-read : (ws : List ℕ) → one ws ≡ leaderKey (leaderRow .parse ws)

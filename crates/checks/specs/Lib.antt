@@ -1,13 +1,11 @@
 pub mod Checks
 pub mod Reports
-pub mod UpTo
 pub mod Violations
 pub mod ViolationLaws
+pub mod Outcomes
 pub mod Leaders
 pub mod LeaderLaws
 pub mod Entries
 pub mod EntryLaws
 pub mod Applied
 pub mod AppliedLaws
-pub mod OnApply
-pub mod OnApplyLaws

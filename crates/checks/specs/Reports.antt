@@ -2,14 +2,16 @@
 use mathlib.Core.Path.{_≡_, refl, sym, _∙_}
 use mathlib.Core.Bool.{Bool, true, false}
 use mathlib.Core.List.{List, [], _∷_, _++_, append-assoc, append-nil}
-use Prim.Native.Nat.{ℕ, _+_, _≤_, min}
+use Prim.Native.Nat.{ℕ, _+_, _≤_, _<_, min}
 use native.Mathlib.Omega.{arith}
 use lib.Dec.{ltb}
 use lib.ListN.{length, take, replicate, length-append, length-take}
 use lib.Seq.{take-all, take-append-le}
 use borrow.Author.Tests.{ltb-true, ltb-false}
 use Rattle.laws.specs.Bools.{pick}
-use Rattle.checks.specs.Checks.{Checker, Violation, newChecker, maxRecorded, report}
+use Rattle.units.specs.declared.SimTime.{SimTime}
+use Rattle.checks.specs.Checks.{Checker, Violation, newChecker, maxRecorded, report, reportIf}
+use Rattle.checks.specs.declared.Check.{Check}
 use Rattle.checks.specs.declared.Check.the-variants.{ElectionSafety}
 
 -- Violations reported in order.
@@ -24,6 +26,22 @@ reports n = reportAll newChecker (replicate n (record { time = record { 0 = 0 };
 pub report-total : (c : Checker) (v : Violation) → report c (v .time) (v .check) (v .detail) .total ≡ c .total + 1
 unfolding report
 report-total c v = refl
+
+-- a violation that is due, or none: the total, and the payloads that it leaves
+pub total-if : (t : Bool) (c : Checker) (time : SimTime) (k : Check) (d : List ℕ) → reportIf t c time k d .total ≡ c .total + pick t 1 0
+unfolding report
+total-if true c time k d = refl
+total-if false c time k d = omega arith
+
+pub applied-if : (t : Bool) (c : Checker) (time : SimTime) (k : Check) (d : List ℕ) → reportIf t c time k d .applied ≡ c .applied
+unfolding report
+applied-if true c time k d = refl
+applied-if false c time k d = refl
+
+-- what was counted was due
+pub one-due : (t : Bool) (n : ℕ) → n ≡ pick t 1 0 → 0 < n → t ≡ true
+one-due true n e h = refl
+one-due false n e h = absurd (omega arith)
 
 pub all-counted : (c : Checker) (vs : List Violation) → reportAll c vs .total ≡ c .total + length vs
 unfolding reportAll report

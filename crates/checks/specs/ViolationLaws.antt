@@ -16,18 +16,17 @@ use Rattle.words.specs.Words.{bytes, W, allz}
 use Rattle.words.specs.Sets.{take-drop}
 use Rattle.units.specs.declared.SimTime.{SimTime}
 use Rattle.layout.specs.Code.{okN}
+use Rattle.layout.specs.UpTo.{is64, is64-fits, getD-padded}
 use Rattle.layout.specs.Tables.{Held, Gives, append, rowsIn}
-use Rattle.layout.specs.TableLaws.{held-rows, append-held, length-rowsIn, Rowed, rowed-start, rowed-turn, rowed-fail, rowed-done}
+use Rattle.layout.specs.TableLaws.{held-rows, row-word, append-held, length-rowsIn, Rowed, rowed-start, rowed-turn, rowed-fail, rowed-done}
 use Rattle.checks.specs.declared.Check.{Check}
 use Rattle.checks.specs.declared.Check.the-variants.{ElectionSafety, StateMachineSafety, ApplyOrder, UniqueEntries, Durability, Liveness, LogMatching, LeaderCompleteness}
 use Rattle.checks.specs.declared.violations.Detail.{Detail}
 use Rattle.checks.specs.declared.violations.Detail.the-variants.{One, Two, Three, Five}
-use Rattle.checks.specs.declared.violations.Tally.{Tally}
 use Rattle.checks.specs.declared.violations.Tally.the-variants.{Counted, Past64Bits}
 use Rattle.checks.specs.declared.violations.Violation.{Violation as Numbers}
-use Rattle.checks.specs.Checks.{Checker, Violation, checkNumber, maxRecorded, report}
-use Rattle.checks.specs.UpTo.{is64, word-held, getD-padded}
-use Rattle.checks.specs.Violations.{violationRow, violations, detailOf, given, noViolation, keptAfter, tally, Keeps, Reports}
+use Rattle.checks.specs.Checks.{Violation, checkNumber, maxRecorded, report}
+use Rattle.checks.specs.Violations.{violationRow, violations, detailOf, given, noViolation, tally, Keeps, Reports}
 
 -- ---- a violation as its numbers
 
@@ -77,9 +76,6 @@ module _ (time : SimTime) (check : Check) (detail : Detail) where
       by (Two a b) = refl
       by (Three a b c) = refl
       by (Five a b c d e) = refl
-
-  is64-fits : (n : ℕ) → Fits w64 n → is64 n ≡ true
-  is64-fits n f = lt-ltb n (2 ^ 64) (f .fits)
 
   detail-fine : (d : Detail) → Fits w64 (getD (detailOf d) 0 0) → Fits w64 (getD (detailOf d) 1 0) → Fits w64 (getD (detailOf d) 2 0) → Fits w64 (getD (detailOf d) 3 0) → Fits w64 (getD (detailOf d) 4 0)
       → (leb (length (detailOf d)) 5 and every is64 (detailOf d)) ≡ true
@@ -157,14 +153,14 @@ module _ (b : List ℕ) (n k : ℕ) (h : k < n) where
     to = λ N x held.
         let a : Violation = getD x k noViolation in
         let pad : ℕ = 5 - length (a .detail) in
-        let e0 : t ≡ a .time .0 = et ∙ ap (λ (j : ℕ). getD (W b) j 0) (sym (add-zero (k * 8))) ∙ word-held held k 0 noViolation h (omega arith) in
-        let e1 : c ≡ checkNumber (a .check) = ec ∙ word-held held k 1 noViolation h (omega arith) in
-        let e2 : m ≡ length (a .detail) = em ∙ word-held held k 2 noViolation h (omega arith) in
-        let e3 : p ≡ getD (a .detail) 0 0 = ep ∙ word-held held k 3 noViolation h (omega arith) ∙ getD-padded (a .detail) pad 0 in
-        let e4 : q ≡ getD (a .detail) 1 0 = eq ∙ word-held held k 4 noViolation h (omega arith) ∙ getD-padded (a .detail) pad 1 in
-        let e5 : r ≡ getD (a .detail) 2 0 = er ∙ word-held held k 5 noViolation h (omega arith) ∙ getD-padded (a .detail) pad 2 in
-        let e6 : u ≡ getD (a .detail) 3 0 = eu ∙ word-held held k 6 noViolation h (omega arith) ∙ getD-padded (a .detail) pad 3 in
-        let e7 : z ≡ getD (a .detail) 4 0 = ez ∙ word-held held k 7 noViolation h (omega arith) ∙ getD-padded (a .detail) pad 4 in
+        let e0 : t ≡ a .time .0 = et ∙ ap (λ (j : ℕ). getD (W b) j 0) (sym (add-zero (k * 8))) ∙ row-word held k 0 noViolation h (omega arith) in
+        let e1 : c ≡ checkNumber (a .check) = ec ∙ row-word held k 1 noViolation h (omega arith) in
+        let e2 : m ≡ length (a .detail) = em ∙ row-word held k 2 noViolation h (omega arith) in
+        let e3 : p ≡ getD (a .detail) 0 0 = ep ∙ row-word held k 3 noViolation h (omega arith) ∙ getD-padded (a .detail) pad 0 in
+        let e4 : q ≡ getD (a .detail) 1 0 = eq ∙ row-word held k 4 noViolation h (omega arith) ∙ getD-padded (a .detail) pad 1 in
+        let e5 : r ≡ getD (a .detail) 2 0 = er ∙ row-word held k 5 noViolation h (omega arith) ∙ getD-padded (a .detail) pad 2 in
+        let e6 : u ≡ getD (a .detail) 3 0 = eu ∙ row-word held k 6 noViolation h (omega arith) ∙ getD-padded (a .detail) pad 3 in
+        let e7 : z ≡ getD (a .detail) 4 0 = ez ∙ row-word held k 7 noViolation h (omega arith) ∙ getD-padded (a .detail) pad 4 in
         rw (e0, e1, e2, e3, e4, e5, e6, e7);
   }
 

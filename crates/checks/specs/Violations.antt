@@ -12,6 +12,7 @@ use Rattle.laws.specs.Lists.{listFrom}
 use Rattle.units.specs.declared.SimTime.{SimTime}
 use Rattle.layout.specs.Code.{Code, word, pair, iso, such}
 use Rattle.layout.specs.Tables.{Table, Held}
+use Rattle.layout.specs.UpTo.{upTo}
 use Rattle.checks.specs.declared.Check.{Check}
 use Rattle.checks.specs.declared.Check.the-variants.{ElectionSafety, StateMachineSafety, ApplyOrder, UniqueEntries, Durability, Liveness, LogMatching, LeaderCompleteness}
 use Rattle.checks.specs.declared.violations.Detail.{Detail}
@@ -20,7 +21,6 @@ use Rattle.checks.specs.declared.violations.Tally.{Tally}
 use Rattle.checks.specs.declared.violations.Tally.the-variants.{Counted, Past64Bits}
 use Rattle.checks.specs.declared.violations.Violation.{Violation as Numbers}
 use Rattle.checks.specs.Checks.{Checker, Violation, checkNumber, maxRecorded, report, reportIf}
-use Rattle.checks.specs.UpTo.{upTo}
 
 -- ---- a row
 

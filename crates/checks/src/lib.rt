@@ -7,7 +7,6 @@ use units::Term;
 pub mod leaders; // the leader of each term: a table sorted by term
 pub mod applied; // the first payload applied at each place
 pub mod entries; // the first payload under each index and term: a table sorted by both
-pub mod on_apply; // a server applied a payload
 pub mod violations; // violations reported: a table of the first 32
 
 // The properties the simulator checks.

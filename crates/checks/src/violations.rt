@@ -7,6 +7,7 @@ ghost use Rattle.laws.specs.Decides.{Decides};
 ghost use Rattle.words.specs.Words.{W};
 ghost use Rattle.layout.specs.Code.{okN};
 ghost use Rattle.layout.specs.Tables.{Tabled, Gives};
+ghost use Rattle.checks.specs.Outcomes.{oneIf};
 ghost use Rattle.checks.specs.Violations.{violationRow, violations, detailOf, given, noViolation, Keeps, Reports};
 use crate::Check;
 use layout::rows;
@@ -36,6 +37,24 @@ pub struct Violation {
 pub enum Tally {
     Counted { kept: usize, total: u64 },
     Past64Bits,
+}
+
+// The same of a check that has a table of its own, and how many rows this has; or a row has no room.
+pub enum Checked {
+    Done {
+        count: usize,
+        kept: usize,
+        total: u64,
+    },
+    Past64Bits,
+    NoRoom,
+}
+
+// One where a violation is due: reports are counted before any is kept.
+pub fn one_if(due: bool) -> u64
+    ensures { λ r. ⌜ (r ≡ oneIf due) × (r ≤ 1) ⌝ }
+{
+    if due { 1 } else { 0 }
 }
 
 // A violation as its numbers.

@@ -9,6 +9,7 @@ use lib.ListN.{length, getD, take, drop, replicate, length-append, length-drop, 
 use lib.Seq.{sets, length-take-le, take-all}
 use Rattle.laws.specs.Decides.{Decides}
 use Rattle.laws.specs.Lists.{at}
+use Rattle.laws.specs.ListLaws.{at-there, at-none}
 use Rattle.words.specs.Words.{bytesOf, Bytes}
 use Rattle.words.specs.Sets.{sets-at}
 use Rattle.words.specs.Numbers.{length-bytesOf, bytesOf-each, each-append, each-zeros}
@@ -17,14 +18,14 @@ use Rattle.units.specs.declared.LogIndex.{LogIndex}
 use Rattle.client.specs.Key.{encode}
 use Rattle.client.specs.Laws.{encode-length}
 use Rattle.layout.specs.Tables.{Holds, Gives}
-use Rattle.layout.specs.TableLaws.{held-rows, row-held}
+use Rattle.layout.specs.TableLaws.{held-rows}
+use Rattle.layout.specs.Parts.{lentRow, row-lent}
 use Rattle.layout.specs.Marked.{wordsFor, sounds}
 use Rattle.layout.specs.Payload.{payload, payloadMarking}
 use Rattle.layout.specs.MarkedCalls.{laid, Puts}
 use Rattle.layout.specs.MarkedLaws.{puts, payloads-same}
 use Rattle.layout.specs.Applied.{applied}
 use Rattle.checks.specs.Checks.{isPayload}
-use Rattle.checks.specs.AppliedLaws.{at-there, at-none}
 use Rattle.durability.specs.declared.replies.Reply.{Reply}
 use Rattle.durability.specs.Acknowledged.{rebuilt, Encodes, placeOf, isApplied}
 
@@ -112,7 +113,7 @@ module _ (reply : Reply) (p m size : ℕ) (a : List ℕ) (place : ℕ) (e : plac
   }
 
   pub row-compared : (b content : List ℕ) (o : ℕ) (q : Bool) → place < m → 12 ≤ p → p ≤ 256 → size ≤ p → length b ≡ 8 * (1 + wordsFor p) → Puts payloadMarking (rebuilt size reply) b content
-      → o ≡ place * (1 + wordsFor p) → Decides q (take (8 * (o + (1 + wordsFor p)) - 8 * o) (drop (8 * o) a) ≡ content)
+      → o ≡ place * (1 + wordsFor p) → Decides q (lentRow o (1 + wordsFor p) a ≡ content)
       → Gives (applied p) m a q (isApplied size reply)
   unfolding isApplied
   row-compared b content o q l h₁ h₂ h₃ len put eo d = record {
@@ -121,11 +122,7 @@ module _ (reply : Reply) (p m size : ℕ) (a : List ℕ) (place : ℕ) (e : plac
         let long : length y ≡ max size 12 = encode-length (reply .client) (reply .seq) size in
         let k : Holds (payload p) content (command y) =
         put .to p len (sounds payloadMarking p (command y) (record { marked = omega arith; short = omega arith; each = encode-each (reply .client) (reply .seq) size })) in
-        let g = row-held h place noop l in
-        let z : 8 * (o + (1 + wordsFor p)) - 8 * o ≡ 8 * (1 + wordsFor p) = omega arith in
-        let u : Holds (payload p) (take (8 * (o + (1 + wordsFor p)) - 8 * o) (drop (8 * o) a)) (getD x place noop) =
-        record { good = g .good; is = ap₂ (λ (j : ℕ) (i : ℕ). take j (drop (8 * i) a)) z eo ∙ g .is } in
-        payloads-same p _ content (getD x place noop) (command y) q u k d
+        payloads-same p (lentRow o (1 + wordsFor p) a) content (getD x place noop) (command y) q (row-lent h place o noop l eo) k d
         ∙ ap (λ (v : Option Payload). isPayload v (command y)) (sym (ap (at x) (sym e) ∙ at-there x place noop (omega (arith, held-rows h .count))));
   }
 

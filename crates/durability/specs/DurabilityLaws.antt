@@ -1,33 +1,26 @@
 -- What the proof of check_durability cites. Assumes nothing.
 use mathlib.Core.Path.{_≡_, refl, ap, _∙_, subst}
-use mathlib.Core.Bool.{Bool, true, false, not}
+use mathlib.Core.Bool.{Bool, not}
 use mathlib.Core.List.{List, [], _∷_}
 use Prim.Native.Nat.{ℕ, suc, _+_, _-_, _≤_, _<_}
 use native.Mathlib.Omega.{arith}
 use lib.Dec.{ltb}
-use Rattle.laws.specs.Bools.{pick}
 use Rattle.laws.specs.Lists.{at}
 use Rattle.units.specs.declared.SimTime.{SimTime}
 use Rattle.layout.specs.Tables.{Held}
 use Rattle.layout.specs.Applied.{applied}
-use Rattle.checks.specs.declared.Check.{Check}
 use Rattle.checks.specs.declared.Check.the-variants.{Durability}
 use Rattle.checks.specs.declared.violations.Tally.the-variants.{Counted, Past64Bits}
-use Rattle.checks.specs.Checks.{Checker, Acknowledged, isPayload, report, reportIf, checkAcknowledged, highestOf, checkAppliedUpTo, checkDurability}
+use Rattle.checks.specs.Checks.{Checker, Acknowledged, isPayload, reportIf, checkAcknowledged, highestOf, checkAppliedUpTo, checkDurability}
 use Rattle.checks.specs.Violations.{violations}
+use Rattle.checks.specs.Reports.{total-if, applied-if}
 use Rattle.durability.specs.declared.replies.Reply.{Reply}
 use Rattle.durability.specs.Replies.{Replied}
 use Rattle.durability.specs.Acknowledged.{acknowledgedFrom, placeOf, missing, CountsMissing, Highest, ReportsMissing}
 use Rattle.durability.specs.Servers.{serversFrom, below, ReportsBelow}
-use Rattle.durability.specs.MissingLaws.{applied-if}
 use Rattle.durability.specs.Durability.{ChecksDurability}
 
 -- ---- totals
-
-total-if : (t : Bool) (c : Checker) (time : SimTime) (k : Check) (d : List ℕ) → reportIf t c time k d .total ≡ c .total + pick t 1 0
-unfolding report
-total-if true c time k d = refl
-total-if false c time k d = omega arith
 
 total-acknowledged : (c : Checker) (time : SimTime) (x : List Acknowledged) → checkAcknowledged c time x .total ≡ c .total + missing (c .applied) x
 unfolding checkAcknowledged missing placeOf
@@ -59,14 +52,14 @@ module _ (p size n m : ℕ) (time : SimTime) (kept total : ℕ) (upTo : List ℕ
   all c x h g t = omega (arith, total-servers (checkAcknowledged c time (acknowledgedFrom size x)) time (highestOf (acknowledgedFrom size x)) 1 upTo, after c x h g t)
 
   pub commands-past : 18446744073709551615 - lost < total → ChecksDurability p size n m time kept total upTo Past64Bits s a v v
-  commands-past l = record { to = λ N M c x h g w t. record { same = refl; why = omega (arith, all c x h g t) } }
+  commands-past l = record { to = λ N M c x h g w t. record { same = refl; past = omega (arith, all c x h g t) } }
 
   module _ (l : total ≤ 18446744073709551615 - lost) (top few : ℕ) (ht : Highest n top s) (eb : few ≡ below top upTo) where
     count-is : (x : List Reply) → Replied n s x → few ≡ below (highestOf (acknowledgedFrom size x)) upTo
     count-is x h = eb ∙ ap (λ (k : ℕ). below k upTo) (ht .to size x h)
 
     pub servers-past : 18446744073709551615 - few < total + lost → ChecksDurability p size n m time kept total upTo Past64Bits s a v v
-    servers-past q = record { to = λ N M c x h g w t. record { same = refl; why = omega (arith, all c x h g t, count-is x h) } }
+    servers-past q = record { to = λ N M c x h g w t. record { same = refl; past = omega (arith, all c x h g t, count-is x h) } }
 
     pub durability-done : (k₁ k₂ : ℕ) (v₁ v₂ : List ℕ) → total + lost ≤ 18446744073709551615 - few → ReportsMissing p size n m time kept k₁ s a v v₁ → ReportsBelow time top upTo k₁ k₂ v₁ v₂
         → ChecksDurability p size n m time kept total upTo (Counted k₂ (total + lost + few)) s a v v₂

@@ -1,6 +1,6 @@
 -- What the proofs of the loops of acknowledged.rt cite. Assumes nothing.
 use mathlib.Core.Path.{_≡_, refl, sym, ap, _∙_, subst}
-use mathlib.Core.Bool.{Bool, true, false, not}
+use mathlib.Core.Bool.{Bool, not}
 use mathlib.Core.List.{List, [], _∷_}
 use mathlib.Core.Option.{some}
 use Prim.Native.Nat.{ℕ, zero, suc, _+_, _*_, _≤_, _<_, max}
@@ -15,10 +15,10 @@ use Rattle.layout.specs.Tables.{Held, Gives}
 use Rattle.layout.specs.TableLaws.{held-rows}
 use Rattle.layout.specs.Marked.{wordsFor}
 use Rattle.layout.specs.Applied.{applied}
-use Rattle.checks.specs.declared.Check.{Check}
 use Rattle.checks.specs.declared.Check.the-variants.{Durability}
-use Rattle.checks.specs.Checks.{Checker, report, reportIf, checkAcknowledged, highestOf}
+use Rattle.checks.specs.Checks.{Checker, reportIf, checkAcknowledged, highestOf}
 use Rattle.checks.specs.Violations.{violations, Keeps}
+use Rattle.checks.specs.Reports.{applied-if}
 use Rattle.durability.specs.declared.replies.Reply.{Reply}
 use Rattle.durability.specs.Replies.{Replied, Reads}
 use Rattle.durability.specs.Acknowledged.{acknowledgedFrom, placeOf, isApplied, missing, CountsMissing, Highest, ReportsMissing}
@@ -100,11 +100,6 @@ rising-done {best = best} c l = record {
 pub ruleset rising = (rising-start, rising-turn, rising-done)
 
 -- ---- the commands that are missing, reported
-
-pub applied-if : (t : Bool) (c : Checker) (time : SimTime) (k : Check) (d : List ℕ) → reportIf t c time k d .applied ≡ c .applied
-unfolding report
-applied-if true c time k d = refl
-applied-if false c time k d = refl
 
 -- the checks after some of the replies x: v holds their violations, and with the rest they become what all of x makes of c
 pub record Reached (size : ℕ) (time : SimTime) (M kept : ℕ) (v : List ℕ) (c : Checker) (x rest : List Reply) : Type 0 where

@@ -1,8 +1,8 @@
 -- What the proofs of replies.rt cite. Assumes nothing.
 use mathlib.Core.Path.{_≡_, refl, sym, ap, _∙_}
-use mathlib.Core.Bool.{true, false}
+use mathlib.Core.Bool.{false}
 use mathlib.Core.List.{List, [], _∷_}
-use Prim.Native.Nat.{ℕ, _+_, _-_, _*_, _^_, _≤_, _<_}
+use Prim.Native.Nat.{ℕ, _+_, _-_, _*_, _≤_, _<_}
 use native.Mathlib.Nat.{add-zero}
 use native.Mathlib.Omega.{arith}
 use lib.Dec.{leb, ltb}
@@ -12,10 +12,11 @@ use mir.Syntax.{w64}
 use mir.Val.{Fits}
 use borrow.Author.Tests.{lt-ltb, le-ltb, le-leb, lt-leb}
 use Rattle.laws.specs.Bools.{and-both, and-no, no-and}
+use Rattle.laws.specs.ListLaws.{at-there}
 use Rattle.words.specs.Words.{bytes, W}
 use Rattle.layout.specs.Code.{okN}
+use Rattle.layout.specs.UpTo.{is64-fits}
 use Rattle.layout.specs.TableLaws.{held-rows, held-length, row-word, append-held, Rowed, rowed-start, rowed-turn, rowed-fail, rowed-done}
-use Rattle.checks.specs.AppliedLaws.{at-there}
 use Rattle.durability.specs.declared.replies.Reply.{Reply}
 use Rattle.durability.specs.declared.replies.Appending.the-variants.{Appended, Full}
 use Rattle.durability.specs.Replies.{replies, Appends, Reads}
@@ -34,13 +35,10 @@ module _ (reply : Reply) (n : ℕ) (b : List ℕ) where
     to = λ L C p q N x h. record {
       count = refl;
       held = append-held h (omega arith) reply b′
-          (and-both _ _ (and-both _ _ (is64 f₁) (and-both _ _ (is64 f₂) (and-both _ _ (is64 f₃) (and-both _ _ (is64 f₄) (is64 f₅))))) (and-both _ _ (le-leb (reply .index .0) L p) (lt-ltb (reply .client) C q)))
+          (and-both _ _ (and-both _ _ (is64-fits _ f₁) (and-both _ _ (is64-fits _ f₂) (and-both _ _ (is64-fits _ f₃) (and-both _ _ (is64-fits _ f₄) (is64-fits _ f₅))))) (and-both _ _ (le-leb (reply .index .0) L p) (lt-ltb (reply .client) C q)))
           refl e;
     };
   }
-    where
-      is64 : {n : ℕ} → Fits w64 n → ltb n (2 ^ 64) ≡ true
-      is64 {n} f = lt-ltb n (2 ^ 64) (f .fits)
 
 pub ruleset appending = (append-full, append-row)
 

@@ -6,17 +6,14 @@ use native.Mathlib.Numerals.{add-one}
 use native.Mathlib.Omega.{arith}
 use lib.Dec.{ltb}
 use lib.ListN.{length, getD, drop, drop-of-length-le}
-use lib.Seq.{drop-cons}
 use Rattle.laws.specs.Bools.{pick}
+use Rattle.laws.specs.ListLaws.{drop-next}
 use Rattle.units.specs.declared.SimTime.{SimTime}
 use Rattle.layout.specs.Tables.{Held}
 use Rattle.checks.specs.declared.Check.the-variants.{Durability}
 use Rattle.checks.specs.Checks.{Checker, reportIf, checkAppliedUpTo}
 use Rattle.checks.specs.Violations.{violations, Keeps}
 use Rattle.durability.specs.Servers.{serversFrom, below, ReportsBelow}
-
-from-place : (l : List ℕ) (i : ℕ) → i < length l → drop i l ≡ getD l i 0 ∷ drop (i + 1) l
-from-place l i h = drop-cons l i 0 h ∙ ap (λ (k : ℕ). getD l i 0 ∷ drop k l) (sym (add-one i))
 
 -- ---- the servers below, counted
 
@@ -35,7 +32,7 @@ below-turn {highest} {upTo} {count} {i} one c h e l = record {
   upto = omega arith;
   most = omega (arith, c .most);
   is = let d : below highest (drop i upTo) ≡ one + below highest (drop (i + 1) upTo) =
-      ap (below highest) (from-place upTo i h) ∙ ap (λ (t : ℕ). t + below highest (drop (i + 1) upTo)) (sym e) in
+      ap (below highest) (drop-next upTo i 0 h) ∙ ap (λ (t : ℕ). t + below highest (drop (i + 1) upTo)) (sym e) in
       omega (arith, d, c .is);
 }
 
@@ -78,7 +75,7 @@ reporting-turn {time} {highest} {upTo} {kept} {v} {k} {v₁} {i} k′ v₂ c h q
         checker = e;
         held = q .to (u .checker) M (u .held);
         is = ap (λ (j : ℕ). checkAppliedUpTo e time highest (serversFrom j (drop (i + 1) upTo))) (add-one (i + 1))
-            ∙ ap (λ (z : List ℕ). checkAppliedUpTo (u .checker) time highest (serversFrom (i + 1) z)) (sym (from-place upTo i h)) ∙ u .is;
+            ∙ ap (λ (z : List ℕ). checkAppliedUpTo (u .checker) time highest (serversFrom (i + 1) z)) (sym (drop-next upTo i 0 h)) ∙ u .is;
       };
 }
 

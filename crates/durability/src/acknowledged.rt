@@ -9,7 +9,6 @@ ghost use Rattle.layout.specs.Payload.{payloadMarking};
 ghost use Rattle.layout.specs.MarkedCalls.{Puts};
 ghost use Rattle.layout.specs.Applied.{applied};
 ghost use Rattle.durability.specs.Acknowledged.{rebuilt, Encodes, placeOf, isApplied, CountsMissing, Highest, ReportsMissing};
-use crate::counts;
 use crate::replies;
 use crate::replies::Reply;
 use checks::Check;
@@ -89,7 +88,7 @@ pub fn count_missing(
     while i < n {
         let reply = replies::read(s, n, i);
         let ok = acknowledged_ok(reply, a, m, p, size, content);
-        count += counts::one_if(!ok);
+        count += violations::one_if(!ok);
         i += 1;
     }
     count

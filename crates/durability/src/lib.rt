@@ -8,7 +8,6 @@ use checks::violations::Tally;
 use units::SimTime;
 
 pub mod replies; // the commands whose replies reached their clients: a table in order of arrival
-pub mod counts; // what is counted before anything is reported
 pub mod acknowledged; // the acknowledged commands against the applied payloads
 pub mod servers; // the servers against the highest acknowledged index
 

@@ -4,7 +4,6 @@ ghost use mathlib.Core.Path.{_≡_};
 ghost use Prim.Native.Nat.{_≤_};
 ghost use lib.ListN.{length};
 ghost use Rattle.durability.specs.Servers.{below, ReportsBelow};
-use crate::counts;
 use checks::Check;
 use checks::violations;
 use checks::violations::Detail;
@@ -17,7 +16,7 @@ pub fn count_below(up_to: &[u64], highest: u64) -> u64
     let mut count = 0;
     let mut i = 0;
     while i < up_to.len() {
-        count += counts::one_if(up_to[i] < highest);
+        count += violations::one_if(up_to[i] < highest);
         i += 1;
     }
     count

@@ -1,15 +1,53 @@
--- What holds of each element of a list, by its place, and how it is kept as the list changes. Assumes nothing.
-use mathlib.Core.Path.{_≡_, ap, subst}
+-- Elements by place, equal lists, and what holds of each element, by its place, and how it is kept as the list changes. Assumes nothing.
+use mathlib.Core.Path.{_≡_, refl, sym, ap, ap₂, _∙_, subst}
 use mathlib.Core.Bool.{Bool, true, false}
 use mathlib.Core.List.{List, [], _∷_, _++_}
-use mathlib.Core.Option.{some}
-use Prim.Native.Nat.{ℕ, zero, suc, _<_}
+use mathlib.Core.Option.{none, some}
+use Prim.Native.Nat.{ℕ, zero, suc, _+_, _≤_, _<_}
+use native.Mathlib.Numerals.{add-one}
 use native.Mathlib.Omega.{arith}
-use lib.ListN.{length, getD}
-use Rattle.laws.specs.Bools.{pick}
+use lib.ListN.{length, getD, drop}
+use lib.Seq.{drop-cons}
+use borrow.Author.Tests.{eqb-true, eq-eqb}
+use Rattle.laws.specs.Bools.{pick, and-left, and-right, and-both}
 use Rattle.laws.specs.Decides.{false-true}
-use Rattle.laws.specs.Lists.{modify, isSome, at}
+use Rattle.laws.specs.Lists.{modify, isSome, at, sameList}
 use Rattle.laws.specs.Order.{Order, pushBy}
+
+-- ---- the element at a place
+
+module _ {A : Type 0} where
+  pub at-there : (x : List A) (i : ℕ) (d : A) → i < length x → at x i ≡ some (getD x i d)
+  unfolding at
+  at-there [] i d h = absurd (omega arith)
+  at-there (a ∷ x) zero d h = refl
+  at-there (a ∷ x) (suc i) d h = at-there x i d (omega arith)
+
+  pub at-none : (x : List A) (i : ℕ) → length x ≤ i → at x i ≡ none
+  unfolding at
+  at-none [] i h = refl
+  at-none (a ∷ x) zero h = absurd (omega arith)
+  at-none (a ∷ x) (suc i) h = at-none x i (omega arith)
+
+  -- from place i on: what stands there, and the rest, as a turn of a loop has it
+  pub drop-next : (x : List A) (i : ℕ) (d : A) → i < length x → drop i x ≡ getD x i d ∷ drop (i + 1) x
+  drop-next x i d h = drop-cons x i d h ∙ ap (λ (k : ℕ). getD x i d ∷ drop k x) (sym (add-one i))
+
+-- ---- equal lists
+
+pub list-itself : (a : List ℕ) → sameList a a ≡ true
+unfolding sameList
+list-itself [] = refl
+list-itself (x ∷ a) = and-both _ _ (eq-eqb x x refl) (list-itself a)
+
+pub list-equal : (a b : List ℕ) → sameList a b ≡ true → a ≡ b
+unfolding sameList
+list-equal [] [] h = refl
+list-equal [] (y ∷ b) h = absurd (false-true h)
+list-equal (x ∷ a) [] h = absurd (false-true h)
+list-equal (x ∷ a) (y ∷ b) h = ap₂ (λ (u : ℕ) (v : List ℕ). u ∷ v) (eqb-true x y (and-left _ _ h)) (list-equal a b (and-right _ _ h))
+
+-- ---- what holds of each element
 
 -- P holds of each element and its place
 abbrev pub Each : {A : Type 0} → (ℕ → A → Type 0) → List A → Type 0

@@ -7,7 +7,7 @@ use Prim.Native.Nat.{ℕ, _*_, _≤_}
 use native.Mathlib.Omega.{arith}
 use lib.ListN.{length, take, drop, take-append-drop}
 use lib.Seq.{take-at, take-all, length-take-le}
-use Rattle.laws.specs.Decides.{Decides, false-true}
+use Rattle.laws.specs.Decides.{Decides, false-true, decided}
 use Rattle.words.specs.Words.{bytes, W, Bytes, Fit}
 use Rattle.words.specs.Numbers.{each-take}
 use Rattle.words.specs.Lift.{length-bytes, length-W, W-fit, W-bytes, W-whole}
@@ -99,9 +99,4 @@ module _ {T : Type 0} (c : Code T) where
     }
 
     pub ok-decides : (r : Bool) → Decides r (Content c b) → r ≡ c .ok (W b)
-    ok-decides true d = sym (holds-ok (d .yes refl .held))
-    ok-decides false d = by (c .ok (W b)) refl
-      where
-        by : (t : Bool) → c .ok (W b) ≡ t → false ≡ t
-        by true e = absurd (d .no refl (record { value = c .parse (W b); held = parse-holds e }))
-        by false e = refl
+    ok-decides r d = decided r (c .ok (W b)) d (λ e. record { value = c .parse (W b); held = parse-holds e }) (λ k. holds-ok (k .held))

@@ -1,5 +1,6 @@
 pub mod Code
 pub mod Coded
+pub mod UpTo
 pub mod Tables
 pub mod Contents
 pub mod Rows

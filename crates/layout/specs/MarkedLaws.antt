@@ -1,21 +1,21 @@
 -- What the proofs of marked.rt cite. Assumes nothing.
 use mathlib.Core.Path.{_≡_, refl, sym, ap, ap₂, _∙_}
-use mathlib.Core.Bool.{Bool, true, false}
-use mathlib.Core.List.{List, [], _∷_, _++_, append-nil, append-assoc}
+use mathlib.Core.Bool.{Bool, false}
+use mathlib.Core.List.{List, [], _++_, append-assoc}
 use Prim.Native.Nat.{ℕ, zero, _+_, _*_, _-_, _≤_, _<_}
 use native.Mathlib.Omega.{arith}
 use lib.Dec.{leb}
 use lib.ListN.{length, take, drop, getD, length-append, length-drop, length-replicate, take-append-drop}
 use lib.Seq.{sets, take-all, take-at, drop-drop, drop-at, length-take-le}
-use borrow.Author.Tests.{le-leb, lt-leb, eqb-true, eq-eqb}
-use Rattle.laws.specs.Bools.{_and_, and-left, and-right, and-both, no-and, true-and}
-use Rattle.laws.specs.Decides.{Decides, false-true}
-use Rattle.laws.specs.Lists.{sameList}
+use borrow.Author.Tests.{le-leb, lt-leb}
+use Rattle.laws.specs.Bools.{_and_, no-and, true-and}
+use Rattle.laws.specs.Decides.{Decides, decided}
 use Rattle.words.specs.Words.{bytes, bytesOf, W, Bytes, allz}
-use Rattle.words.specs.Sets.{sets-append, sets-at}
+use Rattle.words.specs.Sets.{sets-append, sets-all}
 use Rattle.words.specs.Numbers.{length-bytesOf}
 use Rattle.words.specs.Lift.{length-bytes, length-W, bytes-append, W-whole}
 use Rattle.units.specs.Types.{Payload, noop, command, samePayload}
+use Rattle.units.specs.PayloadLaws.{payload-itself, payload-equal}
 use Rattle.layout.specs.declared.marked.Kind.the-variants.{Noop, Command}
 use Rattle.layout.specs.Code.{zeros}
 use Rattle.layout.specs.Tables.{Holds}
@@ -37,7 +37,7 @@ put-calls m d b b₁ b₂ b₃ r e₁ e₂ e₃ =
     let l : length (h ++ (d ++ z)) ≡ length b = omega (arith, length-append h (d ++ z), length-append d z, length-replicate (length b - (8 + length d)) zero) in
     e₃ ∙ ap (λ (y : List ℕ). sets y (8 + length d) z) (e₂ ∙ ap (λ (y : List ℕ). sets y 8 d) e₁ ∙ sets-append h b d 0 8 (omega arith))
     ∙ sets-append (h ++ d) b z 0 (8 + length d) (omega (arith, length-append h d)) ∙ ap (sets b 0) (append-assoc h d z)
-    ∙ ap (λ (y : List ℕ). sets y 0 (h ++ (d ++ z))) (sym (append-nil b)) ∙ sets-at [] b [] (h ++ (d ++ z)) 0 refl l ∙ append-nil (h ++ (d ++ z))
+    ∙ sets-all b (h ++ (d ++ z)) l
 
 -- the bytes of a content
 module _ {X : Type 0} (M : Marking X) (p : ℕ) where
@@ -138,35 +138,5 @@ pub ruleset tests = (mark-none, mark-rest, message-rest)
 
 -- ---- two payloads compared: `words::equal` of their regions answers `samePayload`
 
-refl-list : (a : List ℕ) → sameList a a ≡ true
-unfolding sameList
-refl-list [] = refl
-refl-list (x ∷ a) = and-both _ _ (eq-eqb x x refl) (refl-list a)
-
-list-refl : (a b : List ℕ) → sameList a b ≡ true → a ≡ b
-unfolding sameList
-list-refl [] [] e = refl
-list-refl [] (y ∷ b) e = absurd (false-true e)
-list-refl (x ∷ a) [] e = absurd (false-true e)
-list-refl (x ∷ a) (y ∷ b) e = ap₂ (λ (u : ℕ) (v : List ℕ). u ∷ v) (eqb-true x y (and-left _ _ e)) (list-refl a b (and-right _ _ e))
-
-refl-payload : (x : Payload) → samePayload x x ≡ true
-unfolding samePayload
-refl-payload noop = refl
-refl-payload (command a) = refl-list a
-
-payload-refl : (x y : Payload) → samePayload x y ≡ true → x ≡ y
-unfolding samePayload
-payload-refl noop noop e = refl
-payload-refl noop (command b) e = absurd (false-true e)
-payload-refl (command a) noop e = absurd (false-true e)
-payload-refl (command a) (command b) e = ap command (list-refl a b e)
-
 pub payloads-same : (p : ℕ) (a b : List ℕ) (x y : Payload) (r : Bool) → Holds (payload p) a x → Holds (payload p) b y → Decides r (a ≡ b) → r ≡ samePayload x y
-payloads-same p a b x y r h k d = by r (samePayload x y) refl (decides-same h k d)
-  where
-    by : (r s : Bool) → samePayload x y ≡ s → Decides r (x ≡ y) → r ≡ s
-    by true true e c = refl
-    by true false e c = absurd (false-true (sym e ∙ ap (samePayload x) (sym (c .yes refl)) ∙ refl-payload x))
-    by false true e c = absurd (c .no refl (payload-refl x y e))
-    by false false e c = refl
+payloads-same p a b x y r h k d = decided r (samePayload x y) (decides-same h k d) (payload-equal x y) (λ e. ap (samePayload x) (sym e) ∙ payload-itself x)

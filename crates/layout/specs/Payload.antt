@@ -1,11 +1,11 @@
 -- Payloads (types.rs, `Payload`) and the bytes of a message, in words. Assumes nothing.
 use mathlib.Core.Path.{_≡_, refl, sym, ap}
 use mathlib.Core.Bool.{Bool, true, false}
-use mathlib.Core.List.{List, [], _∷_}
+use mathlib.Core.List.{List, []}
 use Prim.Native.Nat.{ℕ, _+_, _-_}
 use native.Mathlib.Omega.{arith}
 use lib.Dec.{leb, eqb}
-use lib.ListN.{length}
+use lib.ListN.{length, drop-of-length-le}
 use borrow.Author.Tests.{leb-true, le-leb, eqb-true, eqb-false, ne-eqb}
 use Rattle.laws.specs.Bools.{pick}
 use Rattle.units.specs.Types.{Payload, noop, command}
@@ -39,10 +39,6 @@ unfolding payloadOf
 make-mark noop = refl
 make-mark (command bs) = ap (λ (b : Bool). pick b noop (command bs)) (ne-eqb (2 + length bs) 1 (omega arith))
 
-empty : (d : List ℕ) → length d ≡ 0 → [] ≡ d
-empty [] h = refl
-empty (x ∷ d) h = absurd (omega arith)
-
 pub mark-make : (k : ℕ) (d : List ℕ) → leb 1 k ≡ true → length d ≡ k - 2 → markOf (payloadOf k d) ≡ k
 unfolding payloadOf
 mark-make k d v l = by (eqb k 1) refl
@@ -56,7 +52,7 @@ unfolding payloadOf
 body-make k d v l = by (eqb k 1) refl
   where
     by : (b : Bool) → eqb k 1 ≡ b → bodyOf (pick b noop (command d)) ≡ d
-    by true e = empty d (omega (arith, eqb-true k 1 e))
+    by true e = sym (drop-of-length-le d {i = 0} (omega (arith, eqb-true k 1 e)))
     by false e = refl
 
 abbrev pub payloadMarking : Marking Payload

@@ -4,13 +4,13 @@ use mathlib.Core.Bool.{Bool, true, false, not}
 use mathlib.Core.List.{List, _∷_, map}
 use Prim.Native.Nat.{ℕ, zero, suc, _+_, _-_, _*_, _/_, _%_, _≤_, _<_}
 use native.Mathlib.Nat.{add-zero, zero-mul, suc-mul, le-div-iff-mul-le, div-lt-iff-lt-mul}
-use native.Mathlib.Numerals.{add-one}
 use native.Mathlib.Omega.{arith}
 use lib.Dec.{ltb}
 use lib.ListN.{length, getD, take, drop, replicate, length-drop, drop-of-length-le}
-use lib.Seq.{sets, take-all, drop-cons, drop-drop, getD-drop}
+use lib.Seq.{sets, take-all, drop-drop, getD-drop}
 use borrow.Author.Tests.{lt-ltb, le-ltb, le-leb, lt-leb, eq-eqb, ne-eqb, not-true, not-false}
 use Rattle.laws.specs.Bools.{_and_, and-no, no-and, true-and}
+use Rattle.laws.specs.ListLaws.{drop-next}
 use Rattle.words.specs.Words.{W, allz}
 use Rattle.words.specs.Lift.{length-W}
 use Rattle.layout.specs.declared.rows.Found.the-variants.{At, Absent}
@@ -205,14 +205,14 @@ module _ {K : Type 0} (r : K → K → Bool) (g : List ℕ → K) (w n : ℕ) (w
   first-key : (k d : K) → (n ≡ 0 → ⊥) → getD (heads g w n ws) 0 d ≡ k → Chained r (heads g w n ws) k 1
   first-key k d h e =
       let l : 0 < length (heads g w n ws) = omega (arith, length-heads g w n ws) in
-      record { is = ap (chain r) (drop-cons (heads g w n ws) 0 d l ∙ ap (λ (x : K). x ∷ drop 1 (heads g w n ws)) e); upto = l }
+      record { is = ap (chain r) (drop-next (heads g w n ws) 0 d l ∙ ap (λ (x : K). x ∷ drop 1 (heads g w n ws)) e); upto = l }
 
   module _ (i : ℕ) (k k′ d : K) (c : Chained r (heads g w n ws) k i) (h : i < n) (e : getD (heads g w n ws) i d ≡ k′) where
     split : chain r (heads g w n ws) ≡ (r k k′ and chain r (k′ ∷ drop (i + 1) (heads g w n ws)))
     unfolding chain
     split =
         let l : i < length (heads g w n ws) = omega (arith, length-heads g w n ws) in
-        c .is ∙ ap (λ (x : List K). chain r (k ∷ x)) (drop-cons (heads g w n ws) i d l ∙ ap₂ (λ (x : K) (m : ℕ). x ∷ drop m (heads g w n ws)) e (sym (add-one i)))
+        c .is ∙ ap (λ (x : List K). chain r (k ∷ x)) (drop-next (heads g w n ws) i d l ∙ ap (λ (x : K). x ∷ drop (i + 1) (heads g w n ws)) e)
 
     more-keys : r k k′ ≡ true → Chained r (heads g w n ws) k′ (i + 1)
     more-keys t = record { is = split ∙ ap (λ (b : Bool). b and chain r (k′ ∷ drop (i + 1) (heads g w n ws))) t ∙ true-and _; upto = omega (arith, length-heads g w n ws) }

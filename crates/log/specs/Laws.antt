@@ -1,40 +1,43 @@
 -- What the proofs of lib.rt cite. Assumes nothing.
 use mathlib.Core.Path.{_≡_, refl, sym, ap, ap₂, _∙_, subst}
 use mathlib.Core.Bool.{Bool, true, false, not}
-use mathlib.Core.List.{List, [], _∷_, _++_, append-nil}
+use mathlib.Core.List.{List, [], _∷_, _++_}
 use mathlib.Core.Option.{Option, none, some}
 use Prim.Native.Nat.{ℕ, zero, suc, _+_, _-_, _*_, _^_, _≤_, _<_}
 use native.Mathlib.Nat.{add-zero}
-use native.Mathlib.Numerals.{add-one}
 use native.Mathlib.Omega.{arith}
 use lib.Dec.{eqb, leb}
-use lib.ListN.{length, getD, set, take, drop, replicate, length-replicate, replicate-append-replicate, drop-of-length-le}
-use lib.Seq.{sets, getD-at, take-take, take-all, take-at, take-suc, drop-cons, getD-drop, length-take-le}
+use lib.ListN.{length, getD, set, take, drop, replicate, length-replicate, drop-of-length-le, List·getD-eq-default}
+use lib.Seq.{sets, getD-at, take-all, take-suc, getD-drop, length-take-le}
 use mir.Syntax.{w64}
 use mir.Val.{Fits}
 use borrow.Author.Tests.{eq-eqb, ne-eqb, eqb-true, lt-ltb, leb-true, leb-false}
-use Rattle.laws.specs.Bools.{pick, cases, _and_, and-left, and-right, and-both, and-true}
+use Rattle.laws.specs.Bools.{pick, cases, and-left, and-both, and-true}
 use Rattle.laws.specs.Lists.{isSome, sameList}
-use Rattle.laws.specs.Decides.{Decides, false-true}
+use Rattle.laws.specs.ListLaws.{drop-next, list-itself, list-equal}
+use Rattle.laws.specs.Decides.{Decides, false-true, decided}
 use Rattle.units.specs.Types.{Payload, noop, command, Entry, samePayload}
+use Rattle.units.specs.PayloadLaws.{payload-itself, payload-equal}
 use Rattle.units.specs.declared.Term.{Term}
+use Rattle.units.specs.declared.TermOption.the-variants.{Some as SomeTerm}
 use Rattle.words.specs.Words.{bytes, bytesOf, W, Bytes, allz}
-use Rattle.words.specs.Sets.{sets-at, sets-append, part-part}
-use Rattle.words.specs.Lift.{bytes-append, bytes-one, length-bytes, length-W, W-fit, W-whole, W-part, allz-bytes}
-use Rattle.layout.specs.Code.{Code, zeros, optional}
+use Rattle.words.specs.Sets.{sets-append, sets-all, part-part}
+use Rattle.words.specs.Lift.{bytes-append, bytes-one, length-bytes, length-W, W-fit, W-whole, allz-bytes}
+use Rattle.layout.specs.Code.{zeros}
 use Rattle.layout.specs.Tables.{Holds, Held, Becomes, Gives, rowsIn, fillFrom}
-use Rattle.layout.specs.Contents.{decides-same, ok-prefix}
+use Rattle.layout.specs.Contents.{decides-same}
 use Rattle.layout.specs.Rows.{row-end}
 use Rattle.layout.specs.TableLaws.{row-word, row-held, row-parsed, length-rowsIn, fill-held, blank-held, puts, rowed-start, rowed-done, held-rows}
 use Rattle.layout.specs.Marked.{wordsFor, Sound, sound, sounds}
 use Rattle.layout.specs.Payload.{payload, payloadMarking, markOf, bodyOf}
 use Rattle.layout.specs.MarkedCalls.{Puts}
 use Rattle.layout.specs.MarkedLaws.{body-read}
-use Rattle.layout.specs.Parts.{lentRow, backRow, length-lentRow, row-back, lent-fine, lent-fails}
+use Rattle.layout.specs.Parts.{lentRow, backRow, length-lentRow, row-back, part-ok, lent-fine, lent-fails}
 use Rattle.log.specs.declared.Place.{Place}
 use Rattle.log.specs.declared.Place.the-variants.{None, Noop, Command}
 use Rattle.log.specs.Log.{Log, entryAt, putAt, truncateAt, count, lastIndex, gaps, removedBy}
-use Rattle.log.specs.Places.{one-more, entryCode, place, places, kindIn, placeOf, placeAt, said, lengthOf, presence, bytesIn, ReadsEntry, Truncates, Clears, Compares, isPayload, holdsAt, samePayloads, putEntry}
+use Rattle.log.specs.Places.{entryCode, place, places, kindIn, placeOf, placeAt, said, lengthOf, termIn, presence, bytesIn, ReadsEntry, Truncates, Clears, Compares, isPayload, holdsAt, samePayloads, putEntry}
+use Rattle.log.specs.Payloads.{entry-place, payloadIn, place-start, payload-held, entry-held}
 
 -- ---- what a row's words say
 
@@ -64,6 +67,16 @@ presence-some m h = sym (ap (λ (b : Bool). pick b 0 1) (ne-eqb m 0 (omega arith
 
 pub ruleset presences = (presence-none, presence-some)
 
+-- ---- the term of what stands at a place
+
+pub term-noop : (q : Place) (t : Term) → q ≡ Noop t → SomeTerm t ≡ termIn q
+term-noop q t e = rw e
+
+pub term-command : (q : Place) (t : Term) (k : ℕ) → q ≡ Command t k → SomeTerm t ≡ termIn q
+term-command q t k e = rw e
+
+pub ruleset terms-in = (term-noop, term-command)
+
 -- the first word of a place and its last
 abbrev pub markIn : Option Entry → ℕ
 markIn none = 0
@@ -88,48 +101,10 @@ said-entry m t e a b = by (e .payload) a
 
 -- ---- indexes
 
-entry-place : (x : Log) (i : ℕ) → 1 ≤ i → entryAt x i ≡ getD x (i - 1) none
-unfolding entryAt
-entry-place x zero h = absurd (omega arith)
-entry-place x (suc i) h = ap (λ (k : ℕ). getD x k none) (let e : i ≡ suc i - 1 = omega arith in e)
-
-get-past : {A : Type 0} (x : List A) (i : ℕ) (d : A) → length x ≤ i → getD x i d ≡ d
-get-past [] i d h = refl
-get-past (a ∷ x) zero d h = absurd (omega arith)
-get-past (a ∷ x) (suc i) d h = get-past x i d (omega arith)
-
 none-at : (x : Log) (n i : ℕ) → length x ≡ n → n < i → entryAt x i ≡ none
-none-at x n i l h = entry-place x i (omega arith) ∙ get-past x (i - 1) none (omega arith)
+none-at x n i l h = entry-place x i (omega arith) ∙ List·getD-eq-default x none {n = i - 1} (omega arith)
 
--- ---- the payload and the term of a place
-
-abbrev pub payloadIn : Option Entry → Option Payload
-payloadIn none = none
-payloadIn (some e) = some (e .payload)
-
-payload-size : (k : ℕ) → 0 < 1 + k
-payload-size k = omega arith
-
-payload-marked : (p : ℕ) (y : Payload) (r : List ℕ) → payload p .good y ≡ true → 0 < getD (payload p .enc y ++ r) 0 0
-payload-marked p noop r h = omega arith
-payload-marked p (command bs) r h = omega arith
-
-abbrev payloadCode : ℕ → Code (Option Payload)
-payloadCode p = optional (payload p) (payload-size (wordsFor p)) (payload-marked p)
-
-abbrev lastIn : Option Entry → List ℕ
-lastIn none = 0 ∷ []
-lastIn (some e) = e .term .0 ∷ []
-
-place-parts : (p : ℕ) (o : Option Entry) → place p .enc o ≡ payloadCode p .enc (payloadIn o) ++ lastIn o
-place-parts p none =
-    let e : 2 + wordsFor p ≡ 1 + wordsFor p + 1 = omega arith in
-    ap zeros e ∙ sym (replicate-append-replicate (1 + wordsFor p) 1 zero)
-place-parts p (some e) = refl
-
-payload-good : (p : ℕ) (o : Option Entry) → place p .good o ≡ true → payloadCode p .good (payloadIn o) ≡ true
-payload-good p none h = refl
-payload-good p (some e) h = and-left _ _ h
+-- ---- the words of a place
 
 last-word : (p : ℕ) (e : Entry) → entryCode p .good e ≡ true → getD (entryCode p .enc e) (1 + wordsFor p) 0 ≡ e .term .0
 last-word p e h = getD-at (payload p .enc (e .payload)) (e .term .0) [] 0 (1 + wordsFor p) (payload p .size-enc (e .payload) (and-left _ _ h))
@@ -149,29 +124,12 @@ module _ (p n : ℕ) {N : ℕ} {s : List ℕ} {x : Log} (h : Held (places p) N n
       ap (λ (j : ℕ). getD (W s) j 0) a ∙ row-word h i (1 + wordsFor p) none k (omega arith) ∙ ap (λ (o : Option Entry). getD (place p .enc o) (1 + wordsFor p) 0) q
       ∙ last-word p d (ap (place p .good) (sym q) ∙ row-held h i none k .good)
 
-  -- the words of the payload alone
-  payload-here : Holds (payloadCode p) (lentRow at (1 + wordsFor p) s) (payloadIn here)
-  payload-here =
-      let row : List ℕ = take (8 * (2 + wordsFor p)) (drop (8 * at) s) in
-      let g : payloadCode p .good (payloadIn here) ≡ true = payload-good p here (row-held h i none k .good) in
-      let l : length (payloadCode p .enc (payloadIn here)) ≡ 1 + wordsFor p = payloadCode p .size-enc (payloadIn here) g in
-      let c : 8 * (at + (1 + wordsFor p)) - 8 * at ≡ 8 * (1 + wordsFor p) = omega arith in
-      let r : row ≡ bytes (place p .enc here) = ap (λ (j : ℕ). take (8 * (2 + wordsFor p)) (drop (8 * j) s)) e ∙ row-held h i none k .is in
-      record {
-        good = g;
-        is = ap (λ (j : ℕ). take j (drop (8 * at) s)) c ∙ sym (take-take (8 * (1 + wordsFor p)) (8 * (2 + wordsFor p)) (drop (8 * at) s) (omega arith))
-            ∙ ap (take (8 * (1 + wordsFor p))) (r ∙ ap bytes (place-parts p here) ∙ bytes-append (payloadCode p .enc (payloadIn here)) (lastIn here))
-            ∙ take-at (bytes (payloadCode p .enc (payloadIn here))) (bytes (lastIn here)) (8 * (1 + wordsFor p)) (length-bytes (payloadCode p .enc (payloadIn here)) ∙ ap (λ (j : ℕ). 8 * j) l);
-      }
-
   -- the bytes of a command
   body-here : (d : Entry) → here ≡ some d → (m : ℕ) → m ≡ length (bodyOf (d .payload)) → m ≤ p → take (8 * (at + 1) + m - 8 * (at + 1)) (drop (8 * (at + 1)) s) ≡ bodyOf (d .payload)
   body-here d q m l b =
-      let o : Holds (payloadCode p) (lentRow at (1 + wordsFor p) s) (some (d .payload)) = subst (λ (y : Option Entry). Holds (payloadCode p) (lentRow at (1 + wordsFor p) s) (payloadIn y)) q payload-here in
-      let f : Holds (payload p) (lentRow at (1 + wordsFor p) s) (d .payload) = record { good = o .good; is = o .is } in
       let c : 8 * (at + 1) + m - 8 * (at + 1) ≡ 8 + m - 8 = omega arith in
       let a : 8 * (at + 1) ≡ 8 * at + 8 = omega arith in
-      ap₂ (λ (u v : ℕ). take u (drop v s)) c a ∙ sym (part-part s (8 * at) (8 * (at + (1 + wordsFor p)) - 8 * at) 8 (8 + m - 8) (omega arith)) ∙ body-read payloadMarking p f m l
+      ap₂ (λ (u v : ℕ). take u (drop v s)) c a ∙ sym (part-part s (8 * at) (8 * (at + (1 + wordsFor p)) - 8 * at) 8 (8 + m - 8) (omega arith)) ∙ body-read payloadMarking p (entry-held p n h i at k e d q) m l
 
 -- ---- entry
 
@@ -314,7 +272,7 @@ module _ (p n : ℕ) (s : List ℕ) where
   counting-turn from r i at m d c k e q f l =
       let v : pick (isSome (getD log i none)) 1 0 ≡ d = ap (λ (b : Bool). pick b 1 0) (there i at m k e q) ∙ by (eqb m 0) ∙ sym f in
       let a : count (drop i log) ≡ d + count (drop (i + 1) log) =
-      ap count (drop-cons log i none (omega (arith, log-long))) ∙ ap₂ (λ (j o : ℕ). j + count (drop o log)) v (sym (add-one i)) in
+      ap count (drop-next log i none (omega (arith, log-long))) ∙ ap (λ (j : ℕ). j + count (drop (i + 1) log)) v in
       record { is = omega (arith, c .is); upto = omega arith; most = omega (arith, c .most) }
     where
       by : (b : Bool) → _≡_ {A = ℕ} (pick (not b) 1 0) (pick b 0 1)
@@ -385,7 +343,7 @@ module _ (p n i at : ℕ) (term : Term) (b ys b′ : List ℕ) (lo : 1 ≤ i) (h
     unfolding putEntry
     put-row y s h e =
         let d : Entry = record { term = term; payload = y } in
-        let at-is : at ≡ (i - 1) * (2 + wordsFor p) = a ∙ ap (λ (k : ℕ). (i - 1) * k) (one-more (wordsFor p)) in
+        let at-is : at ≡ (i - 1) * (2 + wordsFor p) = place-start p (i - 1) at a in
         let fits : 8 * (at + (1 + wordsFor p)) ≤ length b = omega (arith, row-end (i - 1) n (2 + wordsFor p) (omega arith)) in
         let k : Holds (payload p) ys y = h .to p (length-lentRow at (1 + wordsFor p) b fits) (sounds payloadMarking p y s) in
         let l : 8 * at + length (bytes (payload p .enc y)) ≡ 8 * (at + (1 + wordsFor p)) = omega (arith, length-bytes (payload p .enc y), payload p .size-enc y (k .good)) in
@@ -453,53 +411,17 @@ truncated p n from i r at end b b′ h k l c ea ee e = record {
 
 -- ---- clear, copy
 
-whole : (b v : List ℕ) → length v ≡ length b → sets b 0 v ≡ v
-whole b v l = ap (λ (u : List ℕ). sets u 0 v) (sym (append-nil b)) ∙ sets-at [] b [] v 0 refl l ∙ append-nil v
-
 pub cleared : (p n : ℕ) (b b′ : List ℕ) → b′ ≡ sets b 0 (zeros (length b - 0)) → Clears p n b b′
 cleared p n b b′ e =
     let z : length b - 0 ≡ length b = omega arith in
-    let q : b′ ≡ zeros (length b) = e ∙ ap (λ (k : ℕ). sets b 0 (zeros k)) z ∙ whole b (zeros (length b)) (length-replicate (length b) zero) in
+    let q : b′ ≡ zeros (length b) = e ∙ ap (λ (k : ℕ). sets b 0 (zeros k)) z ∙ sets-all b (zeros (length b)) (length-replicate (length b) zero) in
     let l : length b′ ≡ length b = ap length q ∙ length-replicate (length b) zero in
     record { to = λ N m h. blank-held (places p) N n none b′ (l ∙ m) h refl refl refl (q ∙ ap zeros (sym l)) }
 
 pub copied-over : (b src b′ : List ℕ) → length b ≡ length src → b′ ≡ sets b 0 src → b′ ≡ src
-copied-over b src b′ l e = e ∙ whole b src (sym l)
+copied-over b src b′ l e = e ∙ sets-all b src (sym l)
 
 -- ---- comparing
-
--- a test that decides is any other that does
-decided : {P : Type 0} (r t : Bool) → Decides r P → (t ≡ true → P) → (P → t ≡ true) → r ≡ t
-decided true t d f g = sym (g (d .yes refl))
-decided {P} false t d f g = by t refl
-  where
-    by : (u : Bool) → t ≡ u → false ≡ u
-    by true e = absurd (d .no refl (f e))
-    by false e = refl
-
-same-list : (a : List ℕ) → sameList a a ≡ true
-unfolding sameList
-same-list [] = refl
-same-list (x ∷ a) = and-both _ _ (eq-eqb x x refl) (same-list a)
-
-list-same : (a b : List ℕ) → sameList a b ≡ true → a ≡ b
-unfolding sameList
-list-same [] [] h = refl
-list-same [] (y ∷ b) h = absurd (false-true h)
-list-same (x ∷ a) [] h = absurd (false-true h)
-list-same (x ∷ a) (y ∷ b) h = ap₂ (λ (u : ℕ) (v : List ℕ). u ∷ v) (eqb-true x y (and-left _ _ h)) (list-same a b (and-right _ _ h))
-
-same-payload : (x : Payload) → samePayload x x ≡ true
-unfolding samePayload
-same-payload noop = refl
-same-payload (command a) = same-list a
-
-payload-same : (x y : Payload) → samePayload x y ≡ true → x ≡ y
-unfolding samePayload
-payload-same noop noop h = refl
-payload-same noop (command b) h = absurd (false-true h)
-payload-same (command a) noop h = absurd (false-true h)
-payload-same (command a) (command b) h = ap command (list-same a b h)
 
 same-payloads : (a b : Option Entry) → payloadIn a ≡ payloadIn b → samePayloads a b ≡ true
 same-payloads none none h = refl
@@ -507,22 +429,21 @@ same-payloads none (some e) h = let z : _≡_ {A = ℕ} 0 1 = cc in absurd (omeg
 same-payloads (some d) none h = let z : _≡_ {A = ℕ} 0 1 = cc in absurd (omega arith)
 same-payloads (some d) (some e) h =
     let q : d .payload ≡ e .payload = cc in
-    ap (λ (y : Payload). samePayload (d .payload) y) (sym q) ∙ same-payload (d .payload)
+    ap (λ (y : Payload). samePayload (d .payload) y) (sym q) ∙ payload-itself (d .payload)
 
 payloads-same : (a b : Option Entry) → samePayloads a b ≡ true → payloadIn a ≡ payloadIn b
 payloads-same none none h = refl
 payloads-same none (some e) h = absurd (false-true h)
 payloads-same (some d) none h = absurd (false-true h)
-payloads-same (some d) (some e) h = ap some (payload-same (d .payload) (e .payload) h)
+payloads-same (some d) (some e) h = ap some (payload-equal (d .payload) (e .payload) h)
 
 pub compared : (p n i j at at₂ : ℕ) (r : Bool) (s t : List ℕ) → 1 ≤ i → i ≤ n → 1 ≤ j → j ≤ n → at ≡ (i - 1) * (1 + wordsFor p + 1) → at₂ ≡ (j - 1) * (1 + wordsFor p + 1)
     → Decides r (lentRow at (1 + wordsFor p) s ≡ lentRow at₂ (1 + wordsFor p) t)
     → Compares p n i j r s t
 compared p n i j at at₂ r s t li hi lj hj e e₂ d = record {
   to = λ N M x y g h.
-      let a : at ≡ (i - 1) * (2 + wordsFor p) = e ∙ ap (λ (k : ℕ). (i - 1) * k) (one-more (wordsFor p)) in
-      let c : at₂ ≡ (j - 1) * (2 + wordsFor p) = e₂ ∙ ap (λ (k : ℕ). (j - 1) * k) (one-more (wordsFor p)) in
-      decided r (samePayloads (getD x (i - 1) none) (getD y (j - 1) none)) (decides-same (payload-here p n g (i - 1) at (omega arith) a) (payload-here p n h (j - 1) at₂ (omega arith) c) d)
+      decided r (samePayloads (getD x (i - 1) none) (getD y (j - 1) none))
+      (decides-same (payload-held p n g (i - 1) at (omega arith) (place-start p (i - 1) at e)) (payload-held p n h (j - 1) at₂ (omega arith) (place-start p (j - 1) at₂ e₂)) d)
       (payloads-same (getD x (i - 1) none) (getD y (j - 1) none)) (same-payloads (getD x (i - 1) none) (getD y (j - 1) none))
       ∙ ap₂ samePayloads (sym (entry-place x i li)) (sym (entry-place y j lj));
 }
@@ -591,7 +512,7 @@ module _ (p n i : ℕ) (s src : List ℕ) where
             kind (command bs) l = no (sameList bs src) refl
               where
                 no : (b : Bool) → sameList bs src ≡ b → false ≡ b
-                no true a = absurd (f (l ∙ ap (λ (v : List ℕ). 2 + length v) (list-same bs src a)))
+                no true a = absurd (f (l ∙ ap (λ (v : List ℕ). 2 + length v) (list-equal bs src a)))
                 no false a = refl
 
     pub command-here : (r : Bool) → length src ≤ p → m ≡ 2 + length src → Decides r (take (8 * (at + 1) + length src - 8 * (at + 1)) (drop (8 * (at + 1)) s) ≡ src)
@@ -608,7 +529,7 @@ module _ (p n i : ℕ) (s src : List ℕ) where
             kind (command bs) a k =
                 let z : length src ≡ length (bodyOf (d .payload)) = let w : length src ≡ length bs = omega arith in w ∙ ap (λ (y : Payload). length (bodyOf y)) (sym a) in
                 let b : take (8 * (at + 1) + length src - 8 * (at + 1)) (drop (8 * (at + 1)) s) ≡ bs = body-here p n h (i - 1) at (omega arith) e d q (length src) z l ∙ ap bodyOf a in
-                decided r (sameList bs src) (subst (λ (v : List ℕ). Decides r (v ≡ src)) b c) (list-same bs src) (λ o. ap (λ (v : List ℕ). sameList v src) o ∙ same-list src)
+                decided r (sameList bs src) (subst (λ (v : List ℕ). Decides r (v ≡ src)) b c) (list-equal bs src) (λ o. ap (λ (v : List ℕ). sameList v src) o ∙ list-itself src)
 
 pub ruleset commands = (command-zero, command-past, command-other, command-here)
 
@@ -623,10 +544,7 @@ pub place-entry : (p m : ℕ) (s : List ℕ) (r : Bool) → Bytes s → length s
     → r ≡ payload p .ok (W (take (8 * (1 + wordsFor p) - 0) (drop 0 s)))
     → r ≡ place p .ok (W s)
 place-entry p m s r B l e h z =
-    let k : 8 * (1 + wordsFor p) - 0 ≡ 8 * (1 + wordsFor p) - 8 * 0 = omega arith in
-    let j : 1 + wordsFor p - 0 ≡ 1 + wordsFor p = omega arith in
-    z ∙ ap (λ (v : ℕ). payload p .ok (W (take v s))) k ∙ ap (payload p .ok) (W-part s 0 (1 + wordsFor p) B (omega arith) (omega arith) ∙ ap (λ (v : ℕ). take v (W s)) j)
-    ∙ ok-prefix (payload p) (W s) (W-fit s B) (omega (arith, length-W s)) ∙ sym (and-true (payload p .ok (W s)))
+    z ∙ part-ok (payload p) s 0 (1 + wordsFor p) B (omega arith) (omega arith) ∙ sym (and-true (payload p .ok (W s)))
     ∙ sym (ap (λ (b : Bool). pick b (allz (take (2 + wordsFor p) (W s))) (entryCode p .ok (W s))) (ne-eqb (getD (W s) 0 0) 0 (omega arith)))
 
 pub ruleset place-tests = (place-zeros, place-entry)

@@ -1,3 +1,4 @@
 pub mod Log
 pub mod Places
+pub mod Payloads
 pub mod Laws

@@ -11,6 +11,8 @@ use lib.Seq.{sets}
 use Rattle.laws.specs.Bools.{pick}
 use Rattle.units.specs.Types.{Payload, noop, command, Entry, samePayload}
 use Rattle.units.specs.declared.Term.{Term}
+use Rattle.units.specs.declared.TermOption.{TermOption}
+use Rattle.units.specs.declared.TermOption.the-variants.{None as NoTerm, Some as SomeTerm}
 use Rattle.layout.specs.Code.{Code, word, pair, iso, sized, optional}
 use Rattle.layout.specs.Tables.{Table, Held, Becomes, rowsIn}
 use Rattle.layout.specs.Marked.{wordsFor}
@@ -77,6 +79,17 @@ abbrev pub lengthOf : Place → ℕ
 lengthOf None = 0
 lengthOf (Noop term) = 0
 lengthOf (Command term k) = k
+
+-- The term of what stands at a place.
+abbrev pub termIn : Place → TermOption
+termIn None = NoTerm
+termIn (Noop term) = SomeTerm term
+termIn (Command term k) = SomeTerm term
+
+-- The term of an entry that may be absent.
+abbrev pub entryTerm : Option Entry → Option Term
+entryTerm none = none
+entryTerm (some e) = some (e .term)
 
 -- 1 where a row's first word says that an entry is there.
 unfoldable pub presence : ℕ → ℕ

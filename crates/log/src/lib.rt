@@ -11,11 +11,12 @@ ghost use Rattle.layout.specs.Code.{okN};
 ghost use Rattle.layout.specs.Tables.{Tabled, Becomes, Gives, rowsIn};
 ghost use Rattle.layout.specs.Marked.{wordsFor};
 ghost use Rattle.log.specs.Log.{count, lastIndex, gaps, removedBy};
-ghost use Rattle.log.specs.Places.{place, places, placeAt, said, lengthOf, presence, ReadsEntry, putEntry, Truncates, Clears, Compares, holdsAt};
+ghost use Rattle.log.specs.Places.{place, places, placeAt, said, lengthOf, termIn, presence, ReadsEntry, putEntry, Truncates, Clears, Compares, holdsAt};
 use layout::marked;
 use layout::rows;
 use units::LogIndex;
 use units::Term;
+use units::TermOption;
 
 // What stands at an index: nothing, or an entry of either kind with its term, and the length of a command.
 pub enum Place {
@@ -49,6 +50,17 @@ fn length_of(place: Place) -> usize
         Place::None => 0,
         Place::Noop { term: _ } => 0,
         Place::Command { term: _, length } => length,
+    }
+}
+
+// The term of what stands at a place.
+pub fn term_of(place: Place) -> TermOption
+    ensures { λ r. ⌜ r ≡ termIn place ⌝ }
+{
+    match place {
+        Place::None => TermOption::None,
+        Place::Noop { term } => TermOption::Some(term),
+        Place::Command { term, length: _ } => TermOption::Some(term),
     }
 }
 

@@ -1,91 +1,63 @@
 -- What the proofs of lib.rt cite. Assumes nothing.
 use mathlib.Core.Path.{_≡_, refl, sym, ap, ap₂, _∙_}
-use mathlib.Core.Bool.{Bool, true, false, _&&_}
+use mathlib.Core.Bool.{Bool, true, false}
 use mathlib.Core.List.{List, [], _∷_}
 use mathlib.Core.Option.{Option, none, some}
-use Prim.Native.Nat.{ℕ, zero, suc, _+_, _-_, _*_, _≤_, _<_, min}
+use Prim.Native.Nat.{ℕ, suc, _+_, _-_, _*_, _≤_, _<_, min}
 use native.Mathlib.Numerals.{add-one}
 use native.Mathlib.Omega.{arith}
 use lib.Dec.{eqb}
-use lib.ListN.{length, getD, take, drop}
+use lib.ListN.{length, getD}
 use borrow.Author.Tests.{eqb-true, eq-eqb, ne-eqb}
-use Rattle.laws.specs.Bools.{pick, and-left, and-right, and-both}
-use Rattle.laws.specs.Decides.{Decides, false-true}
-use Rattle.laws.specs.Lists.{isSome, sameList}
-use Rattle.units.specs.Types.{Payload, noop, command, Entry, samePayload}
+use Rattle.laws.specs.Bools.{pick, first-true, second-true}
+use Rattle.laws.specs.Decides.{Decides, false-true, decided}
+use Rattle.laws.specs.Lists.{isSome}
+use Rattle.units.specs.Types.{Payload, Entry, samePayload, termOption}
+use Rattle.units.specs.PayloadLaws.{payload-itself, payload-equal}
 use Rattle.units.specs.declared.Term.{Term}
+use Rattle.units.specs.declared.TermOption.{TermOption}
+use Rattle.units.specs.declared.TermOption.the-variants.{None as NoTerm, Some as SomeTerm}
 use Rattle.units.specs.declared.LogIndex.{LogIndex}
-use Rattle.layout.specs.Tables.{Holds, Held, Gives, rowsIn}
+use Rattle.layout.specs.Tables.{Held, Gives, rowsIn}
 use Rattle.layout.specs.Contents.{decides-same}
 use Rattle.layout.specs.Marked.{wordsFor}
-use Rattle.layout.specs.Parts.{lentRow}
-use Rattle.layout.specs.TableLaws.{rows-are, row-held, length-rowsIn}
+use Rattle.layout.specs.Parts.{lentRow, row-lent}
+use Rattle.layout.specs.TableLaws.{rows-are, length-rowsIn}
 use Rattle.log.specs.Log.{Log, entryAt, lastIndex}
-use Rattle.log.specs.Places.{place, places, placeOf, placeAt}
+use Rattle.log.specs.Places.{place, places, placeAt, termIn, entryTerm}
+use Rattle.log.specs.Payloads.{entry-place, place-term}
 use Rattle.log.specs.declared.Place.{Place}
-use Rattle.log.specs.declared.Place.the-variants.{None as PlaceNone, Noop, Command}
 use Rattle.checks.specs.Checks.{Mismatch, sameEntry, sharedTerm, mismatchAt, mismatchFrom, logMatchingFailure}
-use Rattle.log_matching.specs.declared.TermOption.{TermOption}
-use Rattle.log_matching.specs.declared.TermOption.the-variants.{None as NoTerm, Some as SomeTerm}
 use Rattle.log_matching.specs.declared.IndexOption.{IndexOption}
 use Rattle.log_matching.specs.declared.IndexOption.the-variants.{None as NoIndex, Some as SomeIndex}
 use Rattle.log_matching.specs.declared.MismatchOption.{MismatchOption}
 use Rattle.log_matching.specs.declared.MismatchOption.the-variants.{None as NoMismatch, Some as SomeMismatch}
-use Rattle.log_matching.specs.Matching.{Compares, termOf, indexOf, mismatchOf, termIn, sameTerm, sharedTermAt, sameEntryAt, mismatchHere, differenceHere}
+use Rattle.log_matching.specs.Matching.{Compares, termOf, indexOf, mismatchOf, sameTerm, sharedTermAt, sameEntryAt, mismatchHere, differenceHere}
 
--- ---- term_of, same_term
-
-module _ (place : Place) where
-  pub term-none : place ≡ PlaceNone → termOf NoTerm ≡ termIn place
-  unfolding termOf termIn
-  term-none e = rw e
-
-  pub term-noop : (term : Term) → place ≡ Noop term → termOf (SomeTerm term) ≡ termIn place
-  unfolding termOf termIn
-  term-noop term e = rw e
-
-  pub term-command : (term : Term) (k : ℕ) → place ≡ Command term k → termOf (SomeTerm term) ≡ termIn place
-  unfolding termOf termIn
-  term-command term k e = rw e
-
-pub ruleset terms-in = (term-none, term-noop, term-command)
+-- ---- same_term
 
 module _ (x y : TermOption) where
-  pub no-first : x ≡ NoTerm → termOf NoTerm ≡ sameTerm (termOf x) (termOf y)
-  unfolding termOf sameTerm
+  pub no-first : x ≡ NoTerm → termOf NoTerm ≡ sameTerm (termOption x) (termOption y)
+  unfolding termOf termOption sameTerm
   no-first e = rw e
 
   module _ (s : Term) (e : x ≡ SomeTerm s) where
-    pub no-second : y ≡ NoTerm → termOf NoTerm ≡ sameTerm (termOf x) (termOf y)
-    unfolding termOf sameTerm
+    pub no-second : y ≡ NoTerm → termOf NoTerm ≡ sameTerm (termOption x) (termOption y)
+    unfolding termOf termOption sameTerm
     no-second f = rw (e, f)
 
     module _ (t : Term) (f : y ≡ SomeTerm t) where
-      pub terms-same : s .0 ≡ t .0 → termOf (SomeTerm s) ≡ sameTerm (termOf x) (termOf y)
-      unfolding termOf sameTerm
+      pub terms-same : s .0 ≡ t .0 → termOf (SomeTerm s) ≡ sameTerm (termOption x) (termOption y)
+      unfolding termOf termOption sameTerm
       terms-same g = rw (e, f, eq-eqb (s .0) (t .0) g)
 
-      pub terms-differ : (s .0 ≡ t .0 → ⊥) → termOf NoTerm ≡ sameTerm (termOf x) (termOf y)
-      unfolding termOf sameTerm
+      pub terms-differ : (s .0 ≡ t .0 → ⊥) → termOf NoTerm ≡ sameTerm (termOption x) (termOption y)
+      unfolding termOf termOption sameTerm
       terms-differ g = rw (e, f, ne-eqb (s .0) (t .0) g)
 
 pub ruleset terms = (no-first, no-second, terms-same, terms-differ)
 
 -- ---- shared_term
-
--- the term of an entry
-abbrev entryTerm : Option Entry → Option ℕ
-entryTerm none = none
-entryTerm (some e) = some (e .term .0)
-
-term-place : (o : Option Entry) → termIn (placeOf o) ≡ entryTerm o
-unfolding termIn
-term-place none = refl
-term-place (some e) = by (e .payload)
-  where
-    by : (y : Payload) → termIn (placeOf (some (record { term = e .term; payload = y }))) ≡ some (e .term .0)
-    by noop = refl
-    by (command bs) = refl
 
 shared-is : (o q : Option Entry) → sameTerm (entryTerm o) (entryTerm q) ≡ sharedTerm o q
 unfolding sameTerm
@@ -93,78 +65,31 @@ shared-is none q = refl
 shared-is (some d) none = refl
 shared-is (some d) (some e) = refl
 
-pub shares : (p n : ℕ) (index : LogIndex) (a b : List ℕ) (u v : Place) (s t r : TermOption) → Gives (places p) n a u (placeAt (index .0)) → termOf s ≡ termIn u → Gives (places p) n b v (placeAt (index .0))
-    → termOf t ≡ termIn v → termOf r ≡ sameTerm (termOf s) (termOf t)
+pub shares : (p n : ℕ) (index : LogIndex) (a b : List ℕ) (u v : Place) (s t r : TermOption) → Gives (places p) n a u (placeAt (index .0)) → s ≡ termIn u → Gives (places p) n b v (placeAt (index .0))
+    → t ≡ termIn v → termOf r ≡ sameTerm (termOption s) (termOption t)
     → Compares p n a b (termOf r) (sharedTermAt (index .0))
 unfolding sharedTermAt placeAt
 shares p n index a b u v s t r g e h f q = record {
   to = λ N M x y k l.
-      q ∙ ap₂ sameTerm (e ∙ ap termIn (g .to N x k) ∙ term-place (entryAt x (index .0))) (f ∙ ap termIn (h .to M y l) ∙ term-place (entryAt y (index .0)))
+      let term : Place → Option Term = λ o. termOption (termIn o) in
+      q ∙ ap₂ sameTerm (ap termOption e ∙ ap term (g .to N x k) ∙ place-term (entryAt x (index .0))) (ap termOption f ∙ ap term (h .to M y l) ∙ place-term (entryAt y (index .0)))
       ∙ shared-is (entryAt x (index .0)) (entryAt y (index .0));
 }
 
 -- ---- same_entry
 
--- a test that decides is any other that does
-decided : {P : Type 0} (r t : Bool) → Decides r P → (t ≡ true → P) → (P → t ≡ true) → r ≡ t
-decided true t d f g = sym (g (d .yes refl))
-decided false t d f g = by t refl
-  where
-    by : (u : Bool) → t ≡ u → false ≡ u
-    by true e = absurd (d .no refl (f e))
-    by false e = refl
-
-list-itself : (a : List ℕ) → sameList a a ≡ true
-unfolding sameList
-list-itself [] = refl
-list-itself (x ∷ a) = and-both _ _ (eq-eqb x x refl) (list-itself a)
-
-list-equal : (a b : List ℕ) → sameList a b ≡ true → a ≡ b
-unfolding sameList
-list-equal [] [] h = refl
-list-equal [] (y ∷ b) h = absurd (false-true h)
-list-equal (x ∷ a) [] h = absurd (false-true h)
-list-equal (x ∷ a) (y ∷ b) h = ap₂ (λ (u : ℕ) (v : List ℕ). u ∷ v) (eqb-true x y (and-left _ _ h)) (list-equal a b (and-right _ _ h))
-
-payload-itself : (x : Payload) → samePayload x x ≡ true
-unfolding samePayload
-payload-itself noop = refl
-payload-itself (command a) = list-itself a
-
-payload-equal : (x y : Payload) → samePayload x y ≡ true → x ≡ y
-unfolding samePayload
-payload-equal noop noop h = refl
-payload-equal noop (command b) h = absurd (false-true h)
-payload-equal (command a) noop h = absurd (false-true h)
-payload-equal (command a) (command b) h = ap command (list-equal a b h)
-
 entry-itself : (o : Option Entry) → sameEntry o o ≡ true
 entry-itself none = refl
 entry-itself (some e) = rw (eq-eqb (e .term .0) (e .term .0) refl) (payload-itself (e .payload))
-
-both-true : (s t : Bool) → (s && t) ≡ true → (s ≡ true) × (t ≡ true)
-both-true true t h = (refl, h)
-both-true false t h = absurd (false-true h)
 
 entry-equal : (o q : Option Entry) → sameEntry o q ≡ true → o ≡ q
 entry-equal none none h = refl
 entry-equal none (some e) h = absurd (false-true h)
 entry-equal (some d) none h = absurd (false-true h)
 entry-equal (some d) (some e) h =
-    let k = both-true (eqb (d .term .0) (e .term .0)) (samePayload (d .payload) (e .payload)) h in
-    ap₂ (λ (t : ℕ) (y : Payload). some (record { term = record { 0 = t }; payload = y })) (eqb-true (d .term .0) (e .term .0) (k .0)) (payload-equal (d .payload) (e .payload) (k .1))
-
-entry-place : (x : Log) (i : ℕ) → 1 ≤ i → entryAt x i ≡ getD x (i - 1) none
-unfolding entryAt
-entry-place x zero h = absurd (omega arith)
-entry-place x (suc i) h = ap (λ (k : ℕ). getD x k none) (let e : i ≡ suc i - 1 = omega arith in e)
-
--- the row of an index, as it is lent
-row-here : (p n : ℕ) {N : ℕ} {s : List ℕ} {x : Log} (h : Held (places p) N n s x) (i at : ℕ) → i < n → at ≡ i * (2 + wordsFor p) → Holds (place p) (lentRow at (2 + wordsFor p) s) (getD x i none)
-row-here p n {N} {s} {x} h i at k e =
-    let c : 8 * (at + (2 + wordsFor p)) - 8 * at ≡ 8 * (2 + wordsFor p) = omega arith in
-    let r = row-held h i none k in
-    record { good = r .good; is = ap₂ (λ (u v : ℕ). take u (drop (8 * v) s)) c e ∙ r .is }
+    let t : Bool = eqb (d .term .0) (e .term .0) in
+    let u : Bool = samePayload (d .payload) (e .payload) in
+    ap₂ (λ (t : ℕ) (y : Payload). some (record { term = record { 0 = t }; payload = y })) (eqb-true (d .term .0) (e .term .0) (first-true t u h)) (payload-equal (d .payload) (e .payload) (second-true t u h))
 
 pub rows-compared : (p n : ℕ) (index : LogIndex) (at : ℕ) (r : Bool) (a b : List ℕ) → 1 ≤ index .0 → index .0 ≤ n → at ≡ (index .0 - 1) * (2 + wordsFor p)
     → Decides r (lentRow at (2 + wordsFor p) a ≡ lentRow at (2 + wordsFor p) b)
@@ -175,7 +100,7 @@ rows-compared p n index at r a b lo hi e d = record {
       let i : ℕ = index .0 - 1 in
       let o : Option Entry = getD x i none in
       let q : Option Entry = getD y i none in
-      decided r (sameEntry o q) (decides-same (row-here p n g i at (omega arith) e) (row-here p n h i at (omega arith) e) d) (entry-equal o q) (λ k. ap (sameEntry o) (sym k) ∙ entry-itself o)
+      decided r (sameEntry o q) (decides-same (row-lent g i at none (omega arith) e) (row-lent h i at none (omega arith) e) d) (entry-equal o q) (λ k. ap (sameEntry o) (sym k) ∙ entry-itself o)
       ∙ ap₂ sameEntry (sym (entry-place x (index .0) lo)) (sym (entry-place y (index .0) lo));
 }
 

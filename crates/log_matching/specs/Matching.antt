@@ -6,14 +6,13 @@ use mathlib.Core.Option.{Option, none, some}
 use Prim.Native.Nat.{ℕ}
 use lib.Dec.{eqb}
 use Rattle.laws.specs.Bools.{pick}
+use Rattle.units.specs.declared.Term.{Term}
+use Rattle.units.specs.declared.TermOption.{TermOption}
+use Rattle.units.specs.declared.TermOption.the-variants.{None as NoTerm, Some as SomeTerm}
 use Rattle.layout.specs.Tables.{Held}
 use Rattle.log.specs.Log.{Log, entryAt}
 use Rattle.log.specs.Places.{places}
-use Rattle.log.specs.declared.Place.{Place}
-use Rattle.log.specs.declared.Place.the-variants.{None as PlaceNone, Noop, Command}
 use Rattle.checks.specs.Checks.{Mismatch, sameEntry, sharedTerm, mismatchAt, differenceAt}
-use Rattle.log_matching.specs.declared.TermOption.{TermOption}
-use Rattle.log_matching.specs.declared.TermOption.the-variants.{None as NoTerm, Some as SomeTerm}
 use Rattle.log_matching.specs.declared.IndexOption.{IndexOption}
 use Rattle.log_matching.specs.declared.IndexOption.the-variants.{None as NoIndex, Some as SomeIndex}
 use Rattle.log_matching.specs.declared.MismatchOption.{MismatchOption}
@@ -42,17 +41,11 @@ mismatchOf (SomeMismatch term index difference) = some (record { term = term .0;
 
 -- ---- one index of two logs
 
--- The term of what stands at a place.
-unfoldable pub termIn : Place → Option ℕ
-termIn PlaceNone = none
-termIn (Noop term) = some (term .0)
-termIn (Command term k) = some (term .0)
-
--- The one term of two, if they are the same.
-unfoldable pub sameTerm : Option ℕ → Option ℕ → Option ℕ
+-- The one term of two as a number, if they are the same.
+unfoldable pub sameTerm : Option Term → Option Term → Option ℕ
 sameTerm none t = none
 sameTerm (some s) none = none
-sameTerm (some s) (some t) = pick (eqb s t) (some s) none
+sameTerm (some s) (some t) = pick (eqb (s .0) (t .0)) (some (s .0)) none
 
 -- The term that both logs hold at an index.
 unfoldable pub sharedTermAt : ℕ → Log → Log → Option ℕ

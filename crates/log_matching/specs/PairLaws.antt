@@ -7,7 +7,7 @@ use Prim.Native.Nat.{ℕ, suc, _+_, _-_, _*_, _≤_, _<_}
 use native.Mathlib.Numerals.{add-one}
 use native.Mathlib.Omega.{arith}
 use lib.ListN.{length, getD, take, drop, drop-of-length-le}
-use lib.Seq.{drop-cons}
+use Rattle.laws.specs.ListLaws.{drop-next}
 use Rattle.units.specs.declared.NodeId.{NodeId}
 use Rattle.units.specs.declared.SimTime.{SimTime}
 use Rattle.units.specs.declared.Term.{Term}
@@ -64,7 +64,7 @@ module _ (p n servers stride : ℕ) (b : List ℕ) where
 
   -- the slots from a slot on: that slot, and those after it
   from-slot : (j : ℕ) (xs : List Log) → Logs p n servers stride b xs → j < servers → drop j xs ≡ getD xs j [] ∷ drop (j + 1) xs
-  from-slot j xs l k = drop-cons xs j [] (omega (arith, l .count)) ∙ ap (λ (m : ℕ). getD xs j [] ∷ drop m xs) (sym (add-one j))
+  from-slot j xs l k = drop-next xs j [] (omega (arith, l .count))
 
   past-last : (j : ℕ) (xs : List Log) → Logs p n servers stride b xs → servers ≤ j → drop j xs ≡ []
   past-last j xs l k = drop-of-length-le xs {i = j} (omega (arith, l .count))

@@ -2,7 +2,7 @@
 use mathlib.Core.Path.{_≡_}
 use mathlib.Core.List.{List, [], _∷_}
 use mathlib.Core.Option.{Option, none, some}
-use Prim.Native.Nat.{ℕ, suc, _+_, _*_, _^_, _≤_, _<_}
+use Prim.Native.Nat.{ℕ, suc, _+_, _*_, _≤_, _<_}
 use lib.ListN.{length, getD, take, drop}
 use Rattle.units.specs.declared.NodeId.{NodeId}
 use Rattle.units.specs.declared.SimTime.{SimTime}
@@ -11,9 +11,9 @@ use Rattle.layout.specs.Marked.{wordsFor}
 use Rattle.log.specs.Log.{Log}
 use Rattle.log.specs.Places.{places}
 use Rattle.checks.specs.declared.violations.Tally.{Tally}
-use Rattle.checks.specs.declared.violations.Tally.the-variants.{Counted, Past64Bits}
 use Rattle.checks.specs.Checks.{Checker, Mismatch, logMatchingFailure, reportMismatch, ServerLog, checkAgainst, checkLogMatching}
 use Rattle.checks.specs.Violations.{violations}
+use Rattle.checks.specs.Outcomes.{Outcome}
 
 -- ---- where the logs lie
 
@@ -80,20 +80,6 @@ pub record RecordsFrom (p n servers stride : ℕ) (b : List ℕ) (time : SimTime
 -- Every pair of logs from slot i on.
 pub record RecordsAll (p n servers stride : ℕ) (b : List ℕ) (time : SimTime) (i kept r : ℕ) (v v′ : List ℕ) : Type 0 where
   pub to : (xs : List Log) → Logs p n servers stride b xs → Records kept r v v′ (λ c. checkLogMatching c time (serverLogs i (drop i xs)))
-
--- What became of the region v, where the unlimited definition gives the checks c: it holds its violations, and the counts are its own; or its total is past 64 bits, and
--- nothing changed.
-pub record Told (M : ℕ) (v′ : List ℕ) (c : Checker) (kept total : ℕ) : Type 0 where
-  pub held : Held violations M kept v′ (c .violations)
-  pub counted : c .total ≡ total
-
-pub record Untold (v v′ : List ℕ) (c : Checker) : Type 0 where
-  pub same : v′ ≡ v
-  pub past : 2 ^ 64 ≤ c .total
-
-abbrev pub Outcome : Tally → (M : ℕ) (v v′ : List ℕ) → Checker → Type 0
-Outcome (Counted kept total) M v v′ c = Told M v′ c kept total
-Outcome Past64Bits M v v′ c = Untold v v′ c
 
 -- Whatever logs xs the servers have, and whatever checks c have the `kept` violations that v holds and the total: every pair of logs is checked.
 pub record ChecksLogs (p n servers stride : ℕ) (b : List ℕ) (time : SimTime) (kept total : ℕ) (r : Tally) (v v′ : List ℕ) : Type 0 where

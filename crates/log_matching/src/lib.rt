@@ -4,21 +4,16 @@ ghost use mathlib.Core.Path.{_≡_};
 ghost use Prim.Native.Nat.{_+_, _*_, _≤_, min};
 ghost use lib.ListN.{length};
 ghost use Rattle.laws.specs.Lists.{isSome};
+ghost use Rattle.units.specs.Types.{termOption};
 ghost use Rattle.checks.specs.Checks.{logMatchingFailure};
 ghost use Rattle.layout.specs.Marked.{wordsFor};
-ghost use Rattle.log_matching.specs.Matching.{Compares, termIn, termOf, indexOf, mismatchOf, sameTerm, sharedTermAt, sameEntryAt, mismatchHere, differenceHere};
+ghost use Rattle.log_matching.specs.Matching.{Compares, termOf, indexOf, mismatchOf, sameTerm, sharedTermAt, sameEntryAt, mismatchHere, differenceHere};
 use layout::rows;
-use log::Place;
 use units::LogIndex;
 use units::Term;
+use units::TermOption;
 
 pub mod pairs; // every pair of logs, and mismatches reported
-
-// A term, if there is one.
-enum TermOption {
-    None,
-    Some(Term),
-}
 
 // An index, if there is one.
 enum IndexOption {
@@ -38,20 +33,9 @@ pub enum MismatchOption {
 
 // ---- one index
 
-// The term of what stands at a place.
-fn term_of(place: Place) -> TermOption
-    ensures { λ r. ⌜ termOf r ≡ termIn place ⌝ }
-{
-    match place {
-        Place::None => TermOption::None,
-        Place::Noop { term } => TermOption::Some(term),
-        Place::Command { term, length: _ } => TermOption::Some(term),
-    }
-}
-
 // The one term of two, if they are the same.
 fn same_term(x: TermOption, y: TermOption) -> TermOption
-    ensures { λ r. ⌜ termOf r ≡ sameTerm (termOf x) (termOf y) ⌝ }
+    ensures { λ r. ⌜ termOf r ≡ sameTerm (termOption x) (termOption y) ⌝ }
 {
     match x {
         TermOption::None => TermOption::None,
@@ -73,8 +57,8 @@ fn shared_term(a: &[u8], b: &[u8], n: usize, p: usize, index: LogIndex) -> TermO
     requires { ⌜ (p ≤ 256) × (8 * (n * (2 + wordsFor p)) ≤ length (now a)) × (8 * (n * (2 + wordsFor p)) ≤ length (now b)) ⌝ }
     ensures { λ r. ⌜ Compares p n (now (a .entry)) (now (b .entry)) (termOf r) (sharedTermAt (index .0)) ⌝ }
 {
-    let x = term_of(log::entry(a, n, p, index));
-    let y = term_of(log::entry(b, n, p, index));
+    let x = log::term_of(log::entry(a, n, p, index));
+    let y = log::term_of(log::entry(b, n, p, index));
     same_term(x, y)
 }
 

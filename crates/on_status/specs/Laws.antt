@@ -29,7 +29,8 @@ use Rattle.checks.specs.declared.leaders.LeaderSeen.the-variants.{Same, Other, 
 use Rattle.checks.specs.Checks.{Checker, report, reportIf, leaderKey, compareLeader, firstMissing, reportMissing, checkLeaderCompleteness, alreadyLeads, onStatus}
 use Rattle.checks.specs.Leaders.{leaders, leadersAfter, isFull, afterLeader, ComparesLeader}
 use Rattle.checks.specs.Violations.{violations, Keeps}
-use Rattle.checks.specs.OnApply.{oneIf}
+use Rattle.checks.specs.Reports.{total-if, applied-if, one-due}
+use Rattle.checks.specs.Outcomes.{oneIf}
 use Rattle.on_status.specs.declared.Missing.{Missing}
 use Rattle.on_status.specs.declared.Missing.the-variants.{None, At}
 use Rattle.on_status.specs.declared.Checking.{Checking}
@@ -69,22 +70,12 @@ module _ (time : SimTime) (server : NodeId) (term : Term) where
   -- ---- and after a leader is compared
 
   compare-total : (o : Option TermLeader) (c : Checker) → c .total ≤ compareLeader o c time server term .total
-  unfolding report
   compare-total none c = omega arith
-  compare-total (some other) c = by (not (eqb (other .server .0) (server .0)))
-    where
-      by : (t : Bool) → c .total ≤ reportIf t c time ElectionSafety (other .server .0 ∷ server .0 ∷ term .0 ∷ []) .total
-      by true = omega arith
-      by false = omega arith
+  compare-total (some other) c = omega (arith, total-if (not (eqb (other .server .0) (server .0))) c time ElectionSafety (other .server .0 ∷ server .0 ∷ term .0 ∷ []))
 
   compare-applied : (o : Option TermLeader) (c : Checker) → compareLeader o c time server term .applied ≡ c .applied
-  unfolding report
   compare-applied none c = refl
-  compare-applied (some other) c = by (not (eqb (other .server .0) (server .0)))
-    where
-      by : (t : Bool) → reportIf t c time ElectionSafety (other .server .0 ∷ server .0 ∷ term .0 ∷ []) .applied ≡ c .applied
-      by true = refl
-      by false = refl
+  compare-applied (some other) c = applied-if (not (eqb (other .server .0) (server .0))) c time ElectionSafety (other .server .0 ∷ server .0 ∷ term .0 ∷ [])
 
   total-after : (r : LeaderSeen) (c : Checker) → afterLeader r c time server term .total ≡ c .total + oneIf (isOther r)
   unfolding report
@@ -136,7 +127,7 @@ module _ {time : SimTime} {server : NodeId} {term : Term} {missing : Missing} {n
         leader-past m = record {
           to = λ S lo hi N M c h g t.
               let u = q .to S lo hi N c time h in
-              let o : other ≡ true = must other es in
+              let o : other ≡ true = one-due other second es (omega arith) in
               record {
                 first = other-same time server term seen S N n s s′ c (sym eo ∙ o) h (u .held);
                 second = refl;
@@ -150,10 +141,6 @@ module _ {time : SimTime} {server : NodeId} {term : Term} {missing : Missing} {n
                 );
               };
         }
-          where
-            must : (o : Bool) → second ≡ pick o 1 0 → o ≡ true
-            must true w = refl
-            must false w = absurd (omega arith)
 
         pub leader-done : {k₁ k₂ count x y : ℕ} {v₁ v₂ : List ℕ} → total ≤ 18446744073709551615 - (first + second) → x ≡ firstOf seen
             → Keeps other time ElectionSafety (x ∷ server .0 ∷ term .0 ∷ []) kept k₁ v v₁ → y ≡ indexOf missing
@@ -177,16 +164,18 @@ module _ {time : SimTime} {server : NodeId} {term : Term} {missing : Missing} {n
               ∙ ap (λ (e : Checker). e .violations) (missing-is time server term missing d))
               (q₂ .to d M w₁) in
               record {
-                leaders = rw en (subst (Held (leaders S) N (leadersAfter n seen) s′) (sym (missing-leaders time server term missing d) ∙ ap (λ (e : Checker). made e .leaders) (sym (u .is))) (u .held (sym ez ∙ tz)));
-                violations = subst (Held violations M k₂ v₂) (ap (λ (e : Checker). made e .violations) (sym (u .is))) w₂;
-                counted = omega (
-                  arith,
-                  missing-total time server term missing (compareLeader (lookup numbers leaderKey (term .0) (c .leaders)) c time server term),
-                  ap (λ (e : Checker). e .total) (u .is),
-                  total-after time server term seen c,
-                  ap oneIf el,
-                  ap oneIf eo,
-                );
+                made = record {
+                  table = rw en (subst (Held (leaders S) N (leadersAfter n seen) s′) (sym (missing-leaders time server term missing d) ∙ ap (λ (e : Checker). made e .leaders) (sym (u .is))) (u .held (sym ez ∙ tz)));
+                  violations = subst (Held violations M k₂ v₂) (ap (λ (e : Checker). made e .violations) (sym (u .is))) w₂;
+                  counted = omega (
+                    arith,
+                    missing-total time server term missing (compareLeader (lookup numbers leaderKey (term .0) (c .leaders)) c time server term),
+                    ap (λ (e : Checker). e .total) (u .is),
+                    total-after time server term seen c,
+                    ap oneIf el,
+                    ap oneIf eo,
+                  );
+                };
                 led = refl;
               };
         }
@@ -222,7 +211,7 @@ module _ {raftChecks : Bool} {time : SimTime} {server : NodeId} {status : Status
   pub status-follows : not r ≡ true → ChecksStatus raftChecks time server status p l m leading b a n kept total (Done n kept total NoTerm) s s v v
   unfolding onStatus termOption
   status-follows t = record {
-    to = λ S lo hi N M L A c log h g q k w. rw (sym e ∙ not-true r t) (record { leaders = h; violations = g; counted = q; led = refl });
+    to = λ S lo hi N M L A c log h g q k w. rw (sym e ∙ not-true r t) (record { made = record { table = h; violations = g; counted = q }; led = refl });
   }
 
   pub status-leads : {led : Bool} {missing : Missing} {x : Checking} {s′ v′ : List ℕ} → not r ≡ false → led ≡ alreadyLeads (termOption leading) (status .term)

@@ -1,12 +1,12 @@
 -- What the proofs of leader completeness cite: the payload at each index of a log against the applied one. Assumes nothing.
-use mathlib.Core.Path.{_≡_, refl, sym, ap, ap₂, _∙_}
+use mathlib.Core.Path.{_≡_, refl, sym, ap, _∙_}
 use mathlib.Core.Bool.{Bool, true, false, not}
 use mathlib.Core.List.{List}
 use mathlib.Core.Option.{Option, none, some}
-use Prim.Native.Nat.{ℕ, suc, _+_, _-_, _*_, _≤_, _<_}
+use Prim.Native.Nat.{ℕ, suc, _+_, _*_, _≤_, _<_}
 use native.Mathlib.Numerals.{add-one}
 use native.Mathlib.Omega.{arith}
-use lib.ListN.{getD, take, drop, drop-of-length-le, List·getD-eq-default}
+use lib.ListN.{getD, drop, drop-of-length-le, List·getD-eq-default}
 use lib.Seq.{drop-cons}
 use borrow.Author.Tests.{not-true, not-false}
 use Rattle.laws.specs.Bools.{pick}
@@ -14,17 +14,16 @@ use Rattle.laws.specs.Decides.{Decides}
 use Rattle.units.specs.Types.{Payload, noop, Entry}
 use Rattle.layout.specs.Tables.{Holds, Held}
 use Rattle.layout.specs.Contents.{decides-same}
-use Rattle.layout.specs.TableLaws.{held-rows, row-held}
-use Rattle.layout.specs.Parts.{lentRow}
+use Rattle.layout.specs.TableLaws.{held-rows}
+use Rattle.layout.specs.Parts.{lentRow, row-lent}
 use Rattle.layout.specs.Marked.{wordsFor}
 use Rattle.layout.specs.Payload.{payload}
 use Rattle.layout.specs.MarkedLaws.{payloads-same}
 use Rattle.layout.specs.Applied.{applied}
 use Rattle.log.specs.Log.{Log, entryAt}
 use Rattle.log.specs.Places.{places}
-use Rattle.log.specs.Laws.{payloadIn}
+use Rattle.log.specs.Payloads.{payloadIn, payloadCode, place-start, payload-held}
 use Rattle.checks.specs.Checks.{holds, firstMissing}
-use Rattle.on_write.specs.Payloads.{payloadCode, payload-held}
 use Rattle.on_status.specs.declared.Missing.{Missing}
 use Rattle.on_status.specs.declared.Missing.the-variants.{None, At}
 use Rattle.on_status.specs.OnStatus.{missingOption, HoldsApplied, FindsMissing, AsksMissing}
@@ -50,11 +49,8 @@ module _ (p l m i : ℕ) (b a : List ℕ) where
   unfolding entryAt
   holds-row at at₂ r hm hl e e₂ d = record {
     to = λ L A log x h k.
-        let w : ℕ = 1 + wordsFor p in
-        let z : 8 * (at₂ + w) - 8 * at₂ ≡ 8 * w = omega arith in
-        let row : Holds (payload p) (lentRow at₂ w a) (getD x i noop) =
-        record { good = row-held k i noop hm .good; is = ap₂ (λ (j c : ℕ). take j (drop (8 * c) a)) z e₂ ∙ row-held k i noop hm .is } in
-        row-holds p (lentRow at w b) (lentRow at₂ w a) (getD log i none) (getD x i noop) r (payload-held p l h i at hl e) row d;
+        row-holds p (lentRow at (1 + wordsFor p) b) (lentRow at₂ (1 + wordsFor p) a) (getD log i none) (getD x i noop) r (payload-held p l h i at hl (place-start p i at e))
+        (row-lent k i at₂ noop hm e₂) d;
   }
 
 pub ruleset holding = (holds-past, holds-row)

@@ -22,7 +22,7 @@ use Rattle.checks.specs.declared.leaders.LeaderSeen.the-variants.{Same, Other, 
 use Rattle.checks.specs.Checks.{Checker, Led, leaderKey, compareLeader, holds, firstMissing, reportMissing, onStatus}
 use Rattle.checks.specs.Leaders.{leaders}
 use Rattle.checks.specs.Violations.{violations}
-use Rattle.checks.specs.OnApply.{Unmade}
+use Rattle.checks.specs.Outcomes.{Unmade, Made}
 use Rattle.on_status.specs.declared.Missing.{Missing}
 use Rattle.on_status.specs.declared.Missing.the-variants.{None, At}
 use Rattle.on_status.specs.declared.Checking.{Checking}
@@ -71,16 +71,14 @@ firstOf (Other first) = first .0
 firstOf (Inserted m) = 0
 firstOf Full = 0
 
--- What became of the regions s and v, where the unlimited definition gives the checks and the led term d: they hold its leaders and violations, and the counts and the term are
--- its own; or its total is past 64 bits, or its leaders have no room, and nothing changed.
-pub record Made (S N M : ℕ) (s′ v′ : List ℕ) (d : Led) (count kept total : ℕ) (leading : TermOption) : Type 0 where
-  pub leaders : Held (leaders S) N count s′ (d .checker .leaders)
-  pub violations : Held violations M kept v′ (d .checker .violations)
-  pub counted : d .checker .total ≡ total
+-- What became of the regions s and v, where the unlimited definition gives the checks and the led term d: what any check with a table makes of them, and the term is its
+-- own; or its total is past 64 bits, or its leaders have no room, and nothing changed.
+pub record Leading (S N M : ℕ) (s′ v′ : List ℕ) (d : Led) (count kept total : ℕ) (leading : TermOption) : Type 0 where
+  pub made : Made (leaders S) (λ c. c .leaders) N M s′ v′ (d .checker) count kept total
   pub led : termOption leading ≡ d .leading
 
 abbrev pub Outcome : Checking → (S N M n : ℕ) (s s′ v v′ : List ℕ) → Led → Type 0
-Outcome (Done count kept total leading) S N M n s s′ v v′ d = Made S N M s′ v′ d count kept total leading
+Outcome (Done count kept total leading) S N M n s s′ v v′ d = Leading S N M s′ v′ d count kept total leading
 Outcome Past64Bits S N M n s s′ v v′ d = Unmade s s′ v v′ (2 ^ 64 ≤ d .checker .total)
 Outcome NoRoom S N M n s s′ v v′ d = Unmade s s′ v v′ (N < n * 2 + 2)
 

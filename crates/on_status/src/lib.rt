@@ -3,7 +3,6 @@
 ghost use mathlib.Core.Path.{_≡_};
 ghost use Prim.Native.Nat.{_+_, _*_, _≤_, _<_};
 ghost use lib.ListN.{length};
-ghost use Rattle.laws.specs.Bools.{pick};
 ghost use Rattle.units.specs.Types.{termOption};
 ghost use Rattle.layout.specs.Marked.{wordsFor};
 ghost use Rattle.checks.specs.Checks.{alreadyLeads};
@@ -94,13 +93,6 @@ fn check_leader_completeness(
 }
 
 // ---- what an answer says
-
-// One where a test is true.
-fn one_if(b: bool) -> u64
-    ensures { λ r. ⌜ (r ≡ pick b 1 0) × (r ≤ 1) ⌝ }
-{
-    if b { 1 } else { 0 }
-}
 
 // Whether an index is missing.
 fn is_missing(missing: Missing) -> bool
@@ -199,7 +191,7 @@ fn compare_leader(
     ensures { λ r. ⌜ ComparesStatus time server term missing n kept total r (now (s .entry)) (now (s .exit)) (now (v .entry)) (now (v .exit)) ⌝ }
 {
     let lacks = is_missing(missing);
-    let first = one_if(lacks);
+    let first = violations::one_if(lacks);
     if 18446744073709551615 - first < total {
         return Checking::Past64Bits;
     }
@@ -208,7 +200,7 @@ fn compare_leader(
         return Checking::NoRoom;
     }
     let other = is_other(seen);
-    let second = one_if(other);
+    let second = violations::one_if(other);
     if 18446744073709551615 - (first + second) < total {
         return Checking::Past64Bits;
     }

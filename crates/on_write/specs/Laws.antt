@@ -10,7 +10,7 @@ use mir.Val.{Fits}
 use Rattle.laws.specs.Bools.{pick}
 use Rattle.laws.specs.Decides.{false-true}
 use Rattle.laws.specs.Order.{pairs, lookup}
-use Rattle.units.specs.Types.{Payload, noop, command, Entry, termOption}
+use Rattle.units.specs.Types.{Payload, Entry, termOption}
 use Rattle.units.specs.declared.NodeId.{NodeId}
 use Rattle.units.specs.declared.Term.{Term}
 use Rattle.units.specs.declared.TermOption.{TermOption}
@@ -22,43 +22,27 @@ use Rattle.layout.specs.Parts.{lentRow}
 use Rattle.layout.specs.Marked.{wordsFor}
 use Rattle.layout.specs.Payload.{payload}
 use Rattle.log.specs.declared.Place.{Place}
-use Rattle.log.specs.declared.Place.the-variants.{None as NoPlace, Noop, Command}
+use Rattle.log.specs.declared.Place.the-variants.{None as NoPlace}
 use Rattle.log.specs.Log.{Log, entryAt}
-use Rattle.log.specs.Places.{places, kindIn, placeOf, placeAt}
+use Rattle.log.specs.Places.{places, placeAt, termIn, entryTerm}
 use Rattle.log.specs.Laws.{at-zero, at-past}
+use Rattle.log.specs.Payloads.{entry-place, place-start, entry-held, place-term}
 use Rattle.checks.specs.declared.Check.the-variants.{UniqueEntries}
 use Rattle.checks.specs.declared.entries.EntrySeen.{EntrySeen}
 use Rattle.checks.specs.declared.entries.EntrySeen.the-variants.{Same, Other, Inserted, Full}
+use Rattle.checks.specs.declared.violations.Checked.{Checked}
+use Rattle.checks.specs.declared.violations.Checked.the-variants.{Done, Past64Bits, NoRoom}
 use Rattle.checks.specs.Checks.{Checker, seenKey, report, reportIf, compareSeen, writtenEntry, onWrite}
 use Rattle.checks.specs.Entries.{seen, seenAfter, noRoom, afterSeen, ComparesSeen}
-use Rattle.checks.specs.OnApply.{oneIf}
 use Rattle.checks.specs.Violations.{violations, Keeps}
-use Rattle.on_write.specs.declared.Writing.{Writing}
-use Rattle.on_write.specs.declared.Writing.the-variants.{Done, Past64Bits, NoRoom}
-use Rattle.on_write.specs.Payloads.{entry-held, entry-place}
-use Rattle.on_write.specs.OnWrite.{termIn, entryTerm, ReadsTerm, isOther, Outcome, WritesEntry, Writes}
+use Rattle.checks.specs.Reports.{one-due}
+use Rattle.checks.specs.Outcomes.{oneIf, RowsOutcome}
+use Rattle.on_write.specs.OnWrite.{ReadsTerm, isOther, WritesEntry, Writes}
 
--- ---- term_in, term_at
-
-pub term-noop : (q : Place) (t : Term) → q ≡ Noop t → Some t ≡ termIn q
-term-noop q t e = rw e
-
-pub term-command : (q : Place) (t : Term) (k : ℕ) → q ≡ Command t k → Some t ≡ termIn q
-term-command q t k e = rw e
-
-pub ruleset term-ins = (term-noop, term-command)
+-- ---- term_at
 
 none-some : (t : Term) → None ≡ Some t → ⊥
 none-some t e = let z : _≡_ {A = ℕ} 0 1 = cc in absurd (omega arith)
-
-place-term : (o : Option Entry) → termOption (termIn (placeOf o)) ≡ entryTerm o
-unfolding termOption
-place-term none = refl
-place-term (some e) = by (e .payload)
-  where
-    by : (y : Payload) → termOption (termIn (kindIn (e .term) y)) ≡ some (e .term)
-    by noop = refl
-    by (command bs) = refl
 
 module _ (p l i : ℕ) (b : List ℕ) where
   term-is : (q : Place) → Gives (places p) l b q (placeAt i) → (N : ℕ) (log : Log) → Held (places p) N l b log → termOption (termIn q) ≡ entryTerm (entryAt log i)
@@ -118,17 +102,13 @@ module _ {p : ℕ} {time : SimTime} {server : NodeId} {index : LogIndex} {term :
     entry-past m = record {
       to = λ N M c x k h g t.
           let u = q .to N c time server x k h in
-          let o : other ≡ true = must other er in
+          let o : other ≡ true = one-due other reports er (omega (arith, f .fits)) in
           record {
             first = other-same seen p N n s s′ c time server index (entryWith term x) (sym eo ∙ o) h (u .held);
             second = refl;
             why = omega (arith, ap (λ (y : Checker). y .total) (u .is), total-after seen c time server index (entryWith term x), ap oneIf eo);
           };
     }
-      where
-        must : (o : Bool) → reports ≡ pick o 1 0 → o ≡ true
-        must true w = refl
-        must false w = absurd (omega (arith, f .fits))
 
     pub entry-done : {k′ count : ℕ} {v′ : List ℕ} → total ≤ 18446744073709551615 - reports → Keeps other time UniqueEntries (server .0 ∷ index .0 ∷ term .0 ∷ []) kept k′ v v′ → count ≡ seenAfter n seen
         → WritesEntry p time server index term content n kept total (Done count k′ (total + reports)) s s′ v v′
@@ -136,7 +116,7 @@ module _ {p : ℕ} {time : SimTime} {server : NodeId} {index : LogIndex} {term :
       to = λ N M c x k h g t.
           let u = q .to N c time server x k h in
           record {
-            entries = rw (u .is, en) (u .held (sym ez ∙ tz));
+            table = rw (u .is, en) (u .held (sym ez ∙ tz));
             violations = subst (Held violations M k′ v′)
                 (ap (λ (o : Bool). reportIf o c time UniqueEntries (server .0 ∷ index .0 ∷ term .0 ∷ []) .violations) eo
                 ∙ violations-after seen c time server index (entryWith term x) ∙ ap (λ (y : Checker). y .violations) (sym (u .is))) (w .to c M g);
@@ -154,8 +134,8 @@ module _ (p l : ℕ) (time : SimTime) (server : NodeId) (index : LogIndex) (b : 
   write-none e = record { to = λ N M L c log h g t k. by N M c h g t (entryAt log (index .0)) (ap termOption (sym e) ∙ q .to L log k) }
     where
       by : (N M : ℕ) (c : Checker) → Held (seen p) N n s (c .entries) → Held violations M kept v (c .violations) → c .total ≡ total → (o : Option Entry) → none ≡ entryTerm o
-          → Outcome (Done n kept total) p N M n s s v v (writtenEntry o c time server index)
-      by N M c h g t none e = record { entries = h; violations = g; counted = t }
+          → RowsOutcome (Done n kept total) (seen p) (λ (y : Checker). y .entries) N M n s s v v (writtenEntry o c time server index)
+      by N M c h g t none e = record { table = h; violations = g; counted = t }
       by N M c h g t (some d) e = let z : _≡_ {A = ℕ} 0 1 = cc in absurd (omega arith)
 
   module _ (term : Term) (e : r ≡ Some term) where
@@ -165,7 +145,7 @@ module _ (p l : ℕ) (time : SimTime) (server : NodeId) (index : LogIndex) (b : 
     pub term-high : index .0 - 1 < l
     term-high = omega (arith, q .low term e, q .high term e)
 
-    pub write-some : (at : ℕ) (a : Writing) (s′ v′ : List ℕ) → at ≡ (index .0 - 1) * (1 + wordsFor p + 1) → WritesEntry p time server index term (lentRow at (1 + wordsFor p) b) n kept total a s s′ v v′
+    pub write-some : (at : ℕ) (a : Checked) (s′ v′ : List ℕ) → at ≡ (index .0 - 1) * (1 + wordsFor p + 1) → WritesEntry p time server index term (lentRow at (1 + wordsFor p) b) n kept total a s s′ v v′
         → Writes p l time server index b n kept total a s s′ v v′
     unfolding onWrite termOption
     write-some at a s′ v′ ea w = record {
@@ -173,13 +153,13 @@ module _ (p l : ℕ) (time : SimTime) (server : NodeId) (index : LogIndex) (b : 
     }
       where
         by : (N M L : ℕ) (c : Checker) (log : Log) → Held (seen p) N n s (c .entries) → Held violations M kept v (c .violations) → c .total ≡ total → Held (places p) L l b log
-            → (o : Option Entry) → entryAt log (index .0) ≡ o → some term ≡ entryTerm o → Outcome a p N M n s s′ v v′ (writtenEntry o c time server index)
+            → (o : Option Entry) → entryAt log (index .0) ≡ o → some term ≡ entryTerm o → RowsOutcome a (seen p) (λ (y : Checker). y .entries) N M n s s′ v v′ (writtenEntry o c time server index)
         by N M L c log h g t k none eo et = let z : _≡_ {A = ℕ} 0 1 = cc in absurd (omega arith)
         by N M L c log h g t k (some d) eo et =
             let same : term ≡ d .term = cc in
             let x : Holds (payload p) (lentRow at (1 + wordsFor p) b) (d .payload) =
-            entry-held p l k (index .0 - 1) at term-high ea d (sym (entry-place log (index .0) term-low) ∙ eo) in
-            subst (λ (u : Term). Outcome a p N M n s s′ v v′ (compareSeen (lookup pairs seenKey (index .0, u .0) (c .entries)) c time server index (record { term = u; payload = d .payload }))) same
+            entry-held p l k (index .0 - 1) at term-high (place-start p (index .0 - 1) at ea) d (sym (entry-place log (index .0) term-low) ∙ eo) in
+            subst (λ (u : Term). RowsOutcome a (seen p) (λ (y : Checker). y .entries) N M n s s′ v v′ (compareSeen (lookup pairs seenKey (index .0, u .0) (c .entries)) c time server index (record { term = u; payload = d .payload }))) same
             (w .to N M c (d .payload) x h g t)
 
 pub ruleset writing = (write-none, term-low, term-high, write-some)

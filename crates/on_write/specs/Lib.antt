@@ -1,3 +1,2 @@
 pub mod OnWrite
-pub mod Payloads
 pub mod Laws

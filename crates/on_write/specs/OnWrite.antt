@@ -2,44 +2,28 @@
 use mathlib.Core.Path.{_≡_}
 use mathlib.Core.Bool.{Bool, true, false}
 use mathlib.Core.List.{List}
-use mathlib.Core.Option.{Option, none, some}
-use Prim.Native.Nat.{ℕ, _+_, _*_, _^_, _≤_, _<_}
+use Prim.Native.Nat.{ℕ, _≤_}
 use Rattle.laws.specs.Order.{pairs, lookup}
-use Rattle.units.specs.Types.{Payload, Entry, termOption}
+use Rattle.units.specs.Types.{Payload, termOption}
 use Rattle.units.specs.declared.NodeId.{NodeId}
 use Rattle.units.specs.declared.Term.{Term}
 use Rattle.units.specs.declared.TermOption.{TermOption}
-use Rattle.units.specs.declared.TermOption.the-variants.{None, Some}
+use Rattle.units.specs.declared.TermOption.the-variants.{Some}
 use Rattle.units.specs.declared.LogIndex.{LogIndex}
 use Rattle.units.specs.declared.SimTime.{SimTime}
 use Rattle.layout.specs.Tables.{Holds, Held}
-use Rattle.layout.specs.Marked.{wordsFor}
 use Rattle.layout.specs.Payload.{payload}
-use Rattle.log.specs.declared.Place.{Place}
-use Rattle.log.specs.declared.Place.the-variants.{None as NoPlace, Noop, Command}
 use Rattle.log.specs.Log.{Log, entryAt}
-use Rattle.log.specs.Places.{places}
+use Rattle.log.specs.Places.{places, entryTerm}
 use Rattle.checks.specs.declared.entries.EntrySeen.{EntrySeen}
 use Rattle.checks.specs.declared.entries.EntrySeen.the-variants.{Same, Other, Inserted, Full}
+use Rattle.checks.specs.declared.violations.Checked.{Checked}
 use Rattle.checks.specs.Checks.{Checker, seenKey, compareSeen, onWrite}
 use Rattle.checks.specs.Entries.{seen}
-use Rattle.checks.specs.OnApply.{Unmade}
 use Rattle.checks.specs.Violations.{violations}
-use Rattle.on_write.specs.declared.Writing.{Writing}
-use Rattle.on_write.specs.declared.Writing.the-variants.{Done, Past64Bits, NoRoom}
+use Rattle.checks.specs.Outcomes.{RowsOutcome}
 
 -- ---- the entry at an index
-
--- The term of what stands at a place.
-abbrev pub termIn : Place → TermOption
-termIn NoPlace = None
-termIn (Noop term) = Some term
-termIn (Command term k) = Some term
-
--- The term of an entry that may be absent.
-abbrev pub entryTerm : Option Entry → Option Term
-entryTerm none = none
-entryTerm (some e) = some (e .term)
 
 -- Whatever log of l places the bytes b hold, r is the term of its entry at index i. An index that is no place has none.
 pub record ReadsTerm (p l i : ℕ) (r : TermOption) (b : List ℕ) : Type 0 where
@@ -56,25 +40,13 @@ isOther Other = true
 isOther (Inserted m) = false
 isOther Full = false
 
--- What became of the regions s and v, where the unlimited definition gives the checks c: they hold its entries and violations, and the counts are its own; or its total
--- is past 64 bits, or its entries have no room, and nothing changed.
-pub record Made (p N M : ℕ) (s′ v′ : List ℕ) (c : Checker) (count kept total : ℕ) : Type 0 where
-  pub entries : Held (seen p) N count s′ (c .entries)
-  pub violations : Held violations M kept v′ (c .violations)
-  pub counted : c .total ≡ total
-
-abbrev pub Outcome : Writing → (p N M n : ℕ) (s s′ v v′ : List ℕ) → Checker → Type 0
-Outcome (Done count kept total) p N M n s s′ v v′ c = Made p N M s′ v′ c count kept total
-Outcome Past64Bits p N M n s s′ v v′ c = Unmade s s′ v v′ (2 ^ 64 ≤ c .total)
-Outcome NoRoom p N M n s s′ v v′ c = Unmade s s′ v v′ (N < n * (3 + wordsFor p) + (3 + wordsFor p))
-
 -- An entry that is there was compared: the outcome, whatever the checks are that s and v hold, and whatever payload the lent words hold.
-pub record WritesEntry (p : ℕ) (time : SimTime) (server : NodeId) (index : LogIndex) (term : Term) (content : List ℕ) (n kept total : ℕ) (r : Writing) (s s′ v v′ : List ℕ) : Type 0 where
+pub record WritesEntry (p : ℕ) (time : SimTime) (server : NodeId) (index : LogIndex) (term : Term) (content : List ℕ) (n kept total : ℕ) (r : Checked) (s s′ v v′ : List ℕ) : Type 0 where
   pub to : (N M : ℕ) (c : Checker) (x : Payload) → Holds (payload p) content x → Held (seen p) N n s (c .entries) → Held violations M kept v (c .violations) → c .total ≡ total
-      → Outcome r p N M n s s′ v v′
+      → RowsOutcome r (seen p) (λ c. c .entries) N M n s s′ v v′
       (compareSeen (lookup pairs seenKey (index .0, term .0) (c .entries)) c time server index (record { term = term; payload = x }))
 
 -- A server has written at an index: the outcome, whatever the checks are that s and v hold, and whatever log of l places.
-pub record Writes (p l : ℕ) (time : SimTime) (server : NodeId) (index : LogIndex) (b : List ℕ) (n kept total : ℕ) (r : Writing) (s s′ v v′ : List ℕ) : Type 0 where
+pub record Writes (p l : ℕ) (time : SimTime) (server : NodeId) (index : LogIndex) (b : List ℕ) (n kept total : ℕ) (r : Checked) (s s′ v v′ : List ℕ) : Type 0 where
   pub to : (N M L : ℕ) (c : Checker) (log : Log) → Held (seen p) N n s (c .entries) → Held violations M kept v (c .violations) → c .total ≡ total → Held (places p) L l b log
-      → Outcome r p N M n s s′ v v′ (onWrite c time server log index)
+      → RowsOutcome r (seen p) (λ c. c .entries) N M n s s′ v v′ (onWrite c time server log index)

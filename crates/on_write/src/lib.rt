@@ -3,40 +3,21 @@
 ghost use mathlib.Core.Path.{_≡_};
 ghost use Prim.Native.Nat.{_+_, _*_, _≤_};
 ghost use lib.ListN.{length};
-ghost use Rattle.laws.specs.Bools.{pick};
 ghost use Rattle.layout.specs.Marked.{wordsFor};
 ghost use Rattle.checks.specs.Entries.{noRoom, seenAfter};
-ghost use Rattle.on_write.specs.OnWrite.{isOther, termIn, ReadsTerm, WritesEntry, Writes};
+ghost use Rattle.on_write.specs.OnWrite.{isOther, ReadsTerm, WritesEntry, Writes};
 use checks::Check;
 use checks::entries;
 use checks::entries::EntrySeen;
 use checks::violations;
+use checks::violations::Checked;
 use checks::violations::Detail;
 use layout::rows;
-use log::Place;
 use units::LogIndex;
 use units::NodeId;
 use units::SimTime;
 use units::Term;
 use units::TermOption;
-
-// The counts after it; or the total has no 64 bits, or the entry no room, and nothing changed.
-pub enum Writing {
-    Done {
-        count: usize,
-        kept: usize,
-        total: u64,
-    },
-    Past64Bits,
-    NoRoom,
-}
-
-// One where a test is true.
-fn one_if(b: bool) -> u64
-    ensures { λ r. ⌜ (r ≡ pick b 1 0) × (r ≤ 1) ⌝ }
-{
-    if b { 1 } else { 0 }
-}
 
 // Whether there was no room.
 fn no_room(seen: EntrySeen) -> bool
@@ -74,17 +55,6 @@ fn count_after(n: usize, seen: EntrySeen) -> usize
     }
 }
 
-// The term of what stands at a place.
-fn term_in(place: Place) -> TermOption
-    ensures { λ r. ⌜ r ≡ termIn place ⌝ }
-{
-    match place {
-        Place::None => TermOption::None,
-        Place::Noop { term } => TermOption::Some(term),
-        Place::Command { term, length: _ } => TermOption::Some(term),
-    }
-}
-
 // The term of the entry at an index, if there is one; the index is then a place of the log.
 fn term_at(log: &[u8], l: usize, p: usize, index: LogIndex) -> TermOption
     requires { ⌜ (p ≤ 256) × (8 * (l * (2 + wordsFor p)) ≤ length (now log)) ⌝ }
@@ -97,7 +67,7 @@ fn term_at(log: &[u8], l: usize, p: usize, index: LogIndex) -> TermOption
     if l < i {
         return TermOption::None;
     }
-    term_in(log::entry(log, l, p, index))
+    log::term_of(log::entry(log, l, p, index))
 }
 
 // Compares an entry that is there with the first seen under its index and term, and reports another payload. Its own is lent in words.
@@ -113,23 +83,23 @@ fn write_entry(
     index: LogIndex,
     term: Term,
     content: &[u8],
-) -> Writing
+) -> Checked
     requires { ⌜ (p ≤ 256) × (8 * (n * (3 + wordsFor p)) ≤ length (now s)) × (2048 ≤ length (now v)) × (length (now content) ≡ 8 * (1 + wordsFor p)) ⌝ }
     ensures { λ r. ⌜ WritesEntry p time server index term (now (content .entry)) n kept total r (now (s .entry)) (now (s .exit)) (now (v .entry)) (now (v .exit)) ⌝ }
 {
     let seen = entries::compare(s, n, p, index, term, content);
     if no_room(seen) {
-        return Writing::NoRoom;
+        return Checked::NoRoom;
     }
     let other = is_other(seen);
-    let reports = one_if(other);
+    let reports = violations::one_if(other);
     if 18446744073709551615 - reports < total {
-        return Writing::Past64Bits;
+        return Checked::Past64Bits;
     }
     let detail = Detail::Three(server.0, index.0, term.0);
     let kept = violations::keep(v, kept, other, time, Check::UniqueEntries, detail);
     let count = count_after(n, seen);
-    Writing::Done {
+    Checked::Done {
         count,
         kept,
         total: total + reports,
@@ -149,12 +119,12 @@ pub fn on_write(
     log: &[u8],
     l: usize,
     index: LogIndex,
-) -> Writing
+) -> Checked
     requires { ⌜ (p ≤ 256) × (8 * (n * (3 + wordsFor p)) ≤ length (now s)) × (2048 ≤ length (now v)) × (8 * (l * (2 + wordsFor p)) ≤ length (now log)) ⌝ }
     ensures { λ r. ⌜ Writes p l time server index (now (log .entry)) n kept total r (now (s .entry)) (now (s .exit)) (now (v .entry)) (now (v .exit)) ⌝ }
 {
     match term_at(log, l, p, index) {
-        TermOption::None => Writing::Done {
+        TermOption::None => Checked::Done {
             count: n,
             kept,
             total,

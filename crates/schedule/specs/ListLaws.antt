@@ -1,6 +1,6 @@
 -- What the proofs of the list's functions cite. Assumes nothing.
 use mathlib.Core.Path.{_≡_, refl, sym, ap, _∙_, subst}
-use mathlib.Core.List.{List, [], _∷_, append-nil}
+use mathlib.Core.List.{List, [], _∷_}
 use Prim.Native.Nat.{ℕ, _+_, _-_, _*_, _/_, _%_, _≤_, _<_}
 use native.Mathlib.Nat.{add-zero}
 use native.Mathlib.Omega.{arith}
@@ -12,7 +12,7 @@ use borrow.Author.Tests.{lt-ltb}
 use Rattle.laws.specs.Bools.{and-both}
 use Rattle.laws.specs.Order.{numbers, chain, pushBy}
 use Rattle.words.specs.Words.{bytes, W, allz}
-use Rattle.words.specs.Sets.{sets-at}
+use Rattle.words.specs.Sets.{sets-all}
 use Rattle.words.specs.Zero.{allz-zeros}
 use Rattle.layout.specs.Tables.{Becomes, Gives, opened}
 use Rattle.layout.specs.Order.{lastPlace, one, heads}
@@ -100,5 +100,5 @@ emptied b b′ w f =
     let z : List ℕ = replicate (length b - 0) 0 in
     let n : length b - 0 ≡ length b = omega arith in
     let l : length b′ ≡ length b = ap length f ∙ length-sets b 0 z in
-    let e : b′ ≡ z = f ∙ ap (λ (y : List ℕ). sets y 0 z) (sym (append-nil b)) ∙ sets-at [] b [] z 0 refl (length-replicate (length b - 0) 0 ∙ n) ∙ append-nil z in
+    let e : b′ ≡ z = f ∙ sets-all b z (length-replicate (length b - 0) 0 ∙ n) in
     record { long = l; held = empty-held schedule (length b′ / 8) b′ (omega arith) refl (ap allz e ∙ allz-zeros (length b - 0)) }

@@ -1,12 +1,12 @@
 -- What the proofs of lib.rt cite. Assumes nothing.
 use mathlib.Core.Path.{_≡_, refl, sym, ap, _∙_, subst}
-use mathlib.Core.List.{List, [], append-nil}
+use mathlib.Core.List.{List, []}
 use Prim.Native.Nat.{ℕ, zero, _-_}
 use native.Mathlib.Omega.{arith}
 use lib.Dec.{ltb}
 use lib.ListN.{length, length-replicate}
 use lib.Seq.{sets}
-use Rattle.words.specs.Sets.{sets-at}
+use Rattle.words.specs.Sets.{sets-all}
 use Rattle.words.specs.Words.{allz}
 use Rattle.words.specs.Zero.{allz-zeros}
 use Rattle.layout.specs.Code.{zeros}
@@ -26,7 +26,7 @@ emptied p N m b b′ ws h e =
     let k : length b - 0 ≡ length b = omega arith in
     let l : length (zeros (length b)) ≡ length b = length-replicate (length b) zero in
     let q : b′ ≡ zeros (length b) =
-    e ∙ ap (λ (j : ℕ). sets b 0 (zeros j)) k ∙ ap (λ (u : List ℕ). sets u 0 (zeros (length b))) (sym (append-nil b)) ∙ sets-at [] b [] (zeros (length b)) 0 refl l ∙ append-nil (zeros (length b)) in
+    e ∙ ap (λ (j : ℕ). sets b 0 (zeros j)) k ∙ sets-all b (zeros (length b)) l in
     empty-held (waiting p) N b′ (ap length q ∙ l ∙ held-length h) refl (ap allz q ∙ allz-zeros (length b))
 
 pub synced : (p n bytes : ℕ) (v : StorageState) (after : HardState) (dur dur′ wait wait′ : List ℕ) → Gives (waiting p) (v .waiting) wait bytes unsyncedBytes → Replays p n (v .waiting) (v .durable) after wait dur dur′

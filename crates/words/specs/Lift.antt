@@ -8,7 +8,7 @@ use native.Mathlib.Nat.{pow-zero, pow-suc, zero-add, suc-add}
 use native.Mathlib.Numerals.{add-one}
 use native.Mathlib.Omega.{arith}
 use lib.Dec.{eqb}
-use lib.ListN.{length, getD, take, drop, set, replicate, length-append, length-drop, take-append-drop}
+use lib.ListN.{length, getD, take, drop, set, replicate, length-append, length-drop, take-append-drop, drop-of-length-le}
 use lib.Seq.{sets, take-at, drop-at, drop-drop, take-suc, take-all, length-take-le, length-sets}
 use borrow.Author.Tests.{eq-eqb, ne-eqb}
 use Rattle.laws.specs.Bools.{_and_, true-and, no-and}
@@ -170,12 +170,8 @@ W-back bs B = bytes-words (length bs / 8) bs B (omega arith)
 -- an area of whole words
 pub W-whole : (bs : List ℕ) (n : ℕ) → Bytes bs → length bs ≡ 8 * n → bytes (W bs) ≡ bs
 W-whole bs n B e =
-    let z : drop (8 * (length bs / 8)) bs ≡ [] = empty (drop (8 * (length bs / 8)) bs) (omega (arith, length-drop (8 * (length bs / 8)) bs)) in
+    let z : drop (8 * (length bs / 8)) bs ≡ [] = drop-of-length-le bs {i = 8 * (length bs / 8)} (omega arith) in
     sym (ap (λ (l : List ℕ). bytes (W bs) ++ l) z ∙ append-nil (bytes (W bs))) ∙ W-back bs B
-  where
-    empty : (l : List ℕ) → length l ≡ 0 → l ≡ []
-    empty [] h = refl
-    empty (x ∷ l) h = absurd (omega arith)
 
 -- an area whose words begin with xs
 pub W-split : (bs xs ys : List ℕ) (n : ℕ) → Bytes bs → W bs ≡ xs ++ ys → length xs ≡ n → bs ≡ bytes xs ++ drop (8 * n) bs

@@ -1,4 +1,4 @@
--- Made by tools/uniform from proofs.txt, not by hand: 5c9a5de9520a4070
+-- Made by tools/uniform from proofs.txt, not by hand: f425b8670ad2c3ac
 use Rattle.on_write.specs.Laws.{term-reads}
 use borrow.Author.Needs.{needs}
 use Rattle.on_write.proofs.term_at.Statement.{statement}
@@ -11,5 +11,5 @@ term-at-spec =
     (λ c. search (term-reads, needs))  -- returns
     (λ c. search (term-reads, needs))  -- returns-2
     (λ c κs. search (term-reads, needs))  -- entry-requires
-    (λ c κs. search (term-reads, needs))  -- term-in-requires
+    (λ c κs. search (term-reads, needs))  -- term-of-requires
     (λ c. search (term-reads, needs)))  -- returns-3

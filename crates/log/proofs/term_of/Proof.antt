@@ -1,8 +1,8 @@
--- Made by tools/uniform from proofs.txt, not by hand: d76aa0d2ab03883c
-use Rattle.log_matching.specs.Laws.{terms-in}
+-- Made by tools/uniform from proofs.txt, not by hand: 4b9c5d8cf9ad089e
+use Rattle.log.specs.Laws.{terms-in}
 use borrow.Author.Needs.{needs}
-use Rattle.log_matching.proofs.term_of.Statement.{statement}
-use Rattle.log_matching.proofs.term_of.Tie as tie
+use Rattle.log.proofs.term_of.Statement.{statement}
+use Rattle.log.proofs.term_of.Tie as tie
 
 pub term-of-spec : {M : Type 1} → statement M
 term-of-spec =

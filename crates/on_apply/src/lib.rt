@@ -4,35 +4,17 @@ ghost use mathlib.Core.Path.{_≡_};
 ghost use Prim.Native.Nat.{_+_, _*_, _≤_};
 ghost use lib.ListN.{length};
 ghost use Rattle.layout.specs.Marked.{wordsFor};
-ghost use Rattle.laws.specs.Bools.{pick};
 ghost use Rattle.checks.specs.Applied.{noPlace, appliedAfter};
-ghost use Rattle.checks.specs.OnApply.{isOther, Applies};
-use crate::Check;
-use crate::applied;
-use crate::applied::AppliedSeen;
-use crate::violations;
-use crate::violations::Detail;
+ghost use Rattle.on_apply.specs.OnApply.{isOther, Applies};
+use checks::Check;
+use checks::applied;
+use checks::applied::AppliedSeen;
+use checks::violations;
+use checks::violations::Checked;
+use checks::violations::Detail;
 use units::LogIndex;
 use units::NodeId;
 use units::SimTime;
-
-// The counts after it; or the total has no 64 bits, or the payload no room, and nothing changed.
-pub enum Applying {
-    Done {
-        count: usize,
-        kept: usize,
-        total: u64,
-    },
-    Past64Bits,
-    NoRoom,
-}
-
-// One where a test is true.
-fn one_if(b: bool) -> u64
-    ensures { λ r. ⌜ (r ≡ pick b 1 0) × (r ≤ 1) ⌝ }
-{
-    if b { 1 } else { 0 }
-}
 
 // Whether there was no room.
 fn no_place(seen: AppliedSeen) -> bool
@@ -86,30 +68,30 @@ pub fn on_apply(
     index: LogIndex,
     content: &[u8],
     expected: u64,
-) -> Applying
+) -> Checked
     requires { ⌜ (p ≤ 256) × (8 * (n * (1 + wordsFor p)) ≤ length (now a)) × (length (now content) ≡ 8 * (1 + wordsFor p)) × (2048 ≤ length (now v)) ⌝ }
     ensures { λ r. ⌜ Applies p time server index (now (content .entry)) expected n kept total r (now (a .entry)) (now (a .exit)) (now (v .entry)) (now (v .exit)) ⌝ }
 {
     let late = index.0 != expected;
-    let first = one_if(late);
+    let first = violations::one_if(late);
     if 18446744073709551615 - first < total {
-        return Applying::Past64Bits;
+        return Checked::Past64Bits;
     }
     let seen = applied::record_applied(a, n, p, index, content);
     if no_place(seen) {
-        return Applying::NoRoom;
+        return Checked::NoRoom;
     }
     let other = is_other(seen);
-    let second = one_if(other);
+    let second = violations::one_if(other);
     if 18446744073709551615 - (first + second) < total {
-        return Applying::Past64Bits;
+        return Checked::Past64Bits;
     }
     let order = Detail::Three(server.0, index.0, expected);
     let k = violations::keep(v, kept, late, time, Check::ApplyOrder, order);
     let safety = Detail::Two(server.0, index.0);
     let kept = violations::keep(v, k, other, time, Check::StateMachineSafety, safety);
     let count = count_after(n, seen);
-    Applying::Done {
+    Checked::Done {
         count,
         kept,
         total: total + (first + second),

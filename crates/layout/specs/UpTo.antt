@@ -1,25 +1,26 @@
--- The code of lists of up to k numbers: how many, then the numbers, padded with zeros to k words. And a word of a table's row. Assumes nothing.
+-- The code of lists of up to k numbers: how many, then the numbers, padded with zeros to k words. Assumes nothing.
 use mathlib.Core.Path.{_≡_, refl, sym, ap, ap₂, _∙_}
 use mathlib.Core.Bool.{Bool, true}
 use mathlib.Core.List.{List, [], _∷_, _++_, append-assoc}
-use Prim.Native.Nat.{ℕ, zero, suc, _+_, _*_, _-_, _^_, _≤_, _<_}
+use Prim.Native.Nat.{ℕ, zero, suc, _+_, _-_, _^_, _≤_, _<_}
 use native.Mathlib.Omega.{arith}
 use lib.Dec.{leb, ltb}
 use lib.ListN.{length, take, drop, getD, length-append, length-drop, length-replicate, take-append-drop}
-use lib.Seq.{take-at, drop-at, drop-drop, take-take, length-take-le, getD-take, getD-drop}
+use lib.Seq.{take-at, drop-at, drop-drop, take-take, length-take-le}
+use mir.Syntax.{w64}
+use mir.Val.{Fits}
 use borrow.Author.Tests.{leb-true, le-leb, ltb-true, lt-ltb}
 use Rattle.laws.specs.Bools.{_and_, and-left, and-right, and-both, every}
-use Rattle.words.specs.Words.{W, Fit, allz}
+use Rattle.words.specs.Words.{Fit, allz}
 use Rattle.words.specs.Numbers.{each-append, each-take, each-drop, each-zeros}
 use Rattle.words.specs.Zero.{allz-zeros, zeros-allz}
 use Rattle.layout.specs.Code.{Code, zeros, word-back}
-use Rattle.layout.specs.Tables.{Table, Held}
-use Rattle.layout.specs.Contents.{holds-W}
-use Rattle.layout.specs.Rows.{row-at}
-use Rattle.layout.specs.TableLaws.{held-rows}
 
 abbrev pub is64 : ℕ → Bool
 is64 n = ltb n (2 ^ 64)
+
+pub is64-fits : (n : ℕ) → Fits w64 n → is64 n ≡ true
+is64-fits n f = lt-ltb n (2 ^ 64) (f .fits)
 
 pub each-fit : (d : List ℕ) → every is64 d ≡ true → Fit d
 each-fit [] h k = omega arith
@@ -110,16 +111,6 @@ module _ (k : ℕ) (small : k < 2 ^ 64) where
         enc-parse = enc-parseU;
         good-parse = good-parseU;
       }
-
--- word j of row i, of what bytes hold
-pub word-held : {T : Type 0} {t : Table T} {N n : ℕ} {b : List ℕ} {x : List T} → Held t N n b x → (i j : ℕ) (d : T) → i < n → j < t .row .size
-    → getD (W b) (i * t .row .size + j) 0 ≡ getD (t .row .enc (getD x i d)) j 0
-word-held {T} {t} {N} {n} {b} {x} h i j d k m =
-    let f = held-rows h in
-    let w : ℕ = t .row .size in
-    sym (getD-drop (i * w) (W b) j 0) ∙ sym (getD-take w (drop (i * w) (W b)) j 0 m)
-    ∙ ap (λ (l : List ℕ). getD l j 0)
-    (ap (λ (l : List ℕ). take w (drop (i * w) l)) (holds-W (h .holds)) ∙ row-at (t .row) x (f .each) (zeros (N - length x * w)) i d (rw (f .count) k))
 
 -- the numbers of a padded list, also past its end
 pub getD-padded : (d : List ℕ) (m j : ℕ) → getD (d ++ zeros m) j 0 ≡ getD d j 0

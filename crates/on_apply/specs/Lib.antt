@@ -1,0 +1,2 @@
+pub mod OnApply
+pub mod Laws
