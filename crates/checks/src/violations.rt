@@ -39,7 +39,7 @@ pub enum Tally {
     Past64Bits,
 }
 
-// The same of a check that has a table of its own, and how many rows this has; or a row has no room.
+// The counts after a check with a table of its own, that of its rows first; or the total has no 64 bits, or a row no room, and nothing changed.
 pub enum Checked {
     Done {
         count: usize,
