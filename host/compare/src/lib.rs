@@ -10,6 +10,7 @@ mod raft;
 
 use nodes::{AppliesEarly, Correct, TermNotSaved, TruncatesTooFar, VoteNotSaved};
 use observe::Recording;
+use trace::with_refusals;
 
 /// Which node runs.
 #[derive(Debug, Clone, Copy, PartialEq, Eq)]
@@ -47,6 +48,11 @@ impl Mode {
         Mode::TruncatesTooFar,
     ];
 
+    /// The mode of a name.
+    pub fn named(name: &str) -> Option<Self> {
+        Mode::ALL.into_iter().find(|mode| mode.name() == name)
+    }
+
     /// The mode's name.
     pub fn name(self) -> &'static str {
         match self {
@@ -70,4 +76,17 @@ pub fn record(mode: Mode, seed: u64) -> Recording {
         Mode::AppliesEarly => raft::record::<AppliesEarly>(seed),
         Mode::TruncatesTooFar => raft::record::<TruncatesTooFar>(seed),
     }
+}
+
+/// The beginning of the run of a mode and a seed as a module of antt, on which the definitions are
+/// computed: `calls` exchanges. Refused calls are put in between; of the calls that change nothing
+/// one in `still` is kept.
+pub fn module(mode: Mode, seed: u64, calls: usize, still: usize) -> String {
+    let name = mode.name();
+    let about = format!(
+        "{calls} exchanges from the beginning of the Rust's run of the node `{name}` with seed {seed}. Between them stand calls that document 01 refuses; of these and of the reads one in {still} is kept, and \
+         every read that finds a reply, confirmation, violation or applied entry. Made by `write_run {name} {seed} {calls} {still}` (host/README.md). Assumes nothing."
+    );
+    let trace = with_refusals(record(mode, seed).trace, 5);
+    trace.to_antt(&about, calls, still)
 }

@@ -150,6 +150,13 @@ macro_rules! numbers {
                 }
             }
 
+            /// The numbers in order, the refusal first.
+            pub fn to_words(&self) -> Vec<u64> {
+                let mut words = Vec::new();
+                self.put(&mut words);
+                words
+            }
+
             /// The refusal.
             pub fn refusal(&self) -> u64 {
                 match self {

@@ -4,6 +4,7 @@
 //! calls at a port and compares; [`Trace::to_words`] is the form in which a trace is kept in a
 //! file.
 
+mod antt;
 mod call;
 mod form;
 mod refusals;

@@ -7,9 +7,8 @@ use compare::{Mode, record};
 
 fn main() -> ExitCode {
     let words: Vec<String> = env::args().skip(1).collect();
-    let mode = |name: &str| Mode::ALL.into_iter().find(|mode| mode.name() == name);
     let asked = match &words[..] {
-        [name, seed, file] => mode(name).zip(seed.parse().ok()).zip(Some(file)),
+        [name, seed, file] => Mode::named(name).zip(seed.parse().ok()).zip(Some(file)),
         _ => None,
     };
     let Some(((mode, seed), file)) = asked else {

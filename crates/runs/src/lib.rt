@@ -1,0 +1,1 @@
+// The definitions computed on recorded runs of the reference. No code.

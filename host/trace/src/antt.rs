@@ -1,0 +1,264 @@
+//! A run as a module of antt: the exchanges on which the definitions are computed (`crates/runs`).
+
+use std::fmt::Display;
+
+use port::{Limits, Settings, kinds};
+
+use crate::{Call, Exchange, Numbers, Trace};
+
+/// The names that exchanges are written with.
+const NAMES: &str = "\
+use mathlib.Core.List.{List, [], _∷_}
+use Rattle.book.specs.Calls.{hardState, put, truncate, send, setTimer, cancelTimer, apply, confirmed, lost, readStatus, readHardState, readLog, readEntry, readLeader, readApplied, readAppliedEntry, readMetrics, readSentBy, readReply, readConfirmation, readViolation, readRun, start, step, propose, fireTimer, confirmLeadership, schedule, write, seal, output, end, checkLogMatching, checkDurability, read}
+use Rattle.runs.specs.Trace.{Exchange, exchange}
+";
+
+const DECLARED: &str = "
+-- The exchanges in order.
+unfoldable pub exchanges : List Exchange
+exchanges =
+";
+
+impl Trace {
+    /// The first `most` exchanges as a module that begins with the line `about`.
+    ///
+    /// Of the calls that change nothing, reads and refused ones, one in `still` is written, and
+    /// every read that finds an element of a list. Left out are calls that the definitions do
+    /// not have: a schedule, which takes no area, and a start that is refused for its area's
+    /// length. They have the last two numbers of the metrics with the run, so these are written
+    /// there.
+    pub fn to_antt(&self, about: &str, most: usize, still: usize) -> String {
+        let mut buffer = 0;
+        let mut met = 0;
+        let mut lines = Vec::new();
+        for (place, Exchange { call, answer }) in self.exchanges.iter().enumerate() {
+            let refusal = answer.numbers.refusal();
+            if let (Call::Start { limits, .. }, 0) = (call, refusal) {
+                buffer = limits.message.max(limits.payload);
+            }
+            let changes_nothing = call.reads() || refusal != 0;
+            met += usize::from(changes_nothing);
+            let kept = !changes_nothing || met % still == 0 || finds_element(&answer.numbers);
+            if !kept || !is_defined(call, refusal) {
+                continue;
+            }
+            let call = text(call, buffer);
+            let numbers = list(self.numbers(place));
+            let bytes = bytes(&answer.bytes);
+            lines.push(format!("exchange ({call}) {numbers} {bytes}\n    ∷ "));
+        }
+        lines.truncate(most);
+        let exchanges = lines.concat();
+        format!("-- {about}\n{NAMES}{DECLARED}    {exchanges}[]\n")
+    }
+
+    /// The numbers of an answer as the definitions have them: of a refused call its number alone.
+    fn numbers(&self, place: usize) -> Vec<u64> {
+        let numbers = self.exchanges[place].answer.numbers;
+        let mut words = numbers.to_words();
+        match numbers {
+            _ if numbers.refusal() != 0 => words.truncate(1),
+            Numbers::Metrics(_) => words.truncate(words.len() - 2),
+            Numbers::Run(_) => {
+                let mut later = self.exchanges[place..].iter();
+                let metrics = later.find_map(|exchange| match exchange.answer.numbers {
+                    Numbers::Metrics(metrics) => Some(metrics),
+                    _ => None,
+                });
+                let metrics = metrics.expect("the metrics are read with the run");
+                words.extend([metrics.discarded, metrics.max_log_gaps]);
+            }
+            _ => {}
+        }
+        words
+    }
+}
+
+/// Whether the definitions have the call, and ask what refused it.
+fn is_defined(call: &Call, refusal: u64) -> bool {
+    !matches!(call, Call::ChaosSchedule { .. }) && refusal != kinds::refusal::AREA
+}
+
+/// Whether a reply, confirmation, violation or applied entry was found; each is read once.
+fn finds_element(numbers: &Numbers) -> bool {
+    match numbers {
+        Numbers::Reply(reply) => reply.present == 1,
+        Numbers::Confirmation(confirmation) => confirmation.present == 1,
+        Numbers::Violation(violation) => violation.present == 1,
+        Numbers::AppliedEntry(entry) => entry.present == 1,
+        _ => false,
+    }
+}
+
+fn list(numbers: impl IntoIterator<Item = u64>) -> String {
+    let each: String = numbers.into_iter().map(|n| format!("{n} ∷ ")).collect();
+    if each.is_empty() {
+        "[]".to_string()
+    } else {
+        format!("({each}[])")
+    }
+}
+
+fn bytes(bytes: &[u8]) -> String {
+    list(bytes.iter().copied().map(u64::from))
+}
+
+/// A number of its own kind: a term, an index, a time.
+fn kind(number: u64) -> String {
+    record([("0", number)])
+}
+
+/// The same as an argument.
+fn own(number: u64) -> String {
+    format!("({})", kind(number))
+}
+
+/// The call. `buffer` is the length of the lent buffer.
+fn text(call: &Call, buffer: u64) -> String {
+    match call {
+        Call::Start {
+            settings,
+            limits,
+            seed,
+        } => {
+            let (settings, limits) = (settings_text(settings), limits_text(limits));
+            format!("start ({settings}) ({limits}) {seed}")
+        }
+        Call::Step { deadline } => format!("step {} {buffer}", own(*deadline)),
+        Call::Propose { server } => format!("propose {server}"),
+        Call::FireTimer { server, timer } => format!("fireTimer {server} {timer}"),
+        Call::ConfirmLeadership { server, request } => {
+            format!("confirmLeadership {server} {}", own(*request))
+        }
+        Call::Schedule {
+            at,
+            fault,
+            first,
+            second,
+            groups,
+        } => {
+            let (at, groups) = (own(*at), bytes(groups));
+            format!("schedule {at} {fault} {first} {second} {groups}")
+        }
+        Call::WriteHardState { term, voted, vote } => {
+            format!("write (hardState {} {voted} {vote})", own(*term))
+        }
+        Call::WritePut {
+            index,
+            term,
+            kind,
+            payload,
+        } => {
+            let (index, term, payload) = (own(*index), own(*term), bytes(payload));
+            format!("write (put {index} {term} {kind} {payload})")
+        }
+        Call::WriteTruncate { from } => format!("write (truncate {})", own(*from)),
+        Call::Seal {
+            refused,
+            hinted,
+            leader,
+        } => format!("seal {refused} {hinted} {leader}"),
+        Call::OutputSend {
+            to,
+            message,
+            entries,
+        } => format!("output (send {to} {} {entries})", bytes(message)),
+        Call::OutputSetTimer { timer, after } => {
+            format!("output (setTimer {timer} {})", own(*after))
+        }
+        Call::OutputCancelTimer { timer } => format!("output (cancelTimer {timer})"),
+        Call::OutputApply {
+            index,
+            kind,
+            payload,
+        } => format!("output (apply {} {kind} {})", own(*index), bytes(payload)),
+        Call::OutputConfirmed {
+            request,
+            read_index,
+        } => {
+            let (request, read_index) = (own(*request), own(*read_index));
+            format!("output (confirmed {request} {read_index})")
+        }
+        Call::OutputLost { request } => format!("output (lost {})", own(*request)),
+        Call::End {
+            role,
+            term,
+            hinted,
+            leader,
+            commit,
+        } => {
+            let (term, commit) = (own(*term), own(*commit));
+            format!("end {role} {term} {hinted} {leader} {commit}")
+        }
+        Call::CheckLogMatching {} => "checkLogMatching".to_string(),
+        Call::CheckDurability {} => "checkDurability".to_string(),
+        Call::ReadStatus { server } => format!("read (readStatus {server})"),
+        Call::ReadHardState { server } => format!("read (readHardState {server})"),
+        Call::ReadLog { server } => format!("read (readLog {server})"),
+        Call::ReadEntry { server, index } => {
+            format!("read (readEntry {server} {index} {buffer})")
+        }
+        Call::ReadLeader {} => "read readLeader".to_string(),
+        Call::ReadApplied { server } => format!("read (readApplied {server})"),
+        Call::ReadAppliedEntry { index } => format!("read (readAppliedEntry {index} {buffer})"),
+        Call::ReadMetrics {} => "read readMetrics".to_string(),
+        Call::ReadSentBy { server } => format!("read (readSentBy {server})"),
+        Call::ReadReply { place } => format!("read (readReply {place})"),
+        Call::ReadConfirmation { place } => format!("read (readConfirmation {place})"),
+        Call::ReadViolation { place } => format!("read (readViolation {place})"),
+        Call::ReadRun {} => "read readRun".to_string(),
+        Call::ChaosSchedule { .. } => unreachable!("a schedule is left out"),
+    }
+}
+
+/// A record of these fields.
+fn record<const N: usize>(fields: [(&str, impl Display); N]) -> String {
+    let fields = fields.map(|(name, value)| format!("{name} = {value}"));
+    format!("record {{ {} }}", fields.join("; "))
+}
+
+fn settings_text(settings: &Settings) -> String {
+    let number = |number: u64| number.to_string();
+    let consensus = record([
+        ("«heartbeat_interval»", kind(settings.heartbeat_interval)),
+        (
+            "«election_timeout_min»",
+            kind(settings.election_timeout_min),
+        ),
+        (
+            "«election_timeout_max»",
+            kind(settings.election_timeout_max),
+        ),
+        (
+            "«max_entries_per_message»",
+            number(settings.max_entries_per_message),
+        ),
+        (
+            "«max_entries_in_flight»",
+            number(settings.max_entries_in_flight),
+        ),
+    ]);
+    record([
+        ("servers", number(settings.servers)),
+        ("consensus", consensus),
+        ("«one_way_delay»", kind(settings.one_way_delay)),
+        ("clients", number(settings.clients)),
+        ("«command_bytes»", number(settings.command_bytes)),
+        ("«client_timeout»", kind(settings.client_timeout)),
+        ("«client_backoff»", kind(settings.client_backoff)),
+        ("«count_bytes»", number(settings.count_bytes)),
+        ("«raft_checks»", number(settings.raft_checks)),
+        ("«start_spread»", kind(settings.start_spread)),
+    ])
+}
+
+fn limits_text(limits: &Limits) -> String {
+    record([
+        ("«log_indexes»", limits.log),
+        ("payload", limits.payload),
+        ("message", limits.message),
+        ("events", limits.events),
+        ("writes", limits.writes),
+        ("history", limits.history),
+    ])
+}
