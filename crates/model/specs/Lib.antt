@@ -4,3 +4,4 @@ pub mod Simulation
 pub mod Calls
 pub mod Reads
 pub mod Fits
+pub mod Slips
