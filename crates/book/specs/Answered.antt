@@ -9,6 +9,7 @@ use lib.ListN.{length}
 use borrow.Author.Tests.{leb-true}
 use Rattle.laws.specs.Bools.{pick, _and_, cases, and-left, and-right}
 use Rattle.laws.specs.ListLaws.{Each}
+use Rattle.units.specs.Types.{payloadOf}
 use Rattle.units.specs.declared.Term.{Term}
 use Rattle.units.specs.declared.LogIndex.{LogIndex}
 use Rattle.units.specs.declared.SimTime.{SimTime}
@@ -16,13 +17,14 @@ use Rattle.units.specs.declared.Duration.{Duration}
 use Rattle.protocol.specs.declared.RequestId.{RequestId}
 use Rattle.config.specs.declared.SimConfig.{SimConfig}
 use Rattle.config.specs.declared.Limits.{Limits}
-use Rattle.config.specs.Limits.{judge, number}
+use Rattle.config.specs.Limits.{judge, judgedNumber}
 use Rattle.storage.specs.Storage.{unsynced}
 use Rattle.queue.specs.Queue.{Queue, pop}
+use Rattle.faults.specs.Fault as faults
 use Rattle.model.specs.State.{State, closed, writing, Input, Owed, serverAt, idOf}
 use Rattle.model.specs.Simulation.{running, writeAt, setTimer, cancelTimer, confirm}
 use Rattle.model.specs.Calls as model
-use Rattle.model.specs.Calls.{Out, done, isFlag, isAccepted, isPayload, inCluster, payloadOf, timerOf}
+use Rattle.model.specs.Calls.{Out, done, isFlag, isAccepted, isPayload, inCluster, timerOf}
 use Rattle.book.specs.Calls.{WriteCall, OutputCall, start, step, propose, fireTimer, confirmLeadership, schedule, write, seal, output, end, checkLogMatching, checkDurability, Answer, acted, opened, stepped, asked, sealed}
 use Rattle.book.specs.Calls as calls
 use Rattle.book.specs.Book.{Book, writeOf, give}
@@ -34,7 +36,7 @@ use Rattle.book.specs.Checked.{log-matching-applied, durability-applied}
 use Rattle.book.specs.Moves as moves
 use Rattle.book.specs.Moves.{moves-process, moves-begin}
 use Rattle.book.specs.Inputs.{held-write, inv-sync, moves-cut, held-message, send-phase, held-set-timer, held-cancel-timer, held-confirm, held-apply, apply-phase, moves-end}
-use Rattle.book.specs.Outcomes.{Fine, fine, fine-ask, fine-closed, fine-writing, fine-sending}
+use Rattle.book.specs.Outcomes.{Fine, fine, fine-ask, fine-fault, fine-closed, fine-writing, fine-sending}
 
 -- A call that answers nothing besides.
 abbrev pub act : Unit {0} → Answer
@@ -42,7 +44,7 @@ act _ = acted
 
 pub fine-start : (b : Book) (config : SimConfig) (limits : Limits) (seed : ℕ) → Fine opened b (start config limits seed) (model.start config limits seed)
 unfolding model.start
-fine-start b config limits seed = fine-ask (eqb (number (judge config limits)) 0) _ (λ _. fine tt (moves-begin config limits seed .1))
+fine-start b config limits seed = fine-ask (eqb (judgedNumber (judge config limits)) 0) _ (λ _. fine tt (moves-begin config limits seed .1))
 
 module _ (b : Book) (s : State) (i : Inv b (s .phase) s) where
   -- the phase stays
@@ -85,8 +87,11 @@ module _ (b : Book) (s : State) (i : Inv b (s .phase) s) where
       → Fine act b (schedule time kind first second groups) (model.schedule time kind first second groups s)
   unfolding model.schedule
   fine-schedule time kind first second groups =
-      fine-closed s i (λ q h. fine-ask (model.targetsKnown s kind first second groups) 7
-      (λ _. fine-ask (leb (time .0) (2 ^ 62) and model.numbersInRange kind first groups) 9 (λ _. fine tt (kept (holds-push (i .held) _ _ [] tt)))))
+      let partitions = eqb kind 4 in
+      let fault = model.faultGiven kind first second groups in
+      fine-closed s i (λ q h. fine-ask (pick partitions (model.membersKnown s groups) (model.targetsKnown s fault)) 7
+      (λ _. fine-ask (leb (time .0) (2 ^ 62) and pick partitions (leb (length groups) 8) true) 9
+      (λ _. fine-fault fault (λ f. fine tt (kept (holds-push (i .held) _ _ [] tt))))))
 
   pub fine-check-log-matching : Fine act b checkLogMatching (model.checkLogMatchingCall s)
   unfolding model.checkLogMatchingCall
@@ -148,7 +153,7 @@ module _ (b : Book) (s : State) (i : Inv b (s .phase) s) where
       (λ _. h slot (j .phased .1) (j .held) (λ t p l. fine {t = t} (j .phased .0) (rw (p ∙ e) (record { phased = j .phased; held = l })))))
 
   pub fine-output-send : (to : ℕ) (message : List ℕ) (entries : ℕ) → Fine act b (output (calls.send to message entries)) (model.outputSend to message entries s)
-  unfolding model.outputSend
+  unfolding model.outputSend faults.inCluster
   fine-output-send to message entries =
       let o = calls.send to message entries in
       fine-output o (λ slot e h left. fine-ask (inCluster s to) 7

@@ -8,7 +8,7 @@ use Prim.Native.Nat.{ℕ, zero, suc, _+_}
 use lib.Dec.{leb, eqb}
 use Rattle.laws.specs.Bools.{pick}
 use Rattle.laws.specs.Lists.{isSome}
-use Rattle.units.specs.Types.{Payload, command, Entry}
+use Rattle.units.specs.Types.{Payload, command, payloadOf, Entry}
 use Rattle.units.specs.declared.NodeId.{NodeId}
 use Rattle.units.specs.declared.NodeOption.the-variants.{None}
 use Rattle.units.specs.declared.LogIndex.{LogIndex}
@@ -20,10 +20,10 @@ use Rattle.protocol.specs.declared.RequestId.{RequestId}
 use Rattle.storage.specs.Storage as storage
 use Rattle.storage.specs.Storage.{Write}
 use Rattle.storage.specs.declared.HardState.{HardState}
-use Rattle.durability.specs.declared.replies.Reply.{Reply}
+use Rattle.checks_durability.specs.declared.replies.Reply.{Reply}
 use Rattle.model.specs.State.{Confirmation}
 use Rattle.model.specs.Simulation.{Opening, noInput, openStart, openMessage, openTimer, openProposal, openConfirmation}
-use Rattle.model.specs.Calls.{nodeOption, payloadOf, timerOf, Asked, Sealing, synced, nothingToSync, cut}
+use Rattle.model.specs.Calls.{nodeOption, timerOf, Asked, Sealing, synced, nothingToSync, cut}
 use Rattle.model.specs.Calls as model
 use Rattle.model.specs.Reads.{LogRead}
 use Rattle.book.specs.Calls.{WriteCall, OutputCall, send, setTimer, cancelTimer, apply, confirmed, lost, ReadCall, readStatus, readHardState, readLog, readEntry, readLeader, readApplied, readAppliedEntry, readMetrics, readSentBy, readReply, readConfirmation, readViolation, readRun, Call, start, step, propose, fireTimer, confirmLeadership, schedule, write, seal, output, end, checkLogMatching, checkDurability, read, Answer, no, acted, opened, stepped, asked, sealed, got, gotHardState, gotLog, gotEntry, gotApplied, gotAppliedEntry, gotReply, gotConfirmation}

@@ -18,7 +18,7 @@ use Rattle.metrics.specs.declared.Metrics.{Metrics}
 use Rattle.storage.specs.declared.HardState.{HardState}
 use Rattle.checks.specs.Checks.{Violation}
 use Rattle.leader.specs.declared.LeaderOption.{LeaderOption}
-use Rattle.durability.specs.declared.replies.Reply.{Reply}
+use Rattle.checks_durability.specs.declared.replies.Reply.{Reply}
 use Rattle.model.specs.State.{State, Confirmation}
 use Rattle.model.specs.Simulation.{Opening}
 use Rattle.model.specs.Calls as model

@@ -9,7 +9,7 @@ use Rattle.units.specs.declared.Duration.{Duration}
 use Rattle.queue.specs.Queue.{Scheduled}
 use Rattle.queue.specs.declared.Event.{Event}
 use Rattle.queue.specs.declared.Event.the-variants.{Start, Deliver, Timer, Fault, ClientSend, ClientArrive, ClientRedirect, ClientRetry, ClientReply, ClientTimeout}
-use Rattle.durability.specs.declared.replies.Reply.{Reply}
+use Rattle.checks_durability.specs.declared.replies.Reply.{Reply}
 use Rattle.model.specs.State.{Confirmation, idOf}
 use Rattle.book.specs.Book.{Given, sent, timerSet, wasApplied, answered, KeyApplied}
 

@@ -17,7 +17,7 @@ use Rattle.config.specs.declared.Limits.{Limits}
 use Rattle.storage.specs.Storage.{Write, Storage}
 use Rattle.queue.specs.Queue.{Queue, timeOf, push}
 use Rattle.queue.specs.declared.Event.{Event}
-use Rattle.durability.specs.declared.replies.Reply.{Reply}
+use Rattle.checks_durability.specs.declared.replies.Reply.{Reply}
 use Rattle.model.specs.State.{State, Server, Confirmation, idOf}
 use Rattle.book.specs.Book.{Found, Given, Book}
 use Rattle.book.specs.Stores.{Stored}

@@ -5,7 +5,11 @@ use Prim.Native.Nat.{ℕ}
 use Rattle.laws.specs.Bools.{cases}
 use Rattle.laws.specs.Decides.{false-true}
 use Rattle.model.specs.State.{State, Phase, closed, writing, sending, Input, Verdict, Owed}
-use Rattle.model.specs.Calls.{Out, refused, done, ask, isClosed, whileWriting, whileSending}
+use Rattle.faults.specs.Fault.{withinLimits}
+use Rattle.faults.specs.declared.Fault.{Fault}
+use Rattle.faults.specs.declared.FaultOption.{FaultOption}
+use Rattle.faults.specs.declared.FaultOption.the-variants.{None, Some}
+use Rattle.model.specs.Calls.{Out, refused, done, ask, isClosed, whileWriting, whileSending, withFault}
 use Rattle.book.specs.Calls.{Call, Answer, After, finish}
 use Rattle.book.specs.Book.{Book, enter, note, accepted, openingOf, sealingOf, Right}
 use Rattle.book.specs.Holds.{Held, nowhere}
@@ -20,6 +24,11 @@ module _ {A : Type 0} {f : A → Answer} {b : Book} {c : Call} where
   pub fine-ask : (t : Bool) (number : ℕ) {o : Out A} → (t ≡ true → Fine f b c o) → Fine f b c (ask t number o)
   fine-ask true number h = h refl
   fine-ask false number h = no-change
+
+  -- a call with a fault
+  pub fine-fault : (o : FaultOption) {g : Fault → Out A} → ((fault : Fault) → Fine f b c (g fault)) → Fine f b c (withFault o g)
+  fine-fault None h = no-change
+  fine-fault (Some fault) h = fine-ask (withinLimits fault) 9 (λ _. h fault)
 
   -- a call that belongs to closed
   pub fine-closed : (s : State) {o : Out A} → Inv b (s .phase) s → (Phased b closed → Held b nowhere s → Fine f b c o) → Fine f b c (ask (isClosed (s .phase)) 6 o)

@@ -2,9 +2,9 @@
 use mathlib.Core.Path.{_≡_, refl, ap, _∙_}
 use mathlib.Core.Bool.{true}
 use mathlib.Core.List.{[]}
-use Prim.Native.Nat.{ℕ, zero, suc, _-_, _≤_}
+use Prim.Native.Nat.{ℕ, zero, suc, _-_, _^_, _≤_}
 use native.Mathlib.Omega.{arith}
-use lib.Dec.{leb, eqb}
+use lib.Dec.{leb, ltb, eqb}
 use lib.ListN.{length}
 use borrow.Author.Tests.{eqb-true, leb-true}
 use Rattle.laws.specs.Bools.{cases, and-left, and-right}
@@ -14,6 +14,7 @@ use Rattle.laws.specs.Decides.{false-true}
 use Rattle.units.specs.declared.NodeId.{NodeId}
 use Rattle.log.specs.Log.{count, entryAt}
 use Rattle.model.specs.State.{State, newServer, Phase, closed, writing, sending}
+use Rattle.faults.specs.Fault as faults
 use Rattle.model.specs.Calls.{inCluster}
 use Rattle.model.specs.Reads as reads
 use Rattle.model.specs.Reads.{named}
@@ -38,10 +39,12 @@ module _ (b : Book) (s : State) (i : Inv b (s .phase) s) where
 
   module _ (id : ℕ) (known : inCluster s id ≡ true) where
     low : 1 ≤ id
+    unfolding faults.inCluster
     low = leb-true 1 id (and-left _ _ known)
 
     server-holds : ServerHolds (b .lastIndex) (b .given) (record { 0 = id }) (b .found (record { 0 = id })) (waitsIn b (s .phase) (id - 1))
         (named s id .storage) (named s id .nextApply)
+    unfolding faults.inCluster
     server-holds =
         let l = low in
         let high : id ≤ length (s .servers) = leb-true id (length (s .servers)) (and-right _ _ known) in
@@ -118,4 +121,4 @@ module _ (b : Book) (s : State) (i : Inv b (s .phase) s) where
 
   pub fine-read-run : Fine (λ x. got (gotRun x)) b (read readRun) (reads.readRun s)
   unfolding reads.readRun
-  fine-read-run = fine tt i
+  fine-read-run = fine-ask (ltb (reads.discardedBy (s .servers)) (2 ^ 64)) 10 (λ _. fine tt i)

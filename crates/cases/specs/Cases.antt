@@ -10,7 +10,9 @@ use Rattle.laws.specs.Lists.{sameList, listFrom}
 use Rattle.laws.specs.Order.{pushBy}
 use Rattle.units.specs.Types.{Entry, command, samePayload}
 use Rattle.units.specs.declared.NodeOption.the-variants.{None}
-use Rattle.rng.specs.Rng.{mix, new, nextU64, under}
+use Rattle.rng.specs.Rng.{mix, new, nextU64, under, below, boundedNumber}
+use Rattle.rng.specs.declared.Bounded.{Bounded}
+use Rattle.rng.specs.declared.Bounded.the-variants.{Value, ZeroBound}
 use Rattle.seeds.specs.Seeds.{tag}
 use Rattle.seeds.specs.declared.Stream.the-variants.{Server}
 use Rattle.record.specs.Postcard.{varintIn, varint, option, payload, hardStateRecord, putRecord, truncateRecord, framed, recordBytes}
@@ -40,6 +42,11 @@ abbrev bit : Bool → ℕ
 bit true = 1
 bit false = 0
 
+-- The number that a draw below a bound gave, or 0.
+abbrev valueOf : Bounded → ℕ
+valueOf (Value v) = v
+valueOf ZeroBound = 0
+
 -- A message of one byte pushed at a time, and the messages in the order in which they leave.
 abbrev at : ℕ → ℕ → Queue → Queue
 at time name q = push q (record { 0 = time }) (Deliver (record { 0 = 1 }) (record { 0 = 2 }) 0) (name ∷ [])
@@ -65,8 +72,8 @@ pub cases : List Case
 cases =
     -- C1: state 0, one draw: the state
     record { computed = nextU64 (new 0) .next .state ∷ []; expected = 0x9E37_79B9_7F4A_7C15 ∷ [] }
-    -- C2: below(1) is 0
-    ∷ record { computed = under (new 0) 1 .value ∷ []; expected = 0 ∷ [] }
+    -- C2: below(1) is 0, and accepted
+    ∷ record { computed = boundedNumber (below (new 0) 1 .value) ∷ valueOf (below (new 0) 1 .value) ∷ []; expected = 0 ∷ 0 ∷ [] }
     -- C3: server 1, incarnation 0: the tag
     ∷ record { computed = tag (Server (record { 0 = 1 }) 0) ∷ []; expected = 0x0500_0000_0000_0001 ∷ [] }
     -- C4: (term 0, no vote) counts 7 bytes
@@ -109,5 +116,5 @@ cases =
 
 -- Each case computes what it must.
 pub all-cases : every (λ (c : Case). sameList (c .computed) (c .expected)) cases ≡ true
-unfolding cases sameList _and_ mix nextU64 under tag varintIn varint option payload hardStateRecord putRecord truncateRecord framed recordBytes write crash entryAt putAt truncateAt count lastIndex gaps removedBy samePayload push pushBy listFrom partition separated elsewhere network.some countTrue logMatchingFailure mismatchFrom reports reportAll report
+unfolding cases sameList _and_ mix nextU64 under below tag varintIn varint option payload hardStateRecord putRecord truncateRecord framed recordBytes write crash entryAt putAt truncateAt count lastIndex gaps removedBy samePayload push pushBy listFrom partition separated elsewhere network.anyFrom countTrue logMatchingFailure mismatchFrom reports reportAll report
 all-cases = refl

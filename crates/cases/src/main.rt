@@ -5,12 +5,13 @@ use checks::Check;
 use checks::violations;
 use checks::violations::Detail;
 use checks::violations::Tally;
+use checks_log_matching::MismatchOption;
 use libc::STDOUT_FILENO;
-use log_matching::MismatchOption;
 use network::Network;
 use queue::Event;
 use queue::table;
 use record::PayloadShape;
+use rng::Bounded;
 use rng::Rng;
 use seeds::Stream;
 use storage::HardState;
@@ -41,6 +42,14 @@ fn one(b: bool) -> u64
     if b { 1 } else { 0 }
 }
 
+// Whether a draw below a bound gave this number.
+fn is_value(drawn: Bounded, n: u64) -> bool {
+    match drawn {
+        Bounded::Value(v) => v == n,
+        Bounded::ZeroBound => false,
+    }
+}
+
 // How many ordered pairs of servers have a blocked link.
 fn blocked_pairs(n: Network) -> u64 {
     let links = n.blocked;
@@ -59,15 +68,15 @@ fn gaps_close(s: &mut [u8]) -> bool {
         return false;
     }
     log::clear(s, 4, 12);
-    log::put_noop(s, 4, 12, LogIndex(1), Term(1));
-    log::put_noop(s, 4, 12, LogIndex(3), Term(1));
+    log::put(s, 4, 12, LogIndex(1), Term(1), 0, b"");
+    log::put(s, 4, 12, LogIndex(3), Term(1), 0, b"");
     let before = log::gaps(s, 4, 12);
     let removed = log::truncate(s, 4, 12, LogIndex(2));
     (before == 1) & (removed == 1) & (log::gaps(s, 4, 12) == 0)
 }
 
-// A disk of term 0 and no vote, with so many waiting writes.
-fn disk(waiting: u64) -> StorageState {
+// Storage of term 0 and no vote, with so many waiting writes.
+fn state(waiting: u64) -> StorageState {
     let state = HardState {
         term: Term(0),
         voted_for: NodeOption::None,
@@ -80,48 +89,45 @@ fn disk(waiting: u64) -> StorageState {
     }
 }
 
-// A put, then a crash. The bytes are two logs of four places and two waiting writes; where they are not, a write is left to wait.
-fn put_and_crash(current: &mut [u8], durable: &[u8], waiting: &mut [u8]) -> StorageState {
-    if current.len() != 128 {
-        return disk(1);
+// A put, then a crash. The bytes are a disk of four places a log and two waiting writes; where they are not, a write is left to wait.
+fn put_and_crash(disk: &mut [u8]) -> StorageState {
+    if disk.len() != 336 {
+        return state(1);
     }
-    if durable.len() != 128 {
-        return disk(1);
-    }
-    if waiting.len() != 80 {
-        return disk(1);
-    }
-    let put = write::put_noop(disk(0), current, waiting, 4, 2, 12, LogIndex(1), Term(1));
+    let put = write::put(state(0), disk, 4, 2, 12, LogIndex(1), Term(1), 0, b"");
     let Written::Done(written) = put else {
-        return disk(1);
+        return state(1);
     };
-    storage::crash(written, current, durable, waiting)
+    if 2 < written.waiting {
+        return state(1);
+    }
+    storage::crash(written, disk, 4, 2, 12)
 }
 
 // Whether a sync has nothing to write.
-fn nothing_to_sync(v: StorageState, durable: &mut [u8], waiting: &mut [u8]) -> bool {
-    if durable.len() != 128 {
+fn nothing_to_sync(v: StorageState, disk: &mut [u8]) -> bool {
+    if disk.len() != 336 {
         return false;
     }
     if v.waiting != 0 {
         return false;
     }
-    let synced = storage::sync(v, durable, waiting, 4, 12);
+    let synced = storage::sync(v, disk, 4, 2, 12);
     !synced.wrote
 }
 
-// Whether a log of four places has no entry.
-fn no_entry(s: &[u8]) -> bool {
-    if s.len() != 128 {
+// Whether the current log of a disk has no entry.
+fn no_entry(disk: &[u8]) -> bool {
+    if disk.len() != 336 {
         return false;
     }
-    log::last_index(s, 4, 12).0 == 0
+    log::last_index(&disk[0..128], 4, 12).0 == 0
 }
 
 // A put that is lost in a crash: the log is empty again, and a sync has nothing to write.
-fn crash_forgets(current: &mut [u8], durable: &mut [u8], waiting: &mut [u8]) -> bool {
-    let crashed = put_and_crash(current, durable, waiting);
-    no_entry(current) & nothing_to_sync(crashed, durable, waiting)
+fn crash_forgets(disk: &mut [u8]) -> bool {
+    let crashed = put_and_crash(disk);
+    no_entry(disk) & nothing_to_sync(crashed, disk)
 }
 
 // The client of the earliest event.
@@ -180,7 +186,7 @@ fn single(s: &mut [u8], command: &[u8])
     requires { ⌜ (64 ≤ length (now s)) × (length (now command) ≤ 12) ⌝ }
 {
     log::clear(s, 2, 12);
-    log::put_command(s, 2, 12, LogIndex(1), Term(1), command);
+    log::put(s, 2, 12, LogIndex(1), Term(1), 1, command);
 }
 
 // Single entries of one term with other payloads are no mismatch; an equal entry following at 2 is one, after a difference at 1. The bytes
@@ -194,10 +200,10 @@ fn mismatch_at_2(a: &mut [u8], b: &mut [u8]) -> bool {
     }
     single(a, b"1");
     single(b, b"2");
-    let alone = log_matching::log_matching_failure(a, b, 2, 12);
-    log::put_command(a, 2, 12, LogIndex(2), Term(1), b"3");
-    log::put_command(b, 2, 12, LogIndex(2), Term(1), b"3");
-    let followed = log_matching::log_matching_failure(a, b, 2, 12);
+    let alone = checks_log_matching::log_matching_failure(a, b, 2, 12);
+    log::put(a, 2, 12, LogIndex(2), Term(1), 1, b"3");
+    log::put(b, 2, 12, LogIndex(2), Term(1), 1, b"3");
+    let followed = checks_log_matching::log_matching_failure(a, b, 2, 12);
     no_mismatch(alone) & mismatch_at(followed, 2, 1)
 }
 
@@ -232,8 +238,9 @@ fn first_32_kept(v: &mut [u8]) -> bool {
 fn main() {
     let draw = rng::drawn_u64(Rng::new(0));
     report(b"C1", draw.next.state == 0x9E37_79B9_7F4A_7C15);
-    let below = rng::drawn_under(Rng::new(0), 1);
-    report(b"C2", below.value == 0);
+    let below = rng::drawn_below(Rng::new(0), 1);
+    let drawn = below.value;
+    report(b"C2", is_value(drawn, 0));
     let server = Stream::Server {
         id: NodeId(1),
         incarnation: 0,
@@ -251,13 +258,8 @@ fn main() {
     report(b"C6", record::truncate_bytes(LogIndex(128)) == 7);
     let mut places = [0u8; 128];
     report(b"C7", gaps_close(&mut places));
-    let mut durable = [0u8; 128];
-    let mut waiting = [0u8; 80];
-    let mut current = [0u8; 128];
-    report(
-        b"C8",
-        crash_forgets(&mut current, &mut durable, &mut waiting),
-    );
+    let mut disk = [0u8; 336];
+    report(b"C8", crash_forgets(&mut disk));
     let mut events = [0u8; 168];
     report(b"C9", earliest_first(&mut events));
     let two_groups = Network::new(Duration(0), Rng::new(0)).partition(3 + 256 * 6);

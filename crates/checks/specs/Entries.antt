@@ -2,12 +2,13 @@
 use mathlib.Core.Path.{_≡_, refl}
 use mathlib.Core.Bool.{Bool, true, false}
 use mathlib.Core.List.{List, [], _∷_, map}
-use Prim.Native.Nat.{ℕ, _+_, _*_, _<_}
+use mathlib.Core.Option.{Option, none, some}
+use Prim.Native.Nat.{ℕ, _+_}
 use native.Mathlib.Omega.{arith}
 use lib.Dec.{leb}
-use Rattle.laws.specs.Bools.{_and_}
+use Rattle.laws.specs.Bools.{pick, _and_}
 use Rattle.laws.specs.Order.{pairs, rising, lookup, insertBy}
-use Rattle.units.specs.Types.{Payload, Entry}
+use Rattle.units.specs.Types.{Payload, Entry, samePayload}
 use Rattle.units.specs.declared.NodeId.{NodeId}
 use Rattle.units.specs.declared.Term.{Term}
 use Rattle.units.specs.declared.LogIndex.{LogIndex}
@@ -18,8 +19,9 @@ use Rattle.layout.specs.Marked.{wordsFor}
 use Rattle.layout.specs.Payload.{payload}
 use Rattle.checks.specs.declared.Check.the-variants.{UniqueEntries}
 use Rattle.checks.specs.declared.entries.EntrySeen.{EntrySeen}
-use Rattle.checks.specs.declared.entries.EntrySeen.the-variants.{Same, Other, Inserted, Full}
-use Rattle.checks.specs.Checks.{Checker, Seen, seenKey, compareSeen, report, withEntries}
+use Rattle.checks.specs.declared.entries.EntrySeen.the-variants.{Same, Other, New}
+use Rattle.checks.specs.Checks.{Checker, Seen, seenKey, reportIf}
+use Rattle.checks.specs.Asked.{insertSeenIf, seenOf}
 
 -- A row's parts: index and term, then the payload of up to p bytes.
 abbrev pub seenParts : ℕ → Code ((ℕ × ℕ) × Payload)
@@ -47,38 +49,36 @@ indexWithin L s = leb 1 (s .index .0) and leb (s .index .0) L
 abbrev pub seenIn : ℕ → ℕ → Table Seen
 seenIn L p = suchTable (seen p) (indexWithin L)
 
--- How many rows there are after an answer, and whether there was no room.
-abbrev pub seenAfter : ℕ → EntrySeen → ℕ
-seenAfter n Same = n
-seenAfter n Other = n
-seenAfter n (Inserted m) = m
-seenAfter n Full = n
+-- ---- answers
 
-abbrev pub noRoom : EntrySeen → Bool
-noRoom Same = false
-noRoom Other = false
-noRoom (Inserted m) = false
-noRoom Full = true
+-- Whether an answer is that another payload was seen there, and that none was.
+abbrev pub isOther : EntrySeen → Bool
+isOther Same = false
+isOther Other = true
+isOther New = false
 
--- The checks with an entry seen now.
-abbrev pub withSeen : Checker → LogIndex → Entry → Checker
-withSeen c index e = withEntries c (insertBy pairs seenKey (record { index = index; term = e .term; payload = e .payload }) (c .entries))
+abbrev pub isNew : EntrySeen → Bool
+isNew Same = false
+isNew Other = false
+isNew New = true
 
--- What the checks become by an answer: another payload was seen there, and it is reported; or none was, and this one is now.
-abbrev pub afterSeen : EntrySeen → Checker → SimTime → NodeId → LogIndex → Entry → Checker
-afterSeen Same c time server index e = c
-afterSeen Other c time server index e = report c time UniqueEntries (server .0 ∷ index .0 ∷ e .term .0 ∷ [])
-afterSeen (Inserted m) c time server index e = withSeen c index e
-afterSeen Full c time server index e = withSeen c index e
+-- A payload against the first seen.
+unfoldable pub entrySeen : Option Seen → Payload → EntrySeen
+entrySeen none x = New
+entrySeen (some first) x = pick (samePayload (first .payload) x) Same Other
 
--- An entry was compared with the first seen under its index and term: the answer says what the checks become, and b′ holds their entries; without room nothing changed.
-pub record SeenCompared (p N : ℕ) (n : ℕ) (r : EntrySeen) (b b′ : List ℕ) (c : Checker) (time : SimTime) (server : NodeId) (index : LogIndex) (e : Entry) : Type 0 where
-  pub is : compareSeen (lookup pairs seenKey (index .0, e .term .0) (c .entries)) c time server index e ≡ afterSeen r c time server index e
-  pub held : noRoom r ≡ false → Held (seen p) N (seenAfter n r) b′ (afterSeen r c time server index e .entries)
-  pub kept : noRoom r ≡ true → b′ ≡ b
-  pub full : noRoom r ≡ true → N < n * (3 + wordsFor p) + (3 + wordsFor p)
+-- What the checks become by an answer: another payload is reported; a new entry is seen now.
+abbrev pub entryAfter : EntrySeen → Checker → SimTime → NodeId → LogIndex → Entry → Checker
+entryAfter r c time server index e =
+    insertSeenIf (isNew r) (seenOf index e) (reportIf (isOther r) c time UniqueEntries (server .0 ∷ index .0 ∷ e .term .0 ∷ []))
 
--- The same whatever the checks are whose n entries b holds, and whatever payload the lent words hold.
-pub record ComparesSeen (p : ℕ) (index : LogIndex) (term : Term) (content : List ℕ) (n : ℕ) (r : EntrySeen) (b b′ : List ℕ) : Type 0 where
-  pub to : (N : ℕ) (c : Checker) (time : SimTime) (server : NodeId) (x : Payload) → Holds (payload p) content x → Held (seen p) N n b (c .entries)
-      → SeenCompared p N n r b b′ c time server index (record { term = term; payload = x })
+-- An entry was compared: the answer, whatever n entries b holds and whatever payload the lent words hold.
+pub record AsksSeen (p : ℕ) (index : LogIndex) (term : Term) (content : List ℕ) (n : ℕ) (r : EntrySeen) (b : List ℕ) : Type 0 where
+  pub to : (N : ℕ) (xs : List Seen) (x : Payload) → Holds (payload p) content x → Held (seen p) N n b xs
+      → r ≡ entrySeen (lookup pairs seenKey (index .0, term .0) xs) x
+
+-- An entry that was not there was put in, whatever payload the lent words hold.
+pub record InsertsSeen (p : ℕ) (index : LogIndex) (term : Term) (content : List ℕ) (n : ℕ) (b b′ : List ℕ) : Type 0 where
+  pub to : (N : ℕ) (xs : List Seen) (x : Payload) → Holds (payload p) content x → Held (seen p) N n b xs
+      → lookup pairs seenKey (index .0, term .0) xs ≡ none
+      → Held (seen p) N (n + 1) b′ (insertBy pairs seenKey (record { index = index; term = term; payload = x }) xs)

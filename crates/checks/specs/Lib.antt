@@ -3,6 +3,9 @@ pub mod Reports
 pub mod Violations
 pub mod ViolationLaws
 pub mod Outcomes
+pub mod Asked
+pub mod AskedLaws
+pub mod InsertLaws
 pub mod Leaders
 pub mod LeaderLaws
 pub mod Entries

@@ -27,7 +27,7 @@ pub report-total : (c : Checker) (v : Violation) → report c (v .time) (v .chec
 unfolding report
 report-total c v = refl
 
--- a violation that is due, or none: the total, and the payloads that it leaves
+-- a violation that is due, or none: the total, and the tables as they were
 pub total-if : (t : Bool) (c : Checker) (time : SimTime) (k : Check) (d : List ℕ) → reportIf t c time k d .total ≡ c .total + pick t 1 0
 unfolding report
 total-if true c time k d = refl
@@ -37,6 +37,16 @@ pub applied-if : (t : Bool) (c : Checker) (time : SimTime) (k : Check) (d : List
 unfolding report
 applied-if true c time k d = refl
 applied-if false c time k d = refl
+
+pub entries-if : (t : Bool) (c : Checker) (time : SimTime) (k : Check) (d : List ℕ) → reportIf t c time k d .entries ≡ c .entries
+unfolding report
+entries-if true c time k d = refl
+entries-if false c time k d = refl
+
+pub leaders-if : (t : Bool) (c : Checker) (time : SimTime) (k : Check) (d : List ℕ) → reportIf t c time k d .leaders ≡ c .leaders
+unfolding report
+leaders-if true c time k d = refl
+leaders-if false c time k d = refl
 
 -- what was counted was due
 pub one-due : (t : Bool) (n : ℕ) → n ≡ pick t 1 0 → 0 < n → t ≡ true
@@ -49,15 +59,26 @@ all-counted c [] = omega arith
 all-counted c (v ∷ vs) = omega (arith, all-counted (report c (v .time) (v .check) (v .detail)) vs)
 
 -- one more violation, while there is room and when there is none: what is kept stays the start of all that came
-keep-one : (kept later : List Violation) (v : Violation) (next : List Violation) → length kept ≤ maxRecorded → next ≡ pick (ltb (length kept) maxRecorded) (kept ++ v ∷ []) kept
+keep-one : (kept later : List Violation) (v : Violation) (next : List Violation) → length kept ≤ maxRecorded
+    → next ≡ pick (ltb (length kept) maxRecorded) (kept ++ v ∷ []) kept
     → (length next ≤ maxRecorded) × (take maxRecorded (next ++ later) ≡ take maxRecorded (kept ++ v ∷ later))
 keep-one kept later v next h e = by (ltb (length kept) maxRecorded) refl e
   where
-    by : (b : Bool) → ltb (length kept) maxRecorded ≡ b → next ≡ pick b (kept ++ v ∷ []) kept → (length next ≤ maxRecorded) × (take maxRecorded (next ++ later) ≡ take maxRecorded (kept ++ v ∷ later))
+    by : (b : Bool) → ltb (length kept) maxRecorded ≡ b → next ≡ pick b (kept ++ v ∷ []) kept
+        → (length next ≤ maxRecorded) × (take maxRecorded (next ++ later) ≡ take maxRecorded (kept ++ v ∷ later))
     by true t e = (rw e (simp length-append (omega (arith, ltb-true (length kept) maxRecorded t))), rw (e, append-assoc))
-    by false t e = (rw e h, rw (e, take-append-le maxRecorded kept later (ltb-false (length kept) maxRecorded t), take-append-le maxRecorded kept (v ∷ later) (ltb-false (length kept) maxRecorded t)))
+    by false t e = (
+      rw e h,
+      rw (
+        e,
+        take-append-le maxRecorded kept later
+            (ltb-false (length kept) maxRecorded t),
+        take-append-le maxRecorded kept (v ∷ later) (ltb-false (length kept) maxRecorded t),
+      ),
+    )
 
-first-kept : (c : Checker) (vs : List Violation) → length (c .violations) ≤ maxRecorded → reportAll c vs .violations ≡ take maxRecorded (c .violations ++ vs)
+first-kept : (c : Checker) (vs : List Violation) → length (c .violations) ≤ maxRecorded
+    → reportAll c vs .violations ≡ take maxRecorded (c .violations ++ vs)
 unfolding reportAll report
 first-kept c [] h = rw append-nil (sym (take-all maxRecorded (c .violations) h))
 first-kept c (v ∷ vs) h =

@@ -1,5 +1,5 @@
-// The first payload written under each index and term (`entries` of checks.rs): rows of 3 + ⌈p/8⌉ words, the index, the term and the payload,
-// rising by index and term, where p is the greatest length of a command. The caller keeps the count n; a function that changes it answers the new one.
+// The first payload written under each index and term (`entries` of checks.rs): rows of 3 + ⌈p/8⌉ words, the index, the term and the
+// payload, rising by index and term, where p is the greatest length of a command. The caller keeps the count n.
 ghost use mathlib.Core.Path.{_≡_};
 ghost use Prim.Native.Nat.{_+_, _*_, _≤_};
 ghost use lib.ListN.{length};
@@ -8,33 +8,50 @@ ghost use Rattle.words.specs.Words.{W};
 ghost use Rattle.layout.specs.Code.{okN};
 ghost use Rattle.layout.specs.Tables.{Tabled};
 ghost use Rattle.layout.specs.Marked.{wordsFor};
-ghost use Rattle.checks.specs.Entries.{seenIn, ComparesSeen};
+ghost use Rattle.checks.specs.Entries.{seenIn, isOther, isNew, AsksSeen, InsertsSeen};
 use layout::marked;
 use layout::rows;
 use layout::rows::Found;
 use units::LogIndex;
 use units::Term;
 
-// An entry against the first seen under its index and term: the same payload; another, which breaks unique entries; or none, and it is the
-// first now, with the new count; or none, and there is no room for one.
+// An entry against the first seen under its index and term: the same payload; another, which breaks unique entries; or none.
 pub enum EntrySeen {
     Same,
     Other,
-    Inserted(usize),
-    Full,
+    New,
 }
 
-// Compares an entry with the first seen under its index and term (on_write), or keeps it as the first. Its payload is lent in words.
-pub fn compare(
-    s: &mut [u8],
-    n: usize,
-    p: usize,
-    index: LogIndex,
-    term: Term,
-    content: &[u8],
-) -> EntrySeen
-    requires { ⌜ (p ≤ 256) × (8 * (n * (3 + wordsFor p)) ≤ length (now s)) × (length (now content) ≡ 8 * (1 + wordsFor p)) ⌝ }
-    ensures { λ r. ⌜ ComparesSeen p index term (now (content .entry)) n r (now (s .entry)) (now (s .exit)) ⌝ }
+impl EntrySeen {
+    // Whether another payload was seen there.
+    pub fn is_other(self) -> bool
+        ensures { λ r. ⌜ r ≡ isOther self ⌝ }
+    {
+        match self {
+            EntrySeen::Same => false,
+            EntrySeen::Other => true,
+            EntrySeen::New => false,
+        }
+    }
+
+    // Whether none was.
+    pub fn is_new(self) -> bool
+        ensures { λ r. ⌜ r ≡ isNew self ⌝ }
+    {
+        match self {
+            EntrySeen::Same => false,
+            EntrySeen::Other => false,
+            EntrySeen::New => true,
+        }
+    }
+}
+
+// Compares an entry with the first seen under its index and term (on_write). Its payload is lent in words.
+pub fn ask(s: &[u8], n: usize, p: usize, index: LogIndex, term: Term, content: &[u8]) -> EntrySeen
+    requires { ⌜ p ≤ 256 ⌝ }
+    requires { ⌜ 8 * (n * (3 + wordsFor p)) ≤ length (now s) ⌝ }
+    requires { ⌜ length (now content) ≡ 8 * (1 + wordsFor p) ⌝ }
+    ensures { λ r. ⌜ AsksSeen p index term (now (content .entry)) n r (now (s .entry)) ⌝ }
 {
     let w = 3 + (p + 7) / 8;
     let f = rows::find2(s, n, w, index.0, term.0);
@@ -49,17 +66,23 @@ pub fn compare(
                 EntrySeen::Other
             }
         }
-        Found::Absent(i) => {
-            if s.len() - 8 * (n * w) < 8 * w {
-                return EntrySeen::Full;
-            }
-            let at = rows::start(i, n, w);
-            rows::open_row(s, n, i, w);
-            words::store_all(s, at, &[index.0, term.0]);
-            words::copy_from(s, 8 * (at + 2), content);
-            EntrySeen::Inserted(n + 1)
-        }
+        Found::Absent(_) => EntrySeen::New,
     }
+}
+
+// One entry more, which is not there yet; there is room for it. Its payload is lent in words.
+pub fn insert(s: &mut [u8], n: usize, p: usize, index: LogIndex, term: Term, content: &[u8])
+    requires { ⌜ p ≤ 256 ⌝ }
+    requires { ⌜ 8 * (n * (3 + wordsFor p) + (3 + wordsFor p)) ≤ length (now s) ⌝ }
+    requires { ⌜ length (now content) ≡ 8 * (1 + wordsFor p) ⌝ }
+    ensures { λ _. ⌜ InsertsSeen p index term (now (content .entry)) n (now (s .entry)) (now (s .exit)) ⌝ }
+{
+    let w = 3 + (p + 7) / 8;
+    let i = rows::place2(s, n, w, index.0, term.0);
+    let at = rows::start(i, n, w);
+    rows::open_row(s, n, i, w);
+    words::store_all(s, at, &[index.0, term.0]);
+    words::copy_from(s, 8 * (at + 2), content);
 }
 
 // Whether a row is an entry at an index 1 to l with a payload of up to p bytes.

@@ -1,6 +1,8 @@
 // Safety checks (checks.rs).
 ghost use mathlib.Core.Path.{_≡_};
+ghost use Prim.Native.Nat.{_+_};
 ghost use Rattle.checks.specs.Checks.{checkNumber};
+ghost use Rattle.checks.specs.Asked.{countsCode};
 use units::NodeId;
 use units::Term;
 
@@ -51,4 +53,17 @@ impl Check {
 pub struct TermLeader {
     pub term: Term,
     pub server: NodeId,
+}
+
+// 0 where so many rows have room and the total has 64 bits with so many reports more; else 10.
+pub fn counts_code(rows: u64, room: u64, total: u64, reports: u64) -> u64
+    ensures { λ r. ⌜ r ≡ countsCode rows room (total + reports) ⌝ }
+{
+    if room < rows {
+        return 10;
+    }
+    if 18446744073709551615 - reports < total {
+        return 10;
+    }
+    0
 }

@@ -39,17 +39,6 @@ pub enum Tally {
     Past64Bits,
 }
 
-// The counts after a check with a table of its own, that of its rows first; or the total has no 64 bits, or a row no room, and nothing changed.
-pub enum Checked {
-    Done {
-        count: usize,
-        kept: usize,
-        total: u64,
-    },
-    Past64Bits,
-    NoRoom,
-}
-
 // One where a violation is due: reports are counted before any is kept.
 pub fn one_if(due: bool) -> u64
     ensures { λ r. ⌜ (r ≡ oneIf due) × (r ≤ 1) ⌝ }

@@ -21,14 +21,14 @@ validate c =
     ∷ [])
 
 -- Document 01's number for an answer: 0, or question 2's.
-abbrev pub number : Validity → ℕ
-number Valid = 0
-number ElectionTimeoutMinZero = 2
-number ElectionTimeoutMinAboveMax = 2
-number HeartbeatIntervalOutOfRange = 2
-number MaxEntriesPerMessageZero = 2
-number MaxEntriesInFlightTooFew = 2
+abbrev pub validityNumber : Validity → ℕ
+validityNumber Valid = 0
+validityNumber ElectionTimeoutMinZero = 2
+validityNumber ElectionTimeoutMinAboveMax = 2
+validityNumber HeartbeatIntervalOutOfRange = 2
+validityNumber MaxEntriesPerMessageZero = 2
+validityNumber MaxEntriesInFlightTooFew = 2
 
 -- Question 2: does `validate` accept?
 unfoldable pub accepts : Config → Bool
-accepts c = eqb (number (validate c)) 0
+accepts c = eqb (validityNumber (validate c)) 0

@@ -16,8 +16,8 @@ use Rattle.config.specs.declared.SimConfig.{SimConfig}
 use Rattle.config.specs.declared.Limits.{Limits}
 use Rattle.config.specs.declared.Judged.{Judged}
 use Rattle.config.specs.declared.Judged.the-variants.{Accepted, Servers, Consensus, Settings}
-use Rattle.config.specs.Config.{validate, accepts, number as validityNumber}
-use Rattle.config.specs.Limits.{number, within, serversFit, limitsFit, settingsFit, judge, areaLength, InLimits}
+use Rattle.config.specs.Config.{validate, accepts, validityNumber}
+use Rattle.config.specs.Limits.{judgedNumber, within, serversFit, limitsFit, countsFit, settingsFit, judge, areaLength, InLimits}
 use Rattle.config.specs.Questions.{firstNo}
 
 -- questions that are put in order
@@ -134,8 +134,8 @@ unfolding within
 high a b n h = leb-true n b (and-right _ _ h)
 
 -- each refusal has another number than the acceptance
-refusal : (r : Judged) (k : ℕ) → number r ≡ suc k → r ≡ Accepted → ⊥
-refusal r k e a = let z : _≡_ {A = ℕ} (suc k) 0 = sym e ∙ ap number a in omega arith
+refusal : (r : Judged) (k : ℕ) → judgedNumber r ≡ suc k → r ≡ Accepted → ⊥
+refusal r k e a = let z : _≡_ {A = ℕ} (suc k) 0 = sym e ∙ ap judgedNumber a in omega arith
 
 -- each question answered yes
 pub record AllYes (c : SimConfig) (l : Limits) : Type 0 where
@@ -156,21 +156,27 @@ all-yes c l r e a =
       settings = was-yes Accepted _ Settings _ (refusal Settings 2 refl) q₃;
     }
 
--- and are within the limits
-pub in-limits : (c : SimConfig) (l : Limits) (r : Judged) → r ≡ judge c l → r ≡ Accepted → InLimits (c .servers) (c .clients) l
-unfolding serversFit settingsFit limitsFit
-in-limits c l r e a =
+-- and counts that fit
+pub counts-yes : (c : SimConfig) (l : Limits) (r : Judged) → r ≡ judge c l → r ≡ Accepted → countsFit (c .servers) (c .clients) l ≡ true
+unfolding settingsFit countsFit
+counts-yes c l r e a =
     let y = all-yes c l r e a in
-    let t₁ = and-left _ _ (and-right _ _ (y .settings)) in
+    and-both _ _ (y .servers) (and-both _ _ (and-left _ _ (y .settings)) (and-left _ _ (and-right _ _ (y .settings))))
+
+-- counts that fit are within the limits, one by one
+pub counts-limits : (S C : ℕ) (l : Limits) → countsFit S C l ≡ true → InLimits S C l
+unfolding serversFit limitsFit countsFit
+counts-limits S C l h =
+    let t₁ = and-right _ _ (and-right _ _ h) in
     let t₂ = and-right _ _ t₁ in
     let t₃ = and-right _ _ t₂ in
     let t₄ = and-right _ _ t₃ in
     let t₅ = and-right _ _ t₄ in
     let t₆ = and-right _ _ t₅ in
     record {
-      servers-low = low _ _ _ (y .servers);
-      servers = high _ _ _ (y .servers);
-      clients = high _ _ _ (and-left _ _ (y .settings));
+      servers-low = low _ _ _ (and-left _ _ h);
+      servers = high _ _ _ (and-left _ _ h);
+      clients = high _ _ _ (and-left _ _ (and-right _ _ h));
       log-indexes-low = low _ _ _ (and-left _ _ t₁);
       log-indexes = high _ _ _ (and-left _ _ t₁);
       payload-low = low _ _ _ (and-left _ _ t₂);
@@ -183,3 +189,21 @@ in-limits c l r e a =
       history-low = low _ _ _ (and-left _ _ t₆);
       history = high _ _ _ (and-left _ _ t₆);
     }
+
+pub within-is : (a b n : ℕ) → a ≤ n → n ≤ b → within a b n ≡ true
+unfolding within
+within-is a b n h k = and-both _ _ (le-leb a n h) (le-leb n b k)
+
+pub limits-counts : (S C : ℕ) (l : Limits) → InLimits S C l → countsFit S C l ≡ true
+unfolding serversFit limitsFit countsFit
+limits-counts S C l i =
+    and-both _ _ (within-is 1 8 S (i .servers-low) (i .servers)) (and-both _ _ (within-is 0 64 C (omega arith) (i .clients))
+    (and-both _ _ (within-is 1 1024 _ (i .log-indexes-low) (i .log-indexes)) (and-both _ _ (within-is 12 256 _ (i .payload-low)
+    (i .payload))
+    (and-both _ _ (within-is 0 4096 (l .message) (omega arith) (i .message)) (and-both _ _ (within-is 1 65536 _ (i .events-low) (i .events))
+    (and-both _ _ (within-is 1 65536 _ (i .writes-low) (i .writes)) (and-both _ _ (within-is 1 65536 _ (i .history-low)
+    (i .history)) refl)))))))
+
+-- so settings that are accepted are within the limits
+pub in-limits : (c : SimConfig) (l : Limits) (r : Judged) → r ≡ judge c l → r ≡ Accepted → InLimits (c .servers) (c .clients) l
+in-limits c l r e a = counts-limits (c .servers) (c .clients) l (counts-yes c l r e a)

@@ -59,11 +59,15 @@ unfoldable pub judge : SimConfig → Limits → Judged
 judge c l = firstNo Accepted ((serversFit (c .servers), Servers) ∷ (accepts (c .consensus), Consensus) ∷ (settingsFit c l, Settings) ∷ [])
 
 -- Document 01's number for an answer.
-abbrev pub number : Judged → ℕ
-number Accepted = 0
-number Servers = 1
-number Consensus = 2
-number Settings = 3
+abbrev pub judgedNumber : Judged → ℕ
+judgedNumber Accepted = 0
+judgedNumber Servers = 1
+judgedNumber Consensus = 2
+judgedNumber Settings = 3
+
+-- The counts that an area begins with: servers, clients and the capacities.
+unfoldable pub countsFit : ℕ → ℕ → Limits → Bool
+countsFit S C l = serversFit S and within 0 64 C and limitsFit l
 
 -- The area in bytes, for S servers and C clients.
 unfoldable pub areaLength : ℕ → ℕ → Limits → ℕ

@@ -2,8 +2,8 @@
 use units::Duration;
 ghost use mathlib.Core.Path.{_≡_};
 ghost use Prim.Native.Nat.{_+_, _*_, _≤_, _^_};
-ghost use Rattle.config.specs.Config.{validate, accepts, number as validityNumber};
-ghost use Rattle.config.specs.Limits.{within, serversFit, durationFits, durationsFit, limitsFit, settingsFit, judge, number, areaLength, InLimits};
+ghost use Rattle.config.specs.Config.{validate, accepts, validityNumber};
+ghost use Rattle.config.specs.Limits.{within, serversFit, durationFits, durationsFit, limitsFit, settingsFit, countsFit, judge, judgedNumber, areaLength, InLimits};
 
 // Settings shared by both algorithms.
 pub struct Config {
@@ -133,7 +133,7 @@ pub enum Judged {
 impl Judged {
     // Document 01's number for an answer.
     pub fn number(self) -> u64
-        ensures { λ r. ⌜ r ≡ number self ⌝ }
+        ensures { λ r. ⌜ r ≡ judgedNumber self ⌝ }
     {
         match self {
             Judged::Accepted => 0,
@@ -196,6 +196,13 @@ fn limits_fit(limits: Limits) -> bool
         & within(1, 65536, limits.events)
         & within(1, 65536, limits.writes)
         & within(1, 65536, limits.history)
+}
+
+// Are the counts that an area begins with within limits: servers, clients and the capacities?
+pub fn counts_fit(servers: u64, clients: u64, limits: Limits) -> bool
+    ensures { λ r. ⌜ r ≡ countsFit servers clients limits ⌝ }
+{
+    servers_fit(servers) & within(0, 64, clients) & limits_fit(limits)
 }
 
 // Question 3: are the other settings within limits?

@@ -147,7 +147,7 @@ pub fn fault_of(kind: u64, first: u64, second: u64) -> FaultOption
 }
 
 // Whether a server is in a cluster of so many servers.
-fn in_cluster(servers: u64, id: NodeId) -> bool
+pub fn in_cluster(servers: u64, id: NodeId) -> bool
     ensures { λ r. ⌜ r ≡ inCluster servers id ⌝ }
 {
     (1 <= id.0) & (id.0 <= servers)

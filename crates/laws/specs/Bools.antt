@@ -141,3 +141,8 @@ module _ {A : Type 0} (f g : A → Bool) where
   pub every-both : (xs : List A) → every f xs ≡ true → every g xs ≡ true → every (λ x. f x and g x) xs ≡ true
   every-both [] h k = refl
   every-both (x ∷ xs) h k = and-both _ _ (and-both _ _ (and-left _ _ h) (and-left _ _ k)) (every-both xs (and-right _ _ h) (and-right _ _ k))
+
+-- a test of every element that follows from another
+pub every-by : {A : Type 0} (f g : A → Bool) → ((x : A) → f x ≡ true → g x ≡ true) → (xs : List A) → every f xs ≡ true → every g xs ≡ true
+every-by f g i [] h = refl
+every-by f g i (x ∷ xs) h = and-both _ _ (i x (and-left _ _ h)) (every-by f g i xs (and-right _ _ h))

@@ -4,3 +4,4 @@ pub mod Kinds
 pub mod Lists
 pub mod ListLaws
 pub mod Order
+pub mod OrderLaws

@@ -3,6 +3,7 @@ pub mod Coded
 pub mod UpTo
 pub mod Tables
 pub mod Contents
+pub mod Regions
 pub mod Rows
 pub mod TableLaws
 pub mod Order
@@ -19,3 +20,6 @@ pub mod MarkedLaws
 pub mod Parts
 pub mod Applied
 pub mod AppliedLaws
+pub mod Cuts
+pub mod Structs
+pub mod Dependent

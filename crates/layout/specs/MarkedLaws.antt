@@ -1,8 +1,8 @@
 -- What the proofs of marked.rt cite. Assumes nothing.
 use mathlib.Core.Path.{_≡_, refl, sym, ap, ap₂, _∙_}
 use mathlib.Core.Bool.{Bool, false}
-use mathlib.Core.List.{List, [], _++_, append-assoc}
-use Prim.Native.Nat.{ℕ, zero, _+_, _*_, _-_, _≤_, _<_}
+use mathlib.Core.List.{List, [], _∷_, _++_, append-assoc}
+use Prim.Native.Nat.{ℕ, zero, suc, _+_, _*_, _-_, _≤_, _<_}
 use native.Mathlib.Omega.{arith}
 use lib.Dec.{leb}
 use lib.ListN.{length, take, drop, getD, length-append, length-drop, length-replicate, take-append-drop}
@@ -14,7 +14,7 @@ use Rattle.words.specs.Words.{bytes, bytesOf, W, Bytes, allz}
 use Rattle.words.specs.Sets.{sets-append, sets-all}
 use Rattle.words.specs.Numbers.{length-bytesOf}
 use Rattle.words.specs.Lift.{length-bytes, length-W, bytes-append, W-whole}
-use Rattle.units.specs.Types.{Payload, noop, command, samePayload}
+use Rattle.units.specs.Types.{Payload, noop, command, payloadOf, samePayload}
 use Rattle.units.specs.PayloadLaws.{payload-itself, payload-equal}
 use Rattle.layout.specs.declared.marked.Kind.the-variants.{Noop, Command}
 use Rattle.layout.specs.Code.{zeros}
@@ -52,6 +52,33 @@ puts M x b b′ e = record {
       let k : length b - (8 + length (M .body x)) ≡ 8 * wordsFor p - length (M .body x) = omega arith in
       record { good = g; is = e ∙ ap (λ (n : ℕ). bytesOf 8 (M .mark x) ++ (M .body x ++ zeros n)) k ∙ sym (bytes-enc M p x (sound M p x g)) };
 }
+
+-- a payload of a kind and bytes, of which a noop has none
+module _ (kind : ℕ) (d : List ℕ) (h : kind ≤ 1) (k : length d ≤ 256 * kind) where
+  pub kind-mark : markOf (payloadOf kind d) ≡ 1 + kind + length d
+  unfolding payloadOf
+  kind-mark = by kind d h k
+    where
+      by : (i : ℕ) (b : List ℕ) → i ≤ 1 → length b ≤ 256 * i → markOf (payloadOf i b) ≡ 1 + i + length b
+      by zero b h k = omega arith
+      by (suc zero) b h k = omega arith
+      by (suc (suc i)) b h k = absurd (omega arith)
+
+  pub kind-body : bodyOf (payloadOf kind d) ≡ d
+  unfolding payloadOf
+  kind-body = by kind d h k
+    where
+      by : (i : ℕ) (b : List ℕ) → i ≤ 1 → length b ≤ 256 * i → bodyOf (payloadOf i b) ≡ b
+      by zero [] h k = refl
+      by zero (x ∷ b) h k = absurd (omega arith)
+      by (suc zero) b h k = refl
+      by (suc (suc i)) b h k = absurd (omega arith)
+
+  pub kind-puts : (b b′ : List ℕ) → b′ ≡ laid (1 + kind + length d) d (length b) → Puts payloadMarking (payloadOf kind d) b b′
+  kind-puts b b′ e = puts payloadMarking (payloadOf kind d) b b′ (e ∙ ap₂ (λ (m : ℕ) (l : List ℕ). laid m l (length b)) (sym kind-mark) (sym kind-body))
+
+  pub kind-sound : (p : ℕ) → length d ≤ p → p ≤ 256 → Bytes d → Sound payloadMarking p (payloadOf kind d)
+  kind-sound p l q B = record { marked = omega (arith, kind-mark); short = rw kind-body l; each = λ j. rw kind-body (B j) }
 
 -- ---- reading
 

@@ -23,8 +23,8 @@ bodyOf noop = []
 bodyOf (command bs) = bs
 
 -- The payload of a mark and bytes.
-unfoldable pub payloadOf : ℕ → List ℕ → Payload
-payloadOf k d = pick (eqb k 1) noop (command d)
+unfoldable pub payloadFrom : ℕ → List ℕ → Payload
+payloadFrom k d = pick (eqb k 1) noop (command d)
 
 pub count-mark : (x : Payload) → length (bodyOf x) ≡ markOf x - 2
 count-mark noop = refl
@@ -34,21 +34,21 @@ pub valid-mark : (x : Payload) → leb 1 (markOf x) ≡ true
 valid-mark noop = refl
 valid-mark (command bs) = le-leb 1 (2 + length bs) (omega arith)
 
-pub make-mark : (x : Payload) → payloadOf (markOf x) (bodyOf x) ≡ x
-unfolding payloadOf
+pub make-mark : (x : Payload) → payloadFrom (markOf x) (bodyOf x) ≡ x
+unfolding payloadFrom
 make-mark noop = refl
 make-mark (command bs) = ap (λ (b : Bool). pick b noop (command bs)) (ne-eqb (2 + length bs) 1 (omega arith))
 
-pub mark-make : (k : ℕ) (d : List ℕ) → leb 1 k ≡ true → length d ≡ k - 2 → markOf (payloadOf k d) ≡ k
-unfolding payloadOf
+pub mark-make : (k : ℕ) (d : List ℕ) → leb 1 k ≡ true → length d ≡ k - 2 → markOf (payloadFrom k d) ≡ k
+unfolding payloadFrom
 mark-make k d v l = by (eqb k 1) refl
   where
     by : (b : Bool) → eqb k 1 ≡ b → markOf (pick b noop (command d)) ≡ k
     by true e = sym (eqb-true k 1 e)
     by false e = omega (arith, leb-true 1 k v, eqb-false k 1 e)
 
-pub body-make : (k : ℕ) (d : List ℕ) → leb 1 k ≡ true → length d ≡ k - 2 → bodyOf (payloadOf k d) ≡ d
-unfolding payloadOf
+pub body-make : (k : ℕ) (d : List ℕ) → leb 1 k ≡ true → length d ≡ k - 2 → bodyOf (payloadFrom k d) ≡ d
+unfolding payloadFrom
 body-make k d v l = by (eqb k 1) refl
   where
     by : (b : Bool) → eqb k 1 ≡ b → bodyOf (pick b noop (command d)) ≡ d
@@ -62,7 +62,7 @@ payloadMarking =
       body = bodyOf;
       count = λ k. k - 2;
       valid = λ k. leb 1 k;
-      make = payloadOf;
+      make = payloadFrom;
       count-mark = count-mark;
       valid-mark = valid-mark;
       make-mark = make-mark;

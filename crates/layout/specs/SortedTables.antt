@@ -14,7 +14,8 @@ use Rattle.layout.specs.declared.rows.Found.{Found}
 use Rattle.layout.specs.declared.rows.Found.the-variants.{At, Absent}
 use Rattle.layout.specs.Code.{Code}
 use Rattle.layout.specs.Tables.{Table, Held, Becomes, rowsIn, insertAt, removeAt, opened, removed}
-use Rattle.layout.specs.TableLaws.{rows-are, held-rule, insert-held, remove-held}
+use Rattle.layout.specs.Rows.{length-insertAt}
+use Rattle.layout.specs.TableLaws.{rows-are, held-rows, held-rule, insert-held, remove-held}
 use Rattle.laws.specs.Order.{Order, rising, sorted, insertBy, pushBy, removeBy, lookup}
 use Rattle.layout.specs.Order.{lastPlace, find, heads}
 use Rattle.layout.specs.Sorted.{find-at, find-absent, insert-there, insert-absent, lookup-there, lookup-absent, remove-there, remove-absent, push-at, rising-insert, rising-remove, sorted-push}
@@ -92,6 +93,16 @@ module _ {K T : Type 0} {t : Table T} {O : Order K} {key : T → K} {g : List �
 
     pub keyed-inserted : (i : ℕ) → f ≡ At i → Becomes t n n b b (insertBy O key a)
     keyed-inserted i u = record { to = λ N x h. subst (Held t N n b) (sym (insert-there O key a x i (sym (in-held (key a) f e N x h) ∙ u))) h }
+
+    -- how many rows there are with it
+    pub keyed-known : {N : ℕ} {x : List T} → Held t N n b x → (i : ℕ) → f ≡ At i → length (insertBy O key a x) ≡ n
+    keyed-known {N} {x} h i u = ap length (insert-there O key a x i (sym (in-held (key a) f e N x h) ∙ u)) ∙ held-rows h .count
+
+    pub keyed-more : {N : ℕ} {x : List T} → Held t N n b x → (i : ℕ) → f ≡ Absent i → length (insertBy O key a x) ≡ n + 1
+    keyed-more {N} {x} h i u =
+        let l = found-upto O (key a) g w n (W b) f i e u in
+        let c = held-rows h .count in
+        ap length (insert-absent O key a x i (sym (in-held (key a) f e N x h) ∙ u)) ∙ length-insertAt i a x (omega arith) ∙ ap (λ (m : ℕ). m + 1) c
 
 -- the same where equal keys stay in the order in which they came
 pub record Queued {K T : Type 0} (t : Table T) (O : Order K) (key : T → K) (g : List ℕ → K) : Type 0 where

@@ -4,7 +4,7 @@ ghost use mathlib.Core.Path.{_≡_};
 ghost use Prim.Native.Nat.{_+_, _*_, _≤_, _<_};
 ghost use lib.ListN.{length};
 ghost use Rattle.laws.specs.Decides.{Decides};
-ghost use Rattle.units.specs.Types.{noop, command};
+ghost use Rattle.units.specs.Types.{payloadOf};
 ghost use Rattle.words.specs.Words.{W};
 ghost use Rattle.layout.specs.Code.{okN};
 ghost use Rattle.layout.specs.Tables.{Becomes, Tabled, append};
@@ -14,28 +14,17 @@ ghost use Rattle.layout.specs.Applied.{applied};
 use crate::marked;
 use crate::rows;
 
-// One noop more.
-pub fn push_noop(s: &mut [u8], n: usize, p: usize)
+// One payload more, of a kind and the bytes of src; a noop has none.
+pub fn push(s: &mut [u8], n: usize, p: usize, kind: u64, src: &[u8])
     requires { ⌜ (p ≤ 256) × (8 * (n * (1 + wordsFor p) + (1 + wordsFor p)) ≤ length (now s)) ⌝ }
-    ensures { λ _. ⌜ Becomes (applied p) n (n + 1) (now (s .entry)) (now (s .exit)) (append noop) ⌝ }
+    requires { ⌜ (kind ≤ 1) × (length (now src) ≤ 256 * kind) × (length (now src) ≤ p) ⌝ }
+    ensures { λ _. ⌜ Becomes (applied p) n (n + 1) (now (s .entry)) (now (s .exit)) (append (payloadOf kind (now (src .entry)))) ⌝ }
 {
     let w = 1 + (p + 7) / 8;
     let at = n * w;
     let a = 8 * at;
     let e = 8 * (at + w);
-    marked::put_noop(&mut s[a..e]);
-}
-
-// One command more, of the bytes of src.
-pub fn push_command(s: &mut [u8], n: usize, p: usize, src: &[u8])
-    requires { ⌜ (p ≤ 256) × (8 * (n * (1 + wordsFor p) + (1 + wordsFor p)) ≤ length (now s)) × (length (now src) ≤ p) ⌝ }
-    ensures { λ _. ⌜ Becomes (applied p) n (n + 1) (now (s .entry)) (now (s .exit)) (append (command (now (src .entry)))) ⌝ }
-{
-    let w = 1 + (p + 7) / 8;
-    let at = n * w;
-    let a = 8 * at;
-    let e = 8 * (at + w);
-    marked::put_command(&mut s[a..e], src);
+    marked::put_payload(&mut s[a..e], kind, src);
 }
 
 // Whether each row is a payload of up to p bytes.

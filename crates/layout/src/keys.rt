@@ -15,6 +15,12 @@ use crate::rows;
 use crate::rows::Found;
 use client::ClientKey;
 
+// What putting a key in answers: how many keys there are then, or that there is no room for it.
+pub enum Inserting {
+    Inserted(usize),
+    Full,
+}
+
 // Whether a key is there.
 pub fn contains(s: &[u8], n: usize, key: ClientKey) -> bool
     requires { ⌜ 8 * (n * 2) ≤ length (now s) ⌝ }
@@ -27,21 +33,25 @@ pub fn contains(s: &[u8], n: usize, key: ClientKey) -> bool
     }
 }
 
-// Puts a key in, unless it is there.
-pub fn insert(s: &mut [u8], n: usize, key: ClientKey) -> usize
-    requires { ⌜ 8 * (n * 2 + 2) ≤ length (now s) ⌝ }
-    ensures { λ r. ⌜ Inserts key n r (now (s .entry)) (now (s .exit)) ⌝ }
+// Puts a key in, unless it is there; a key that is there needs no room.
+pub fn insert(s: &mut [u8], n: usize, room: usize, key: ClientKey) -> Inserting
+    requires { ⌜ n ≤ room ⌝ }
+    requires { ⌜ 8 * (room * 2) ≤ length (now s) ⌝ }
+    ensures { λ r. ⌜ Inserts key n room r (now (s .entry)) (now (s .exit)) ⌝ }
 {
     let client = key.client as u64;
     let seq = key.seq;
     let f = rows::find2(s, n, 2, client, seq);
     match f {
-        Found::At(_) => n,
+        Found::At(_) => Inserting::Inserted(n),
         Found::Absent(i) => {
+            if room <= n {
+                return Inserting::Full;
+            }
             let at = rows::start(i, n, 2);
             rows::open_row(s, n, i, 2);
             words::store_all(s, at, &[client, seq]);
-            n + 1
+            Inserting::Inserted(n + 1)
         }
     }
 }

@@ -4,7 +4,7 @@
 ghost use mathlib.Core.Path.{_≡_};
 ghost use Prim.Native.Nat.{_+_, _-_, _*_, _≤_};
 ghost use lib.ListN.{length, getD};
-ghost use Rattle.units.specs.Types.{noop, command};
+ghost use Rattle.units.specs.Types.{payloadOf};
 ghost use Rattle.words.specs.Words.{W};
 ghost use Rattle.layout.specs.Marked.{wordsFor};
 ghost use Rattle.layout.specs.Payload.{payload, message, payloadMarking, messageMarking};
@@ -42,21 +42,12 @@ pub enum Kind {
     Command(usize),
 }
 
-// Writes a noop.
-pub fn put_noop(s: &mut [u8])
-    requires { ⌜ 8 ≤ length (now s) ⌝ }
-    ensures { λ _. ⌜ Puts payloadMarking noop (now (s .entry)) (now (s .exit)) ⌝ }
+// Writes the payload of a kind and the bytes of src; a noop has none.
+pub fn put_payload(s: &mut [u8], kind: u64, src: &[u8])
+    requires { ⌜ (kind ≤ 1) × (length (now src) ≤ 256 * kind) × (8 + length (now src) ≤ length (now s)) ⌝ }
+    ensures { λ _. ⌜ Puts payloadMarking (payloadOf kind (now (src .entry))) (now (s .entry)) (now (s .exit)) ⌝ }
 {
-    let none = [0u8; 0];
-    put(s, 1, &none);
-}
-
-// Writes a command of the bytes of src.
-pub fn put_command(s: &mut [u8], src: &[u8])
-    requires { ⌜ 8 + length (now src) ≤ length (now s) ⌝ }
-    ensures { λ _. ⌜ Puts payloadMarking (command (now (src .entry))) (now (s .entry)) (now (s .exit)) ⌝ }
-{
-    put(s, 2 + src.len() as u64, src);
+    put(s, 1 + kind + src.len() as u64, src);
 }
 
 // How many bytes a payload's number says: none where it is 2 or less.

@@ -16,7 +16,7 @@ use Rattle.laws.specs.Bools.{pick, cases, and-left, and-both, and-true}
 use Rattle.laws.specs.Lists.{isSome, sameList}
 use Rattle.laws.specs.ListLaws.{drop-next, list-itself, list-equal}
 use Rattle.laws.specs.Decides.{Decides, false-true, decided}
-use Rattle.units.specs.Types.{Payload, noop, command, Entry, samePayload}
+use Rattle.units.specs.Types.{Payload, noop, command, payloadOf, Entry, samePayload}
 use Rattle.units.specs.PayloadLaws.{payload-itself, payload-equal}
 use Rattle.units.specs.declared.Term.{Term}
 use Rattle.units.specs.declared.TermOption.the-variants.{Some as SomeTerm}
@@ -29,9 +29,9 @@ use Rattle.layout.specs.Contents.{decides-same}
 use Rattle.layout.specs.Rows.{row-end}
 use Rattle.layout.specs.TableLaws.{row-word, row-held, row-parsed, length-rowsIn, fill-held, blank-held, puts, rowed-start, rowed-done, held-rows}
 use Rattle.layout.specs.Marked.{wordsFor, Sound, sound, sounds}
-use Rattle.layout.specs.Payload.{payload, payloadMarking, markOf, bodyOf}
+use Rattle.layout.specs.Payload.{payload, payloadMarking, markOf, bodyOf, count-mark, valid-mark}
 use Rattle.layout.specs.MarkedCalls.{Puts}
-use Rattle.layout.specs.MarkedLaws.{body-read}
+use Rattle.layout.specs.MarkedLaws.{kind-mark, kind-body, kind-sound, body-read}
 use Rattle.layout.specs.Parts.{lentRow, backRow, length-lentRow, row-back, part-ok, lent-fine, lent-fails}
 use Rattle.log.specs.declared.Place.{Place}
 use Rattle.log.specs.declared.Place.the-variants.{None, Noop, Command}
@@ -356,16 +356,11 @@ module _ (p n i at : ℕ) (term : Term) (b ys b′ : List ℕ) (lo : 1 ≤ i) (h
         puts (places p) n b (i - 1) (some d) b′ (omega arith) (and-both _ _ (k .good) (lt-ltb (term .0) (2 ^ 64) (f .fits))) (λ x r. refl) q in
         record { to = λ N x g. subst (Held (places p) N n b′) (put-place x i d lo) (z .to N x g) }
 
-    pub put-noop : Puts payloadMarking noop (lentRow at (1 + wordsFor p) b) ys → b′ ≡ sets (backRow at (1 + wordsFor p) b ys) (8 * (at + (1 + wordsFor p))) (bytesOf 8 (term .0))
-        → Becomes (places p) n n b b′ (putEntry i (record { term = term; payload = noop }))
-    put-noop h e = put-row noop (record { marked = omega arith; short = omega arith; each = λ k. omega arith }) h e
-
-    pub put-command : (src : List ℕ) → p ≤ 256 → length src ≤ p → Bytes src → Puts payloadMarking (command src) (lentRow at (1 + wordsFor p) b) ys
+    pub put-kind : (kind : ℕ) (src : List ℕ) → p ≤ 256 → kind ≤ 1 → length src ≤ 256 * kind → length src ≤ p → Bytes src
+        → Puts payloadMarking (payloadOf kind src) (lentRow at (1 + wordsFor p) b) ys
         → b′ ≡ sets (backRow at (1 + wordsFor p) b ys) (8 * (at + (1 + wordsFor p))) (bytesOf 8 (term .0))
-        → Becomes (places p) n n b b′ (putEntry i (record { term = term; payload = command src }))
-    put-command src q l B h e = put-row (command src) (record { marked = omega arith; short = l; each = B }) h e
-
-pub ruleset putting = (put-noop, put-command)
+        → Becomes (places p) n n b b′ (putEntry i (record { term = term; payload = payloadOf kind src }))
+    put-kind kind src q k c l B h e = put-row (payloadOf kind src) (kind-sound kind src k c p l q B) h e
 
 -- ---- truncate: i is the first place that is removed, or the count of places
 
@@ -409,7 +404,7 @@ truncated p n from i r at end b b′ h k l c ea ee e = record {
   removed = removed-from p n from i r b h k l c;
 }
 
--- ---- clear, copy
+-- ---- clear
 
 pub cleared : (p n : ℕ) (b b′ : List ℕ) → b′ ≡ sets b 0 (zeros (length b - 0)) → Clears p n b b′
 cleared p n b b′ e =
@@ -417,9 +412,6 @@ cleared p n b b′ e =
     let q : b′ ≡ zeros (length b) = e ∙ ap (λ (k : ℕ). sets b 0 (zeros k)) z ∙ sets-all b (zeros (length b)) (length-replicate (length b) zero) in
     let l : length b′ ≡ length b = ap length q ∙ length-replicate (length b) zero in
     record { to = λ N m h. blank-held (places p) N n none b′ (l ∙ m) h refl refl refl (q ∙ ap zeros (sym l)) }
-
-pub copied-over : (b src b′ : List ℕ) → length b ≡ length src → b′ ≡ sets b 0 src → b′ ≡ src
-copied-over b src b′ l e = e ∙ sets-all b src (sym l)
 
 -- ---- comparing
 
@@ -448,90 +440,71 @@ compared p n i j at at₂ r s t li hi lj hj e e₂ d = record {
       ∙ ap₂ samePayloads (sym (entry-place x i li)) (sym (entry-place y j lj));
 }
 
--- a noop at a place, by what stands there
-abbrev isNoop : Place → Bool
-isNoop None = false
-isNoop (Noop t) = true
-isNoop (Command t k) = false
-
-noop-place : (o : Option Entry) → isNoop (placeOf o) ≡ isPayload o noop
+-- payloads of one mark and the same bytes are the same
+same-parts : (x y : Payload) → markOf x ≡ markOf y → bodyOf x ≡ bodyOf y → samePayload x y ≡ true
 unfolding samePayload
-noop-place none = refl
-noop-place (some e) = by (e .payload)
-  where
-    by : (y : Payload) → isNoop (kindIn (e .term) y) ≡ samePayload y noop
-    by noop = refl
-    by (command bs) = refl
+same-parts noop noop m b = refl
+same-parts noop (command d) m b = absurd (omega arith)
+same-parts (command c) noop m b = absurd (omega arith)
+same-parts (command c) (command d) m b = ap (λ (v : List ℕ). sameList c v) (sym b) ∙ list-itself c
 
-module _ (p n i : ℕ) (s : List ℕ) (r : Place) (g : Gives (places p) n s r (placeAt i)) where
-  noop-read : (b : Bool) → isNoop r ≡ b → Gives (places p) n s b (holdsAt i noop)
-  unfolding placeAt holdsAt
-  noop-read b e = record { to = λ N x h. sym e ∙ ap isNoop (g .to N x h) ∙ noop-place (entryAt x i) }
+module _ (p n i : ℕ) (s : List ℕ) (y : Payload) where
+  at-none : ((N : ℕ) (x : Log) → Held (places p) N n s x → entryAt x i ≡ none) → Gives (places p) n s false (holdsAt i y)
+  unfolding holdsAt
+  at-none f = record { to = λ N x h. ap (λ (o : Option Entry). isPayload o y) (sym (f N x h)) }
 
-  pub noop-none : r ≡ None → Gives (places p) n s false (holdsAt i noop)
-  noop-none e = noop-read false (ap isNoop e)
+  module _ (lo : 1 ≤ i) (hi : i ≤ n) (at m : ℕ) (e : at ≡ (i - 1) * (2 + wordsFor p)) (em : m ≡ getD (W s) at 0) where
+    holds-if : {N : ℕ} {x : Log} (b : Bool) → Held (places p) N n s x → ((o : Option Entry) → getD x (i - 1) none ≡ o → m ≡ markIn o → b ≡ isPayload o y) → b ≡ holdsAt i y x
+    unfolding holdsAt
+    holds-if {N} {x} b h f =
+        f (getD x (i - 1) none) refl (em ∙ mark-here p n h (i - 1) at (omega arith) e) ∙ ap (λ (o : Option Entry). isPayload o y) (sym (entry-place x i lo))
 
-  pub noop-noop : (t : Term) → r ≡ Noop t → Gives (places p) n s true (holdsAt i noop)
-  noop-noop t e = noop-read true (ap isNoop e)
+    holds-other : (m ≡ markOf y → ⊥) → Gives (places p) n s false (holdsAt i y)
+    holds-other f = record { to = λ N x h. holds-if false h (λ o q. by o) }
+      where
+        by : (o : Option Entry) → m ≡ markIn o → false ≡ isPayload o y
+        by none l = refl
+        by (some d) l = no (samePayload (d .payload) y) refl
+          where
+            no : (b : Bool) → samePayload (d .payload) y ≡ b → false ≡ b
+            no true a = absurd (f (l ∙ ap markOf (payload-equal (d .payload) y a)))
+            no false a = refl
 
-  pub noop-command : (t : Term) (k : ℕ) → r ≡ Command t k → Gives (places p) n s false (holdsAt i noop)
-  noop-command t k e = noop-read false (ap isNoop e)
+    holds-same : (r : Bool) (k : ℕ) → k ≤ p → k ≡ length (bodyOf y) → m ≡ markOf y → Decides r (take (8 * (at + 1) + k - 8 * (at + 1)) (drop (8 * (at + 1)) s) ≡ bodyOf y)
+        → Gives (places p) n s r (holdsAt i y)
+    holds-same r k l g f c = record { to = λ N x h. holds-if r h (by h) }
+      where
+        by : {N : ℕ} {x : Log} → Held (places p) N n s x → (o : Option Entry) → getD x (i - 1) none ≡ o → m ≡ markIn o → r ≡ isPayload o y
+        by h none q a = absurd (omega (arith, leb-true 1 (markOf y) (valid-mark y)))
+        by h (some d) q a =
+            let z : k ≡ length (bodyOf (d .payload)) = omega (arith, count-mark y, count-mark (d .payload)) in
+            decided r (samePayload (d .payload) y) (subst (λ (v : List ℕ). Decides r (v ≡ bodyOf y)) (body-here p n h (i - 1) at (omega arith) e d q k z l) c)
+            (λ o. ap bodyOf (payload-equal (d .payload) y o)) (same-parts (d .payload) y (sym a ∙ f))
 
-pub ruleset noops = (noop-none, noop-noop, noop-command)
-
-module _ (p n i : ℕ) (s src : List ℕ) where
-  pub command-zero : i < 1 → Gives (places p) n s false (holdsAt i (command src))
-  unfolding holdsAt entryAt
-  command-zero h = record { to = λ N x k. by x i h }
+module _ (p n i kind : ℕ) (s src : List ℕ) where
+  pub holds-zero : i < 1 → Gives (places p) n s false (holdsAt i (payloadOf kind src))
+  unfolding entryAt
+  holds-zero h = at-none p n i s (payloadOf kind src) (λ N x k. by x i h)
     where
-      by : (x : Log) (i : ℕ) → i < 1 → false ≡ isPayload (entryAt x i) (command src)
+      by : (x : Log) (i : ℕ) → i < 1 → entryAt x i ≡ none
       by x zero h = refl
       by x (suc i) h = absurd (omega arith)
 
-  pub command-past : n < i → Gives (places p) n s false (holdsAt i (command src))
-  unfolding holdsAt
-  command-past h = record { to = λ N x k. ap (λ (o : Option Entry). isPayload o (command src)) (sym (none-at x n i (held-rows k .count) h)) }
+  pub holds-past : n < i → Gives (places p) n s false (holdsAt i (payloadOf kind src))
+  holds-past h = at-none p n i s (payloadOf kind src) (λ N x k. none-at x n i (held-rows k .count) h)
 
-  module _ (lo : 1 ≤ i) (hi : i ≤ n) (at m : ℕ) (e : at ≡ (i - 1) * (2 + wordsFor p)) (em : m ≡ getD (W s) at 0) where
-    command-if : {N : ℕ} {x : Log} (b : Bool) → Held (places p) N n s x
-        → ((o : Option Entry) → getD x (i - 1) none ≡ o → m ≡ markIn o → b ≡ isPayload o (command src)) → b ≡ holdsAt i (command src) x
-    unfolding holdsAt
-    command-if {N} {x} b h f =
-        f (getD x (i - 1) none) refl (em ∙ mark-here p n h (i - 1) at (omega arith) e) ∙ ap (λ (o : Option Entry). isPayload o (command src)) (sym (entry-place x i lo))
+  module _ (k : kind ≤ 1) (c : length src ≤ 256 * kind) (lo : 1 ≤ i) (hi : i ≤ n) (at m : ℕ) (e : at ≡ (i - 1) * (2 + wordsFor p)) (em : m ≡ getD (W s) at 0) where
+    pub holds-not : (m ≡ 1 + kind + length src → ⊥) → Gives (places p) n s false (holdsAt i (payloadOf kind src))
+    holds-not f = holds-other p n i s (payloadOf kind src) lo hi at m e em (λ o. f (o ∙ kind-mark kind src k c))
 
-    pub command-other : (m ≡ 2 + length src → ⊥) → Gives (places p) n s false (holdsAt i (command src))
-    unfolding samePayload
-    command-other f = record { to = λ N x h. command-if false h (λ o q. by o) }
-      where
-        by : (o : Option Entry) → m ≡ markIn o → false ≡ isPayload o (command src)
-        by none l = refl
-        by (some d) l = kind (d .payload) l
-          where
-            kind : (y : Payload) → m ≡ markOf y → false ≡ samePayload y (command src)
-            kind noop l = refl
-            kind (command bs) l = no (sameList bs src) refl
-              where
-                no : (b : Bool) → sameList bs src ≡ b → false ≡ b
-                no true a = absurd (f (l ∙ ap (λ (v : List ℕ). 2 + length v) (list-equal bs src a)))
-                no false a = refl
+    pub holds-here : (r : Bool) → length src ≤ p → m ≡ 1 + kind + length src → Decides r (take (8 * (at + 1) + length src - 8 * (at + 1)) (drop (8 * (at + 1)) s) ≡ src)
+        → Gives (places p) n s r (holdsAt i (payloadOf kind src))
+    holds-here r l f d =
+        let b : bodyOf (payloadOf kind src) ≡ src = kind-body kind src k c in
+        holds-same p n i s (payloadOf kind src) lo hi at m e em r (length src) l (ap length (sym b)) (f ∙ sym (kind-mark kind src k c))
+        (subst (λ (v : List ℕ). Decides r (take (8 * (at + 1) + length src - 8 * (at + 1)) (drop (8 * (at + 1)) s) ≡ v)) (sym b) d)
 
-    pub command-here : (r : Bool) → length src ≤ p → m ≡ 2 + length src → Decides r (take (8 * (at + 1) + length src - 8 * (at + 1)) (drop (8 * (at + 1)) s) ≡ src)
-        → Gives (places p) n s r (holdsAt i (command src))
-    unfolding samePayload
-    command-here r l f c = record { to = λ N x h. command-if r h (by h) }
-      where
-        by : {N : ℕ} {x : Log} → Held (places p) N n s x → (o : Option Entry) → getD x (i - 1) none ≡ o → m ≡ markIn o → r ≡ isPayload o (command src)
-        by h none q k = absurd (omega arith)
-        by h (some d) q k = kind (d .payload) refl (k ∙ refl)
-          where
-            kind : (y : Payload) → d .payload ≡ y → m ≡ markOf y → r ≡ samePayload y (command src)
-            kind noop a k = absurd (omega arith)
-            kind (command bs) a k =
-                let z : length src ≡ length (bodyOf (d .payload)) = let w : length src ≡ length bs = omega arith in w ∙ ap (λ (y : Payload). length (bodyOf y)) (sym a) in
-                let b : take (8 * (at + 1) + length src - 8 * (at + 1)) (drop (8 * (at + 1)) s) ≡ bs = body-here p n h (i - 1) at (omega arith) e d q (length src) z l ∙ ap bodyOf a in
-                decided r (sameList bs src) (subst (λ (v : List ℕ). Decides r (v ≡ src)) b c) (list-equal bs src) (λ o. ap (λ (v : List ℕ). sameList v src) o ∙ list-itself src)
-
-pub ruleset commands = (command-zero, command-past, command-other, command-here)
+pub ruleset holding = (holds-zero, holds-past, holds-not, holds-here)
 
 -- ---- check
 

@@ -5,7 +5,7 @@ ghost use mathlib.Core.Path.{_≡_};
 ghost use Prim.Native.Nat.{_+_, _-_, _*_, _≤_, _<_};
 ghost use lib.ListN.{length, drop};
 ghost use Rattle.laws.specs.Decides.{Decides};
-ghost use Rattle.units.specs.Types.{noop, command};
+ghost use Rattle.units.specs.Types.{payloadOf};
 ghost use Rattle.words.specs.Words.{W};
 ghost use Rattle.layout.specs.Code.{okN};
 ghost use Rattle.layout.specs.Tables.{Tabled, Becomes, Gives, rowsIn};
@@ -171,29 +171,17 @@ pub fn gaps(s: &[u8], n: usize, p: usize) -> u64
 
 // ---- writing
 
-// Puts a noop at an index, in the place of what is there.
-pub fn put_noop(s: &mut [u8], n: usize, p: usize, index: LogIndex, term: Term)
+// Puts an entry at an index, in the place of what is there: its payload is that of a kind and the bytes of src, of which a noop has none.
+pub fn put(s: &mut [u8], n: usize, p: usize, index: LogIndex, term: Term, kind: u64, src: &[u8])
     requires { ⌜ (1 ≤ index .0) × (index .0 ≤ n) × (p ≤ 256) × (8 * (n * (2 + wordsFor p)) ≤ length (now s)) ⌝ }
-    ensures { λ _. ⌜ Becomes (places p) n n (now (s .entry)) (now (s .exit)) (putEntry (index .0) (record { term = term; payload = noop })) ⌝ }
+    requires { ⌜ (kind ≤ 1) × (length (now src) ≤ 256 * kind) × (length (now src) ≤ p) ⌝ }
+    ensures { λ _. ⌜ Becomes (places p) n n (now (s .entry)) (now (s .exit)) (putEntry (index .0) (record { term = term; payload = payloadOf kind (now (src .entry)) })) ⌝ }
 {
     let w = 1 + (p + 7) / 8;
     let at = rows::start_of(index.0 as usize - 1, n, w + 1);
     let a = 8 * at;
     let e = 8 * (at + w);
-    marked::put_noop(&mut s[a..e]);
-    words::store(s, at + w, term.0);
-}
-
-// Puts a command of the bytes of src at an index, in the place of what is there.
-pub fn put_command(s: &mut [u8], n: usize, p: usize, index: LogIndex, term: Term, src: &[u8])
-    requires { ⌜ (1 ≤ index .0) × (index .0 ≤ n) × (p ≤ 256) × (8 * (n * (2 + wordsFor p)) ≤ length (now s)) × (length (now src) ≤ p) ⌝ }
-    ensures { λ _. ⌜ Becomes (places p) n n (now (s .entry)) (now (s .exit)) (putEntry (index .0) (record { term = term; payload = command (now (src .entry)) })) ⌝ }
-{
-    let w = 1 + (p + 7) / 8;
-    let at = rows::start_of(index.0 as usize - 1, n, w + 1);
-    let a = 8 * at;
-    let e = 8 * (at + w);
-    marked::put_command(&mut s[a..e], src);
+    marked::put_payload(&mut s[a..e], kind, src);
     words::store(s, at + w, term.0);
 }
 
@@ -240,32 +228,13 @@ pub fn clear(s: &mut [u8], n: usize, p: usize)
     words::fill_zero(s, 0, end);
 }
 
-// One log over another.
-pub fn copy(dst: &mut [u8], src: &[u8])
-    requires { ⌜ length (now dst) ≡ length (now src) ⌝ }
-    ensures { λ _. ⌜ now (dst .exit) ≡ now (src .entry) ⌝ }
-{
-    words::copy_from(dst, 0, src);
-}
-
 // ---- comparing
 
-// Whether a noop is at an index.
-pub fn holds_noop(s: &[u8], n: usize, p: usize, index: LogIndex) -> bool
+// Whether the payload of a kind and the bytes of src is at an index.
+pub fn holds(s: &[u8], n: usize, p: usize, index: LogIndex, kind: u64, src: &[u8]) -> bool
     requires { ⌜ (p ≤ 256) × (8 * (n * (2 + wordsFor p)) ≤ length (now s)) ⌝ }
-    ensures { λ r. ⌜ Gives (places p) n (now (s .entry)) r (holdsAt (index .0) noop) ⌝ }
-{
-    match entry(s, n, p, index) {
-        Place::None => false,
-        Place::Noop { term: _ } => true,
-        Place::Command { term: _, length: _ } => false,
-    }
-}
-
-// Whether a command of the bytes of src is at an index.
-pub fn holds_command(s: &[u8], n: usize, p: usize, index: LogIndex, src: &[u8]) -> bool
-    requires { ⌜ (p ≤ 256) × (8 * (n * (2 + wordsFor p)) ≤ length (now s)) × (length (now src) ≤ p) ⌝ }
-    ensures { λ r. ⌜ Gives (places p) n (now (s .entry)) r (holdsAt (index .0) (command (now (src .entry)))) ⌝ }
+    requires { ⌜ (kind ≤ 1) × (length (now src) ≤ 256 * kind) × (length (now src) ≤ p) ⌝ }
+    ensures { λ r. ⌜ Gives (places p) n (now (s .entry)) r (holdsAt (index .0) (payloadOf kind (now (src .entry)))) ⌝ }
 {
     let w = 2 + (p + 7) / 8;
     let i = index.0 as usize;
@@ -277,7 +246,7 @@ pub fn holds_command(s: &[u8], n: usize, p: usize, index: LogIndex, src: &[u8]) 
     }
     let at = rows::start_of(i - 1, n, w);
     let k = src.len();
-    if words::load(s, at) != 2 + k as u64 {
+    if words::load(s, at) != 1 + kind + k as u64 {
         return false;
     }
     let from = 8 * (at + 1);

@@ -9,23 +9,23 @@ use borrow.Author.Tests.{lt-ltb}
 use Rattle.laws.specs.Bools.{true-and}
 use Rattle.metrics.specs.declared.Counts.{Counts}
 use Rattle.metrics.specs.declared.Metrics.{Metrics}
-use Rattle.metrics.specs.Metrics.{countsFit, metricsFit}
+use Rattle.metrics.specs.Metrics.{totalsFit, countersFit}
 use Rattle.metrics.specs.Laws.{every-owned}
 use Rattle.metrics.proofs.Counts as Counts′
 use Rattle.metrics.proofs.Metrics as Metrics′
 
-counts-typed : (c : Counts) (vs : List Val) → Is Counts′.the-row c vs → countsFit c ≡ true
-unfolding countsFit
+counts-typed : (c : Counts) (vs : List Val) → Is Counts′.the-row c vs → totalsFit c ≡ true
+unfolding totalsFit
 counts-typed c vs p =
     simp (lt-ltb (c .messages) (2 ^ 64) (p .1 .1 .0 .1), lt-ltb (c .bytes) (2 ^ 64) (p .1 .1 .1 .0 .1), lt-ltb (c .entries) (2 ^ 64) (p .1 .1 .1 .1 .0 .1), true-and)
 
-pub metrics-typed : (m : Metrics) (vs : List Val) → Is Metrics′.the-row m vs → metricsFit m ≡ true
-unfolding metricsFit
+pub metrics-typed : (m : Metrics) (vs : List Val) → Is Metrics′.the-row m vs → countersFit m ≡ true
+unfolding countersFit
 metrics-typed m vs p =
     let q = p .1 .1 .1 .1 in
     simp (
       counts-typed (m .sent) (p .0 .0) (p .1 .1 .0),
-      every-owned (Counts′.the-field .row) (Counts′.the-field .into) countsFit counts-typed (m .«by_sender») (p .1 .1 .1 .0 .0) (p .1 .1 .1 .0 .1 .1),
+      every-owned (Counts′.the-field .row) (Counts′.the-field .into) totalsFit counts-typed (m .«by_sender») (p .1 .1 .1 .0 .0) (p .1 .1 .1 .0 .1 .1),
       lt-ltb (m .«entries_to_leaders») (2 ^ 64) (q .0 .1),
       lt-ltb (m .fsyncs) (2 ^ 64) (q .1 .0 .1),
       lt-ltb (m .«storage_bytes») (2 ^ 64) (q .1 .1 .0 .1),

@@ -1,8 +1,8 @@
 -- Measurements (metrics.rs), over numbers without limit. Assumes nothing.
 use mathlib.Core.Bool.{Bool, true, false}
 use Prim.Native.Nat.{ℕ, _+_, _-_, _^_}
-use lib.Dec.{ltb}
-use lib.ListN.{getD, replicate}
+use lib.Dec.{ltb, eqb}
+use lib.ListN.{length, getD, drop, replicate}
 use Rattle.laws.specs.Bools.{pick, every, _and_}
 use Rattle.laws.specs.Lists.{modify}
 use Rattle.units.specs.declared.NodeId.{NodeId}
@@ -76,23 +76,31 @@ recordReply m =
     }
 
 -- Whether a server's or the cluster's totals fit 64 bits.
-unfoldable pub countsFit : Counts → Bool
-countsFit c = ltb (c .messages) (2 ^ 64) and ltb (c .bytes) (2 ^ 64) and ltb (c .entries) (2 ^ 64)
+unfoldable pub totalsFit : Counts → Bool
+totalsFit c = ltb (c .messages) (2 ^ 64) and ltb (c .bytes) (2 ^ 64) and ltb (c .entries) (2 ^ 64)
 
 -- Whether every counter fits 64 bits.
-unfoldable pub metricsFit : Metrics → Bool
-metricsFit m =
-    countsFit (m .sent)
-    and every countsFit (m .«by_sender»)
+unfoldable pub countersFit : Metrics → Bool
+countersFit m =
+    totalsFit (m .sent)
+    and every totalsFit (m .«by_sender»)
     and ltb (m .«entries_to_leaders») (2 ^ 64)
     and ltb (m .fsyncs) (2 ^ 64)
     and ltb (m .«storage_bytes») (2 ^ 64)
     and ltb (m .«client_replies») (2 ^ 64)
 
+-- Whether nothing is counted in some totals.
+unfoldable pub noneCounted : Counts → Bool
+noneCounted c = eqb (c .messages) 0 and eqb (c .bytes) 0 and eqb (c .entries) 0
+
+-- Whether the metrics are in range in a cluster of S servers: eight senders, nothing counted for those beyond S, and counters of 64 bits.
+unfoldable pub metricsFit : ℕ → Metrics → Bool
+metricsFit S m = eqb (length (m .«by_sender»)) 8 and every noneCounted (drop S (m .«by_sender»)) and countersFit m
+
 -- What counting answers: the next metrics if every counter fits, else those before.
 unfoldable pub counted : Metrics → Metrics → Counted
-counted m next = pick (metricsFit next) (record { fits = true; metrics = next }) (record { fits = false; metrics = m })
+counted m next = pick (countersFit next) (record { fits = true; metrics = next }) (record { fits = false; metrics = m })
 
 -- Document 01's number for what counting answers: 0 where every counter fits, else question 10's.
-abbrev pub number : Counted → ℕ
-number c = pick (c .fits) 0 10
+unfoldable pub countedNumber : Counted → ℕ
+countedNumber c = pick (c .fits) 0 10

@@ -3,7 +3,8 @@ ghost use mathlib.Core.Path.{_≡_};
 ghost use mathlib.Core.Bool.{true};
 ghost use Prim.Native.Nat.{_+_, _^_, _≤_};
 ghost use lib.Dec.{ltb};
-ghost use Rattle.metrics.specs.Metrics.{noMetrics, add, countsFit, recordSend, sentBy, deliverToLeader, recordSync, recordReply, counted};
+ghost use Rattle.laws.specs.Bools.{pick};
+ghost use Rattle.metrics.specs.Metrics.{noMetrics, add, totalsFit, recordSend, sentBy, deliverToLeader, recordSync, recordReply, counted, countersFit, countedNumber};
 use units::NodeId;
 
 // Message totals.
@@ -46,14 +47,14 @@ fn sum_fits(a: u64, b: u64) -> bool
 impl Counts {
     // Whether one message more fits 64 bits.
     fn has_room(self, bytes: u64, entries: u64) -> bool
-        ensures { λ r. ⌜ r ≡ countsFit (add bytes entries self) ⌝ }
+        ensures { λ r. ⌜ r ≡ totalsFit (add bytes entries self) ⌝ }
     {
         sum_fits(self.messages, 1) & sum_fits(self.bytes, bytes) & sum_fits(self.entries, entries)
     }
 
     // One message more.
     fn add(self, bytes: u64, entries: u64) -> Counts
-        requires { ⌜ countsFit (add bytes entries self) ≡ true ⌝ }
+        requires { ⌜ totalsFit (add bytes entries self) ≡ true ⌝ }
         ensures { λ r. ⌜ r ≡ add bytes entries self ⌝ }
     {
         Counts {
@@ -88,6 +89,7 @@ impl Metrics {
     pub fn record_send(self, from: NodeId, bytes: u64, entries: u64) -> Counted
         requires { ⌜ (1 ≤ from .0) × (from .0 ≤ 8) ⌝ }
         ensures { λ r. ⌜ r ≡ counted self (recordSend self from bytes entries) ⌝ }
+        ensures { λ r. ⌜ countedNumber r ≡ pick (countersFit (recordSend self from bytes entries)) 0 10 ⌝ }
     {
         let at = (from.0 - 1) as usize;
         let sent = self.sent;
@@ -120,6 +122,7 @@ impl Metrics {
     // Entries delivered to a candidate or leader.
     pub fn deliver_to_leader(self, entries: u64) -> Counted
         ensures { λ r. ⌜ r ≡ counted self (deliverToLeader self entries) ⌝ }
+        ensures { λ r. ⌜ countedNumber r ≡ pick (countersFit (deliverToLeader self entries)) 0 10 ⌝ }
     {
         if sum_fits(self.entries_to_leaders, entries) {
             let mut next = self;
@@ -139,6 +142,7 @@ impl Metrics {
     // A sync that wrote so many bytes.
     pub fn record_sync(self, bytes: u64) -> Counted
         ensures { λ r. ⌜ r ≡ counted self (recordSync self bytes) ⌝ }
+        ensures { λ r. ⌜ countedNumber r ≡ pick (countersFit (recordSync self bytes)) 0 10 ⌝ }
     {
         if sum_fits(self.fsyncs, 1) & sum_fits(self.storage_bytes, bytes) {
             let mut next = self;
@@ -159,6 +163,7 @@ impl Metrics {
     // A command acknowledged to its client.
     pub fn record_reply(self) -> Counted
         ensures { λ r. ⌜ r ≡ counted self (recordReply self) ⌝ }
+        ensures { λ r. ⌜ countedNumber r ≡ pick (countersFit (recordReply self)) 0 10 ⌝ }
     {
         if sum_fits(self.client_replies, 1) {
             let mut next = self;

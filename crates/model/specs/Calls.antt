@@ -7,7 +7,7 @@ use Prim.Native.Nat.{ℕ, suc, _+_, _-_, _*_, _^_, max}
 use lib.Dec.{leb, ltb, eqb}
 use lib.ListN.{length, getD}
 use Rattle.laws.specs.Bools.{pick, every, _and_}
-use Rattle.units.specs.Types.{Payload, noop, command}
+use Rattle.units.specs.Types.{payloadOf}
 use Rattle.units.specs.declared.NodeId.{NodeId}
 use Rattle.units.specs.declared.NodeOption.{NodeOption}
 use Rattle.units.specs.declared.NodeOption.the-variants.{None, Some}
@@ -22,15 +22,17 @@ use Rattle.protocol.specs.declared.Role.{Role}
 use Rattle.protocol.specs.declared.Role.the-variants.{Follower, Candidate, Leader}
 use Rattle.protocol.specs.declared.RequestId.{RequestId}
 use Rattle.protocol.specs.declared.Status.{Status}
+use Rattle.faults.specs.Fault as faults
 use Rattle.faults.specs.declared.Fault.{Fault}
-use Rattle.faults.specs.declared.Fault.the-variants.{Crash, CrashDuringNextInput, Restart, CrashLeader, Partition, Block, Unblock, HealLinks, SetLoss, SetDuplication, SetDelayFactor, HealAll}
+use Rattle.faults.specs.declared.FaultOption.{FaultOption}
+use Rattle.faults.specs.declared.FaultOption.the-variants as Given
 use Rattle.config.specs.declared.SimConfig.{SimConfig}
 use Rattle.config.specs.declared.Limits.{Limits}
-use Rattle.config.specs.Limits.{judge, number}
+use Rattle.config.specs.Limits.{judge, judgedNumber}
 use Rattle.storage.specs.Storage.{Write, writeHardState, writePut, writeTruncate, unsynced}
 use Rattle.queue.specs.Queue.{Popped, empty, taken, pop}
 use Rattle.checks.specs.Checks.{ServerLog, AppliedUpTo, checkLogMatching, checkDurability}
-use Rattle.durability.specs.Acknowledged.{acknowledgedFrom}
+use Rattle.checks_durability.specs.Acknowledged.{acknowledgedFrom}
 use Rattle.model.specs.State.{State, Server, direct, Input, startInput, messageInput, timerInput, proposeInput, confirmInput, Verdict, accepted, notLeader, Owed, nothing, Phase, closed, writing, sending, serverAt, idOf, slotOf}
 use Rattle.model.specs.Fields.{withNow, withQueue, withChecker, withDirectSeq, withEvents, withPhase}
 use Rattle.model.specs.Simulation.{Opening, noInput, openProposal, openConfirmation, running, openedTimer, scheduleFault, process, begin, writeAt, cutInput, syncInput, send, setTimer, cancelTimer, apply, confirm, endInput}
@@ -62,17 +64,13 @@ timerOf kind = getD (Election ∷ Heartbeat ∷ []) kind Election
 abbrev pub roleOf : ℕ → Role
 roleOf kind = getD (Follower ∷ Candidate ∷ Leader ∷ []) kind Follower
 
--- A payload from its kind and the lent bytes: 0 is a noop, 1 a command.
-abbrev pub payloadOf : ℕ → List ℕ → Payload
-payloadOf kind bytes = pick (eqb kind 0) noop (command bytes)
-
 -- Whether kind and bytes make a payload within the limit; a noop has no bytes.
 abbrev pub isPayload : State → ℕ → List ℕ → Bool
 isPayload s kind bytes = isFlag kind and leb (length bytes) (pick (eqb kind 0) 0 (s .limits .payload))
 
 -- Whether a server is in the cluster.
 abbrev pub inCluster : State → ℕ → Bool
-inCluster s id = leb 1 id and leb id (length (s .servers))
+inCluster s id = faults.inCluster (length (s .servers)) (record { 0 = id })
 
 -- ---- phases
 
@@ -109,7 +107,7 @@ output phase f = whileSending phase (λ slot input verdict owed. ask (isAccepted
 unfoldable pub start : SimConfig → Limits → ℕ → Out Opening
 start config limits seed =
     let moved = begin config limits seed in
-    ask (eqb (number (judge config limits)) 0) (number (judge config limits)) (done (moved .opening) (moved .state))
+    ask (eqb (judgedNumber (judge config limits)) 0) (judgedNumber (judge config limits)) (done (moved .opening) (moved .state))
 
 -- ---- step and the direct calls
 
@@ -176,37 +174,36 @@ unfoldable pub groupsWord : List ℕ → ℕ
 groupsWord [] = 0
 groupsWord (g ∷ gs) = g + 256 * groupsWord gs
 
--- The fault of a kind's number, with two numbers and the groups: what a kind does not use is not looked at.
-unfoldable pub faultOf : ℕ → ℕ → ℕ → List ℕ → Fault
-faultOf kind a b groups =
-    let first : NodeId = record { 0 = a } in
-    let second : NodeId = record { 0 = b } in
-    getD
-    (Crash first ∷ CrashDuringNextInput first ∷ Restart first ∷ CrashLeader (record { 0 = a }) ∷ Partition (groupsWord groups) ∷ Block first second ∷ Unblock first second ∷ HealLinks ∷ SetLoss a ∷ SetDuplication a ∷ SetDelayFactor a ∷ HealAll ∷ [])
-    kind
-    HealAll
+-- The fault of a kind's number, two numbers and groups, as `faults` reads it; a number that the kind does not use is not looked at.
+unfoldable pub faultGiven : ℕ → ℕ → ℕ → List ℕ → FaultOption
+faultGiven kind a b groups =
+    faults.faultOf kind
+    (getD (a ∷ a ∷ a ∷ a ∷ groupsWord groups ∷ a ∷ a ∷ 0 ∷ a ∷ a ∷ a ∷ []) kind 0)
+    (getD (0 ∷ 0 ∷ 0 ∷ 0 ∷ 0 ∷ b ∷ b ∷ []) kind 0)
 
--- Whether every target and every group member of a kind is in the cluster.
-unfoldable pub targetsKnown : State → ℕ → ℕ → ℕ → List ℕ → Bool
-targetsKnown s kind a b groups =
-    let one = inCluster s a in
-    let both = inCluster s a and inCluster s b in
-    let members = every (λ g. ltb g (2 ^ length (s .servers))) groups in
-    getD (one ∷ one ∷ one ∷ true ∷ members ∷ both ∷ both ∷ []) kind true
+-- Whether every target is in the cluster; numbers that are no fault's name none.
+abbrev pub targetsKnown : State → FaultOption → Bool
+targetsKnown s Given.None = true
+targetsKnown s (Given.Some fault) = faults.targetsKnown (length (s .servers)) fault
 
--- Whether a kind's numbers are within limits: a downtime, at most 8 groups, rates of 32 bits, a factor.
-unfoldable pub numbersInRange : ℕ → ℕ → List ℕ → Bool
-numbersInRange kind a groups =
-    let rate = ltb a (2 ^ 32) in
-    leb kind 11
-    and getD (true ∷ true ∷ true ∷ leb a (2 ^ 40) ∷ leb (length groups) 8 ∷ true ∷ true ∷ true ∷ rate ∷ rate ∷ leb a 65_536 ∷ []) kind true
+-- Whether every member of every group is in the cluster, however many groups there are.
+abbrev pub membersKnown : State → List ℕ → Bool
+membersKnown s groups = every (λ g. ltb g (2 ^ length (s .servers))) groups
 
--- A fault scheduled (schedule).
+-- A fault with its numbers within limits, and what is done with it; all else is question 9's.
+abbrev pub withFault : {A : Type 0} → FaultOption → (Fault → Out A) → Out A
+withFault Given.None f = refused 9
+withFault (Given.Some fault) f = ask (faults.withinLimits fault) 9 (f fault)
+
+-- A fault scheduled (schedule): kind 4 is a partition, with at most 8 groups.
 unfoldable pub schedule : SimTime → ℕ → ℕ → ℕ → List ℕ → State → Out (Unit {0})
 schedule time kind a b groups s =
+    let partitions = eqb kind 4 in
+    let fault = faultGiven kind a b groups in
     ask (isClosed (s .phase)) 6
-    (ask (targetsKnown s kind a b groups) 7
-    (ask (leb (time .0) (2 ^ 62) and numbersInRange kind a groups) 9 (done tt (scheduleFault s time (faultOf kind a b groups)))))
+    (ask (pick partitions (membersKnown s groups) (targetsKnown s fault)) 7
+    (ask (leb (time .0) (2 ^ 62) and pick partitions (leb (length groups) 8) true) 9
+    (withFault fault (λ f. done tt (scheduleFault s time f)))))
 
 -- ---- writes and the seal
 

@@ -13,7 +13,7 @@ use Rattle.metrics.specs.declared.Metrics.{Metrics}
 use Rattle.storage.specs.Storage.{Storage}
 use Rattle.queue.specs.Queue.{Queue}
 use Rattle.checks.specs.Checks.{Checker}
-use Rattle.durability.specs.declared.replies.Reply.{Reply}
+use Rattle.checks_durability.specs.declared.replies.Reply.{Reply}
 use Rattle.model.specs.State.{State, Server, Client, Outstanding, Confirmation, Phase}
 
 -- ---- the state

@@ -5,3 +5,5 @@ pub mod Calls
 pub mod Reads
 pub mod Fits
 pub mod Slips
+pub mod FitsLaws
+pub mod CallLaws

@@ -1,8 +1,8 @@
 -- The calls that only read (document 01): what each answers of the state. A read belongs to every phase and leaves the state as it is. Assumes nothing.
 use mathlib.Core.List.{List, [], _∷_}
 use mathlib.Core.Option.{Option, none}
-use Prim.Native.Nat.{ℕ, zero, suc, _+_, _-_}
-use lib.Dec.{leb}
+use Prim.Native.Nat.{ℕ, zero, suc, _+_, _-_, _^_}
+use lib.Dec.{leb, ltb}
 use lib.ListN.{length}
 use Rattle.laws.specs.Lists.{at}
 use Rattle.units.specs.Types.{Payload, Entry}
@@ -15,7 +15,7 @@ use Rattle.log.specs.Log.{count, lastIndex, gaps, entryAt}
 use Rattle.storage.specs.declared.HardState.{HardState}
 use Rattle.checks.specs.Checks.{Violation}
 use Rattle.leader.specs.declared.LeaderOption.{LeaderOption}
-use Rattle.durability.specs.declared.replies.Reply.{Reply}
+use Rattle.checks_durability.specs.declared.replies.Reply.{Reply}
 use Rattle.model.specs.State.{State, Server, Confirmation, Phase, serverAt}
 use Rattle.model.specs.Simulation.{leaderOf}
 use Rattle.model.specs.Calls.{Out, done, ask, inCluster}
@@ -106,10 +106,11 @@ pub record RunRead : Type 0 where
   pub queued : ℕ
   pub phase : Phase
 
--- The run as a whole.
+-- The run as a whole; 10 where the discarded entries of all servers together pass 64 bits.
 unfoldable pub readRun : State → Out RunRead
 readRun s =
-    done
+    ask (ltb (discardedBy (s .servers)) (2 ^ 64)) 10
+    (done
     (record {
       now = s .now;
       events = s .events;
@@ -122,4 +123,4 @@ readRun s =
       queued = length (s .queue);
       phase = s .phase;
     })
-    s
+    s)

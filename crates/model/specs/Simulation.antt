@@ -52,7 +52,7 @@ use Rattle.leader.specs.Leader.{leader}
 use Rattle.leader.specs.declared.Reported.{Reported}
 use Rattle.leader.specs.declared.LeaderOption.{LeaderOption}
 use Rattle.leader.specs.declared.LeaderOption.the-variants as led
-use Rattle.durability.specs.declared.replies.Reply.{Reply}
+use Rattle.checks_durability.specs.declared.replies.Reply.{Reply}
 use Rattle.model.specs.State.{State, Server, newServer, Client, Outstanding, direct, fromClient, Input, startInput, messageInput, timerInput, proposeInput, confirmInput, Verdict, accepted, notLeader, Owed, nothing, construction, healing, closed, writing, sending, serverAt, clientAt, idOf, slotOf}
 use Rattle.model.specs.Fields.{withQueue, withServers, withNetwork, withClients, withWorkload, withMetrics, withChecker, withReplies, withConfirmations, withMaxLogGaps, withPhase, withStatus, withStorage, withIncarnation, withElection, withHeartbeat, withCrashOnNextInput, withNextApply, withPending, withLeading, withTarget, withAttempt, withOutstanding}
 

@@ -20,7 +20,9 @@ use Rattle.metrics.specs.declared.Metrics.{Metrics}
 use Rattle.storage.specs.Storage.{Storage, emptyStorage}
 use Rattle.queue.specs.Queue.{Queue}
 use Rattle.checks.specs.Checks.{Checker}
-use Rattle.durability.specs.declared.replies.Reply.{Reply}
+use Rattle.checks_durability.specs.declared.replies.Reply.{Reply}
+pub use Rattle.clients.specs.Clients.{Outstanding, Client}
+pub use Rattle.clients.specs.Confirmations.{Confirmation}
 
 -- ---- servers
 
@@ -57,27 +59,6 @@ newServer indexes =
       pending = [];
       leading = none;
     }
-
--- ---- clients
-
--- A command that a client waits for (Outstanding).
-pub record Outstanding : Type 0 where
-  pub seq : ℕ
-  pub firstSent : SimTime
-
--- A client that sends one command after the other (Client).
-pub record Client : Type 0 where
-  -- the place of the server it sends to next
-  pub target : ℕ
-  pub nextSeq : ℕ
-  -- rises with every send, so that old timeouts and redirects are ignored
-  pub attempt : ℕ
-  pub outstanding : Option Outstanding
-
--- The answer to a request to confirm leadership (Confirmation): the read index, or that the server stopped leading.
-pub record Confirmation : Type 0 where
-  pub request : RequestId
-  pub readIndex : Option LogIndex
 
 -- ---- the open input
 

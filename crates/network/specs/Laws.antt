@@ -23,7 +23,7 @@ use Rattle.network.specs.declared.Route.the-variants.{Dropped, Delivered
 use Rattle.network.specs.declared.Routed.{Routed}
 use Rattle.network.specs.declared.Delayed.{Delayed}
 use Rattle.network.specs.declared.Chance.{Chance}
-use Rattle.network.specs.Network.{delay, chance, route, delivered, some, separated, partition, setDelayFactor, withRng, withBlocked, Limits, Bounds, healLinks, healAll, withRates, link, ppm}
+use Rattle.network.specs.Network.{delay, chance, route, delivered, anyFrom, separated, partition, setDelayFactor, withRng, withBlocked, DelaysFit, Bounds, healLinks, healAll, withRates, link, ppm}
 
 -- A delay's product fits.
 pub scaled-below : (sample factor : ℕ) → sample ≤ 3 * 2 ^ 39 → factor ≤ 65_536 → sample * factor < 2 ^ 57
@@ -32,25 +32,25 @@ scaled-below sample factor h k = omega (arith, mul-le-mul h k)
 -- A search among eight groups for one that passes two tests: what is left of it decides the answer.
 pub record Looking (answer : Bool) (f g : ℕ → Bool) (i : ℕ) : Type 0 where
   pub upto : i ≤ 8
-  pub rest : answer ≡ some i (8 - i) (λ k. f k && g k)
+  pub rest : answer ≡ anyFrom i (8 - i) (λ k. f k && g k)
 
 module _ (f g : ℕ → Bool) where
-  pub looking-start : Looking (some 0 8 (λ k. f k && g k)) f g 0
+  pub looking-start : Looking (anyFrom 0 8 (λ k. f k && g k)) f g 0
   looking-start = record { upto = omega arith; rest = refl }
 
-  some-here : (i : ℕ) → i < 8 → some i (8 - i) (λ k. f k && g k) ≡ ((f i && g i) || some (i + 1) (8 - (i + 1)) (λ k. f k && g k))
-  unfolding some
-  some-here i h = let e : 8 - i ≡ suc (8 - (i + 1)) = omega arith in rw e (rw (add-one i) refl)
+  anyFrom-here : (i : ℕ) → i < 8 → anyFrom i (8 - i) (λ k. f k && g k) ≡ ((f i && g i) || anyFrom (i + 1) (8 - (i + 1)) (λ k. f k && g k))
+  unfolding anyFrom
+  anyFrom-here i h = let e : 8 - i ≡ suc (8 - (i + 1)) = omega arith in rw e (rw (add-one i) refl)
 
   module _ (answer : Bool) (i : ℕ) (l : Looking answer f g i) where
     pub looking-next : (x y : Bool) → i < 8 → x ≡ f i → y ≡ g i → (x && y) ≡ false → Looking answer f g (i + 1)
-    looking-next x y h e e′ t = record { upto = omega arith; rest = l .rest ∙ some-here i h ∙ (rw (← e, ← e′, t) refl) }
+    looking-next x y h e e′ t = record { upto = omega arith; rest = l .rest ∙ anyFrom-here i h ∙ (rw (← e, ← e′, t) refl) }
 
     pub looking-found : (x y : Bool) → i < 8 → x ≡ f i → y ≡ g i → (x && y) ≡ true → true ≡ answer
-    looking-found x y h e e′ t = sym (l .rest ∙ some-here i h ∙ (rw (← e, ← e′, t) refl))
+    looking-found x y h e e′ t = sym (l .rest ∙ anyFrom-here i h ∙ (rw (← e, ← e′, t) refl))
 
     pub looking-none : 8 ≤ i → false ≡ answer
-    unfolding some
+    unfolding anyFrom
     looking-none h = let e : 8 - i ≡ 0 = omega arith in sym (l .rest ∙ rw e)
 
 -- A list by place, one place more.
@@ -112,11 +112,11 @@ module _ (n : Network) where
   unfolding delay
   delay-is d v e h = rw (h, e)
 
-  pub delay-limits : Limits n → Limits (delay n .network)
+  pub delay-fits : DelaysFit n → DelaysFit (delay n .network)
   unfolding delay
-  delay-limits l = record { base = l .base; factor = l .factor }
+  delay-fits l = record { base = l .base; factor = l .factor }
 
-  pub delay-below : Limits n → delay n .delay .0 < 2 ^ 57
+  pub delay-below : DelaysFit n → delay n .delay .0 < 2 ^ 57
   unfolding delay
   delay-below l = let d = n .«base_delay» .0 in scaled-below _ _ (omega (arith, under-lt (n .rng) (d + 1) (omega arith), l .base)) (l .factor)
 
@@ -139,9 +139,9 @@ module _ (n : Network) (rate : ℕ) where
   unfolding chance
   chance-few = pick-both (λ (c : Chance). c .draws ≤ 1) (eqb rate 0) (omega arith) (omega arith)
 
-  pub chance-limits : Limits n → Limits (chance n rate .network)
+  pub chance-fits : DelaysFit n → DelaysFit (chance n rate .network)
   unfolding chance
-  chance-limits l = pick-both (λ (c : Chance). Limits (c .network)) (eqb rate 0) l (record { base = l .base; factor = l .factor })
+  chance-fits l = pick-both (λ (c : Chance). DelaysFit (c .network)) (eqb rate 0) l (record { base = l .base; factor = l .factor })
 
   pub chance-after : chance n rate .network .rng ≡ after (chance n rate .draws) (n .rng)
   unfolding chance
@@ -165,23 +165,23 @@ module _ (n : Network) (draws : ℕ) where
         let h′ = rw et′ at h in
         rw (et′, ef) (simp h′)
 
-  pub delivered-bounds : Limits n → draws ≤ 1 → Bounds (delivered n draws)
+  pub delivered-bounds : DelaysFit n → draws ≤ 1 → Bounds (delivered n draws)
   unfolding delivered
   delivered-bounds l h =
       let first = delay n in
       let twice = chance (first .network) (n .«duplicate_ppm») in
-      let l₁ = delay-limits n l in
-      let l₂ = chance-limits (first .network) (n .«duplicate_ppm») l₁ in
+      let l₁ = delay-fits n l in
+      let l₂ = chance-fits (first .network) (n .«duplicate_ppm») l₁ in
       let few = chance-few (first .network) (n .«duplicate_ppm») in
       let b₁ = lt-ltb _ _ (delay-below n l) in
       let b₂ = lt-ltb _ _ (delay-below (twice .network) l₂) in
       pick-both
       Bounds
       (twice .happens)
-      (record { few = omega arith; below = and-both _ _ b₁ b₂; limits = delay-limits (twice .network) l₂ })
-      (record { few = omega arith; below = b₁; limits = l₂ })
+      (record { few = omega arith; below = and-both _ _ b₁ b₂; delays = delay-fits (twice .network) l₂ })
+      (record { few = omega arith; below = b₁; delays = l₂ })
 
-  pub delivered-within : (r : Routed) → Limits n → draws ≤ 1 → r ≡ delivered n draws → Bounds r
+  pub delivered-within : (r : Routed) → DelaysFit n → draws ≤ 1 → r ≡ delivered n draws → Bounds r
   delivered-within r l h e = rw e (delivered-bounds l h)
 
   pub delivered-after : (g : Rng) → n .rng ≡ after draws g → delivered n draws .network .rng ≡ after (delivered n draws .draws) g
@@ -220,20 +220,20 @@ module _ (n : Network) (from to : NodeId) where
         let k′ = rw et at k in
         e ∙ rw et (simp (h′, k′))
 
-  pub route-bounds : Limits n → Bounds (route n from to)
+  pub route-bounds : DelaysFit n → Bounds (route n from to)
   unfolding route
   route-bounds l =
       let lost = chance n (n .«loss_ppm») in
       let few = chance-few n (n .«loss_ppm») in
-      let l₁ = chance-limits n (n .«loss_ppm») l in
+      let l₁ = chance-fits n (n .«loss_ppm») l in
       pick-both
       Bounds
       (getD (n .blocked) (link from to) false)
-      (record { few = omega arith; below = refl; limits = l })
+      (record { few = omega arith; below = refl; delays = l })
       (pick-both
       Bounds
       (lost .happens)
-      (record { few = omega arith; below = refl; limits = l₁ })
+      (record { few = omega arith; below = refl; delays = l₁ })
       (delivered-bounds (lost .network) (lost .draws) l₁ few))
 
   pub route-after : route n from to .network .rng ≡ after (route n from to .draws) (n .rng)

@@ -110,18 +110,18 @@ route n from to =
 abbrev pub inGroup : ℕ → ℕ → ℕ → Bool
 inGroup groups i s = eqb (groups / 2 ^ (8 * i + (s - 1)) % 2) 1
 
--- Whether some of n numbers from i on passes a test.
-unfoldable pub some : ℕ → ℕ → (ℕ → Bool) → Bool
-some i zero f = false
-some i (suc n) f = f i || some (suc i) n f
+-- Whether any of n numbers from i on passes a test.
+unfoldable pub anyFrom : ℕ → ℕ → (ℕ → Bool) → Bool
+anyFrom i zero f = false
+anyFrom i (suc n) f = f i || anyFrom (suc i) n f
 
 -- Whether server s is in a group other than group i.
 unfoldable pub elsewhere : ℕ → ℕ → ℕ → Bool
-elsewhere groups i s = some 0 8 (λ j. not (eqb i j) && inGroup groups j s)
+elsewhere groups i s = anyFrom 0 8 (λ j. not (eqb i j) && inGroup groups j s)
 
 -- Whether servers a and b are in different groups of a partition; so is a server from itself, if it is in two.
 unfoldable pub separated : ℕ → ℕ → ℕ → Bool
-separated groups a b = some 0 8 (λ i. inGroup groups i a && elsewhere groups i b)
+separated groups a b = anyFrom 0 8 (λ i. inGroup groups i a && elsewhere groups i b)
 
 -- Every link between servers in different groups blocked, in both directions (partition).
 unfoldable pub partition : Network → ℕ → Network
@@ -155,14 +155,25 @@ setDelayFactor n factor = withRates n (n .«loss_ppm») (n .«duplicate_ppm») (
 abbrev pub healAll : Network → Network
 healAll n = withRates (healLinks n) 0 0 1
 
--- Whether every field is in its range: document 01's limits, and 64 links.
-unfoldable pub networkInRange : Network → Bool
-networkInRange n =
+-- Whether the link at a place has both ends in a cluster of S servers.
+unfoldable pub linkWithin : ℕ → ℕ → Bool
+linkWithin S k = ltb (k / 8) S and ltb (k % 8) S
+
+-- Whether each blocked link of a list, whose first stands at place k, has both ends in a cluster of S servers.
+unfoldable pub linksWithin : ℕ → ℕ → List Bool → Bool
+linksWithin S k [] = true
+linksWithin S k (b ∷ bs) = pick b (linkWithin S k) true and linksWithin S (suc k) bs
+
+-- Whether every field is in its range in a cluster of S servers: document 01's limits, 64 links, and none blocked beyond S.
+unfoldable pub networkInRange : ℕ → Network → Bool
+networkInRange S n =
     leb (n .«base_delay» .0) (2 ^ 40)
     and ltb (n .«loss_ppm») (2 ^ 32)
     and ltb (n .«duplicate_ppm») (2 ^ 32)
+    and leb 1 (n .«delay_factor»)
     and leb (n .«delay_factor») 65_536
     and eqb (length (n .blocked)) 64
+    and linksWithin S 0 (n .blocked)
 
 -- The number of ordered pairs of servers whose link is blocked.
 unfoldable pub countTrue : List Bool → ℕ
@@ -173,8 +184,8 @@ countTrue (b ∷ bs) = pick b 1 0 + countTrue bs
 abbrev pub blockedPairs : Network → ℕ
 blockedPairs n = countTrue (n .blocked)
 
--- The limits under which no delay overflows.
-pub record Limits (n : Network) : Type 0 where
+-- A base delay and a factor whose delays fit 64 bits.
+pub record DelaysFit (n : Network) : Type 0 where
   pub base : n .«base_delay» .0 ≤ 2 ^ 40
   pub factor : n .«delay_factor» ≤ 65_536
 
@@ -188,4 +199,4 @@ delaysBelow (Delivered d (After e)) = ltb (d .0) (2 ^ 57) and ltb (e .0) (2 ^ 57
 pub record Bounds (r : Routed) : Type 0 where
   pub few : r .draws ≤ 4
   pub below : delaysBelow (r .route) ≡ true
-  pub limits : Limits (r .network)
+  pub delays : DelaysFit (r .network)

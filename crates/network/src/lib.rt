@@ -1,7 +1,7 @@
 // The simulated network between servers (network.rs), without drop rules.
 ghost use mathlib.Core.Path.{_≡_};
 ghost use Prim.Native.Nat.{_+_, _-_, _*_, _^_, _≤_, _<_};
-ghost use Rattle.network.specs.Network.{new, delay, chance, link, route, delivered, inGroup, elsewhere, separated, partition, block, unblock, healLinks, setLoss, setDuplication, setDelayFactor, healAll, networkInRange, Limits, Bounds};
+ghost use Rattle.network.specs.Network.{new, delay, chance, link, route, delivered, inGroup, elsewhere, separated, partition, block, unblock, healLinks, setLoss, setDuplication, setDelayFactor, healAll, linkWithin, linksWithin, networkInRange, DelaysFit, Bounds};
 use rng::Rng;
 use units::Duration;
 use units::NodeId;
@@ -106,6 +106,27 @@ fn separated(groups: u64, a: u64, b: u64) -> bool
     false
 }
 
+// Whether the link at a place has both ends in the cluster.
+fn link_within(k: usize, servers: u64) -> bool
+    ensures { λ r. ⌜ r ≡ linkWithin servers k ⌝ }
+{
+    (((k / 8) as u64) < servers) & (((k % 8) as u64) < servers)
+}
+
+// Whether each blocked link has both ends in the cluster.
+pub fn links_within(links: [bool; 64], servers: u64) -> bool
+    ensures { λ r. ⌜ r ≡ linksWithin servers 0 links ⌝ }
+{
+    let mut k: usize = 0;
+    while k < 64 {
+        if links[k] & !link_within(k, servers) {
+            return false;
+        }
+        k += 1;
+    }
+    true
+}
+
 impl Network {
     // A network without faults.
     pub fn new(one_way_delay: Duration, g: Rng) -> Network
@@ -123,9 +144,9 @@ impl Network {
 
     // Draws one message delay.
     pub fn delay(self) -> Delayed
-        requires { ⌜ Limits self ⌝ }
+        requires { ⌜ DelaysFit self ⌝ }
         ensures { λ r. ⌜ r ≡ delay self ⌝ }
-        ensures { λ r. ⌜ (r .delay .0 < 2 ^ 57) × Limits (r .network) ⌝ }
+        ensures { λ r. ⌜ (r .delay .0 < 2 ^ 57) × DelaysFit (r .network) ⌝ }
     {
         let d = self.base_delay.0;
         let sample = rng::drawn_under(self.rng, d + 1);
@@ -141,7 +162,7 @@ impl Network {
 
     // Decides the fate of a message from one server to another.
     pub fn route(self, from: NodeId, to: NodeId) -> Routed
-        requires { ⌜ Limits self ⌝ }
+        requires { ⌜ DelaysFit self ⌝ }
         requires { ⌜ ((1 ≤ from .0) × (from .0 ≤ 8)) × ((1 ≤ to .0) × (to .0 ≤ 8)) ⌝ }
         ensures { λ r. ⌜ r ≡ route self from to ⌝ }
         ensures { λ r. ⌜ Bounds r ⌝ }
@@ -168,7 +189,7 @@ impl Network {
 
     // A delivered message after so many draws: its delay, and perhaps a second copy with its own.
     fn delivered(self, draws: u64) -> Routed
-        requires { ⌜ Limits self ⌝ }
+        requires { ⌜ DelaysFit self ⌝ }
         requires { ⌜ draws ≤ 1 ⌝ }
         ensures { λ r. ⌜ r ≡ delivered self draws ⌝ }
     {
@@ -250,9 +271,9 @@ impl Network {
 
     // Whether something of this probability, in parts per million, happens.
     fn chance(self, rate: u32) -> Chance
-        requires { ⌜ Limits self ⌝ }
+        requires { ⌜ DelaysFit self ⌝ }
         ensures { λ r. ⌜ r ≡ chance self rate ⌝ }
-        ensures { λ r. ⌜ (r .draws ≤ 1) × Limits (r .network) ⌝ }
+        ensures { λ r. ⌜ (r .draws ≤ 1) × DelaysFit (r .network) ⌝ }
     {
         if rate == 0 {
             return Chance {
@@ -311,10 +332,15 @@ impl Network {
         next
     }
 
-    // Whether every field is in its range.
-    pub fn in_range(self) -> bool
-        ensures { λ r. ⌜ r ≡ networkInRange self ⌝ }
+    // Whether every field is in its range in a cluster of so many servers.
+    pub fn in_range(self, servers: u64) -> bool
+        ensures { λ r. ⌜ r ≡ networkInRange servers self ⌝ }
     {
-        (self.base_delay.0 <= 1099511627776) & (self.delay_factor <= 65536)
+        let links = self.blocked;
+        let within = links_within(links, servers);
+        (self.base_delay.0 <= 1099511627776)
+            & (1 <= self.delay_factor)
+            & (self.delay_factor <= 65536)
+            & within
     }
 }

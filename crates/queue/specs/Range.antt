@@ -6,30 +6,26 @@ use lib.Dec.{leb, ltb, eqb}
 use lib.ListN.{length}
 use Rattle.laws.specs.Bools.{pick, _and_, every}
 use Rattle.laws.specs.Order.{numbers, sorted}
-use Rattle.units.specs.declared.NodeId.{NodeId}
-use Rattle.faults.specs.Fault.{faultInRange}
+use Rattle.faults.specs.Fault.{inCluster, faultInRange}
 use Rattle.queue.specs.declared.Event.{Event}
 use Rattle.queue.specs.declared.Event.the-variants as event
 use Rattle.queue.specs.declared.numbers.EventWords.{EventWords}
 use Rattle.queue.specs.Numbers.{wordsOf}
 use Rattle.queue.specs.Queue.{Scheduled, Queue, timeOf}
 
--- A number of 64 bits, and one byte.
+-- A number of 64 bits.
 abbrev pub word : ℕ → Bool
 word n = ltb n (2 ^ 64)
 
+-- A byte.
 abbrev pub byte : ℕ → Bool
 byte n = ltb n 256
-
--- A server's id in a cluster of S.
-abbrev pub idFits : ℕ → NodeId → Bool
-idFits S id = leb 1 (id .0) and leb (id .0) S
 
 module _ (S C L : ℕ) where
   -- Slots are below S, clients below C, ids 1 to S, entries of 32 bits, indexes at most L, and faults as `faults` says.
   abbrev pub inRange : Event → Bool
   inRange (event.Start slot) = ltb slot S
-  inRange (event.Deliver from to entries) = idFits S from and idFits S to and ltb entries (2 ^ 32)
+  inRange (event.Deliver from to entries) = inCluster S from and inCluster S to and ltb entries (2 ^ 32)
   inRange (event.Timer slot timer generation) = ltb slot S
   inRange (event.Fault fault) = faultInRange S fault
   inRange (event.ClientSend client) = ltb client C

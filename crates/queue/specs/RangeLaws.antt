@@ -8,15 +8,12 @@ use Rattle.laws.specs.Bools.{pick, _and_, code-and, and-assoc}
 use Rattle.units.specs.declared.NodeId.{NodeId}
 use Rattle.units.specs.declared.LogIndex.{LogIndex}
 use Rattle.faults.specs.declared.Fault.{Fault}
-use Rattle.faults.specs.Fault.{faultInRange}
+use Rattle.faults.specs.Fault.{inCluster, faultInRange}
 use Rattle.queue.specs.declared.Event.{Event}
 use Rattle.queue.specs.declared.Event.the-variants as event
 use Rattle.queue.specs.declared.numbers.EventWords.{EventWords}
 use Rattle.queue.specs.Numbers.{wordsOf}
-use Rattle.queue.specs.Range.{idFits, inRange, messageRoom}
-
-pub id-fits : (S : ℕ) (id : NodeId) → (leb 1 (id .0) && leb (id .0) S) ≡ idFits S id
-id-fits S id = code-and _ _
+use Rattle.queue.specs.Range.{inRange, messageRoom}
 
 -- ---- the arms of in_range
 
@@ -24,7 +21,7 @@ module _ (S C L : ℕ) (e : Event) where
   pub range-arm : (g : Event) (t : Bool) → e ≡ g → t ≡ inRange S C L g → t ≡ inRange S C L e
   range-arm g t p q = q ∙ ap (inRange S C L) (sym p)
 
-  pub range-deliver : (from to : NodeId) (entries : ℕ) (t u : Bool) → e ≡ event.Deliver from to entries → t ≡ idFits S from → u ≡ idFits S to → ((t && u) && ltb entries (2 ^ 32)) ≡ inRange S C L e
+  pub range-deliver : (from to : NodeId) (entries : ℕ) (t u : Bool) → e ≡ event.Deliver from to entries → t ≡ inCluster S from → u ≡ inCluster S to → ((t && u) && ltb entries (2 ^ 32)) ≡ inRange S C L e
   range-deliver from to entries t u p q r = range-arm (event.Deliver from to entries) _ p (code-and _ _ ∙ ap (λ (b : Bool). b and ltb entries (2 ^ 32)) (code-and t u) ∙ and-assoc t u _ ∙ rw (q, r))
 
   pub range-arrive : (slot client seq attempt : ℕ) → e ≡ event.ClientArrive slot client seq attempt → (ltb slot S && ltb client C) ≡ inRange S C L e

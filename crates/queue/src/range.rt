@@ -1,17 +1,9 @@
 // The ranges of a queued event, in a cluster of so many servers with so many clients and log indexes.
 ghost use mathlib.Core.Path.{_≡_};
 ghost use Prim.Native.Nat.{_≤_};
-ghost use Rattle.queue.specs.Range.{idFits, inRange, messageRoom};
+ghost use Rattle.queue.specs.Range.{inRange, messageRoom};
 use crate::Event;
 use crate::numbers;
-use units::NodeId;
-
-// Whether an id is that of a server.
-fn id_fits(servers: u64, id: NodeId) -> bool
-    ensures { λ r. ⌜ r ≡ idFits servers id ⌝ }
-{
-    (1 <= id.0) & (id.0 <= servers)
-}
 
 // Whether an event is in range.
 pub fn in_range(servers: u64, clients: u64, indexes: u64, e: Event) -> bool
@@ -20,8 +12,8 @@ pub fn in_range(servers: u64, clients: u64, indexes: u64, e: Event) -> bool
 {
     match e {
         Event::Start { slot } => slot < servers,
-        Event::Deliver { from, to, entries } => id_fits(servers, from)
-            & id_fits(servers, to)
+        Event::Deliver { from, to, entries } => faults::in_cluster(servers, from)
+            & faults::in_cluster(servers, to)
             & (entries < 4294967296),
         Event::Timer {
             slot,

@@ -1,5 +1,5 @@
-// disk.bin: operations on one disk, each with what it leaves. The disk is two logs of 16 places, 384 bytes each, and up to 16 waiting writes, 512
-// bytes; a command has 8 bytes.
+// disk.bin: operations on one disk, each with what it leaves. The disk is two logs of 16 places, 384 bytes each, and 16 rows of waiting writes, 512
+// bytes: 1,280 bytes; a command has 8 bytes.
 ghost use mathlib.Core.Path.{_≡_};
 ghost use Prim.Native.Nat.{_≤_};
 ghost use lib.ListN.{length};
@@ -70,14 +70,13 @@ fn written(v: StorageState, answer: Written) -> Operated {
 // A put: of a noop where `kind` is 0, else of a command.
 fn put(
     v: StorageState,
-    current: &mut [u8],
-    waiting: &mut [u8],
+    disk: &mut [u8],
     index: u64,
     term: u64,
     kind: u64,
     command: &[u8],
 ) -> Operated
-    requires { ⌜ (length (now current) ≡ 384) × (length (now waiting) ≡ 512) × (length (now command) ≤ 8) ⌝ }
+    requires { ⌜ (length (now disk) ≡ 1280) × (length (now command) ≤ 8) ⌝ }
 {
     if index < 1 {
         return refused(v);
@@ -87,22 +86,22 @@ fn put(
     }
     let at = LogIndex(index);
     if kind == 0 {
-        let answer = write::put_noop(v, current, waiting, 16, 16, 8, at, Term(term));
+        let answer = write::put(v, disk, 16, 16, 8, at, Term(term), 0, b"");
         written(v, answer)
     } else {
-        let answer = write::put_command(v, current, waiting, 16, 16, 8, at, Term(term), command);
+        let answer = write::put(v, disk, 16, 16, 8, at, Term(term), 1, command);
         written(v, answer)
     }
 }
 
 // A sync.
-fn synced(v: StorageState, durable: &mut [u8], waiting: &mut [u8]) -> Operated
-    requires { ⌜ (length (now durable) ≡ 384) × (length (now waiting) ≡ 512) ⌝ }
+fn synced(v: StorageState, disk: &mut [u8]) -> Operated
+    requires { ⌜ length (now disk) ≡ 1280 ⌝ }
 {
     if 16 < v.waiting {
         return refused(v);
     }
-    let r = storage::sync(v, durable, waiting, 16, 8);
+    let r = storage::sync(v, disk, 16, 16, 8);
     let state = r.state;
     Operated {
         state,
@@ -112,15 +111,19 @@ fn synced(v: StorageState, durable: &mut [u8], waiting: &mut [u8]) -> Operated
     }
 }
 
+// A crash.
+fn crashed(v: StorageState, disk: &mut [u8]) -> Operated
+    requires { ⌜ length (now disk) ≡ 1280 ⌝ }
+{
+    if 16 < v.waiting {
+        return refused(v);
+    }
+    made(storage::crash(v, disk, 16, 16, 8))
+}
+
 // A row's operation: its kind and four numbers.
-fn operate(
-    v: StorageState,
-    current: &mut [u8],
-    durable: &mut [u8],
-    waiting: &mut [u8],
-    row: &[u8],
-) -> Operated
-    requires { ⌜ (length (now current) ≡ 384) × (length (now durable) ≡ 384) × (length (now waiting) ≡ 512) × (length (now row) ≡ 112) ⌝ }
+fn operate(v: StorageState, disk: &mut [u8], row: &[u8]) -> Operated
+    requires { ⌜ (length (now disk) ≡ 1280) × (length (now row) ≡ 112) ⌝ }
 {
     let first = words::load(row, 1);
     let second = words::load(row, 2);
@@ -128,15 +131,12 @@ fn operate(
     match words::load(row, 0) {
         0 => {
             let state = hard_state(first, second, third);
-            written(v, write::set_hard_state(v, waiting, 16, 8, state))
+            written(v, write::set_hard_state(v, disk, 16, 16, 8, state))
         }
-        1 => put(v, current, waiting, first, second, third, &row[32..40]),
-        2 => {
-            let from = LogIndex(first);
-            written(v, write::truncate(v, current, waiting, 16, 16, 8, from))
-        }
-        3 => synced(v, durable, waiting),
-        4 => made(storage::crash(v, current, durable, waiting)),
+        1 => put(v, disk, first, second, third, &row[32..40]),
+        2 => written(v, write::truncate(v, disk, 16, 16, 8, LogIndex(first))),
+        3 => synced(v, disk),
+        4 => crashed(v, disk),
         _ => refused(v),
     }
 }
@@ -197,33 +197,27 @@ struct Replayed {
 }
 
 // A row of disk.bin: an operation, and what it leaves.
-fn disk_row(
-    v: StorageState,
-    current: &mut [u8],
-    durable: &mut [u8],
-    waiting: &mut [u8],
-    row: &[u8],
-) -> Replayed
-    requires { ⌜ (length (now current) ≡ 384) × (length (now durable) ≡ 384) × (length (now waiting) ≡ 512) × (length (now row) ≡ 112) ⌝ }
+fn disk_row(v: StorageState, disk: &mut [u8], row: &[u8]) -> Replayed
+    requires { ⌜ (length (now disk) ≡ 1280) × (length (now row) ≡ 112) ⌝ }
 {
-    let after = operate(v, current, durable, waiting, row);
+    let after = operate(v, disk, row);
     let state = after.state;
     Replayed {
         state,
-        agrees: told(after, current, row),
+        agrees: told(after, &disk[0..384], row),
     }
 }
 
 // Compares the rows of disk.bin, each with the disk that those before it left.
-pub fn compared(s: &[u8], current: &mut [u8], durable: &mut [u8], waiting: &mut [u8]) -> Tally
-    requires { ⌜ (length (now current) ≡ 384) × (length (now durable) ≡ 384) × (length (now waiting) ≡ 512) ⌝ }
+pub fn compared(s: &[u8], disk: &mut [u8]) -> Tally
+    requires { ⌜ length (now disk) ≡ 1280 ⌝ }
 {
     let mut v = empty();
     let mut tally = crate::none();
     let mut at: usize = 0;
     while 112 <= s.len() - at {
         let end = at + 112;
-        let row = disk_row(v, current, durable, waiting, &s[at..end]);
+        let row = disk_row(v, disk, &s[at..end]);
         v = row.state;
         tally = crate::tallied(tally, row.agrees);
         at = end;

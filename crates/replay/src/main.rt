@@ -1,7 +1,7 @@
 // Replays recorded answers of the Rust's modules (data/, made by host/record): each row is computed again and compared. One line a file.
 ghost use Prim.Native.Nat.{_+_, _^_, _≤_, _<_};
 ghost use Rattle.io.specs.Counts.{Counts};
-ghost use Rattle.network.specs.Network.{Limits};
+ghost use Rattle.network.specs.Network.{DelaysFit};
 ghost use Rattle.record.specs.Postcard.{commandLength};
 
 mod links; // operations on a network's links
@@ -273,7 +273,7 @@ fn conditions(
     state: u64,
 ) -> Network
     requires { ⌜ (delay ≤ 2 ^ 40) × (factor ≤ 65536) ⌝ }
-    ensures { λ r. ⌜ Limits r ⌝ }
+    ensures { λ r. ⌜ DelaysFit r ⌝ }
 {
     let mut links = [false; 64];
     links[1] = blocked;
@@ -423,11 +423,8 @@ fn replay_queue(buffer: &mut [u8]) {
 
 fn replay_disk(buffer: &mut [u8]) {
     let n = read(b"disk.bin", buffer);
-    let mut current = [0u8; 384];
-    let mut durable = [0u8; 384];
-    let mut waiting = [0u8; 512];
-    let tally = disk::compared(&buffer[..n], &mut current, &mut durable, &mut waiting);
-    report(b"disk", tally);
+    let mut disk = [0u8; 1280];
+    report(b"disk", disk::compared(&buffer[..n], &mut disk));
 }
 
 fn replay_schedules(buffer: &mut [u8]) {

@@ -2,7 +2,7 @@
 ghost use mathlib.Core.Path.{_≡_};
 ghost use Prim.Native.Nat.{_<_};
 ghost use lib.ListN.{length};
-use log_matching::MismatchOption;
+use checks_log_matching::MismatchOption;
 use units::LogIndex;
 use units::Term;
 
@@ -17,7 +17,7 @@ fn put_place(log: &mut [u8], places: &[u8], k: usize)
     let index = LogIndex(k as u64 + 1);
     let from = 8 * k;
     let to = from + 1;
-    log::put_command(log, 8, 1, index, Term(word / 256), &places[from..to]);
+    log::put(log, 8, 1, index, Term(word / 256), 1, &places[from..to]);
 }
 
 // Puts what eight words say.
@@ -52,7 +52,7 @@ pub fn agrees(row: &[u8]) -> bool {
     let mut other = [0u8; 192];
     put_places(&mut one, &row[0..64]);
     put_places(&mut other, &row[64..128]);
-    let found = log_matching::log_matching_failure(&one, &other, 8, 1);
+    let found = checks_log_matching::log_matching_failure(&one, &other, 8, 1);
     told(
         found,
         words::load(row, 16),

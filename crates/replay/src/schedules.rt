@@ -1,17 +1,18 @@
-// schedules.bin: of each schedule a head, by which it is made again in a list with room for 64 entries, 2048 bytes, and then its entries.
+// schedules.bin: of each schedule a head, by which it is made again in a list of bytes 0xFF, then the bytes of the list after it: the
+// entries, and what lies behind them.
 ghost use mathlib.Core.Path.{_≡_};
 ghost use Prim.Native.Nat.{_≤_, _<_};
 ghost use lib.ListN.{length};
 use crate::Tally;
-use chaos::ChaosConfig;
+use faults_chaos::ChaosConfig;
+use faults_schedule::DrawnSchedule;
+use faults_schedule::Scheduled;
 use rng::Rng;
-use schedule::Listed;
-use schedule::Scheduled;
 use units::Duration;
 use units::SimTime;
 
 // Reads the ids of servers from the bytes of a word, the lowest first, up to the last that is not 0, and answers how many there are.
-fn read_servers(word: u64, ids: &mut [u64]) -> usize
+fn read_servers(word: u64, ids: &mut [u8]) -> usize
     requires { ⌜ length (now ids) ≡ 8 ⌝ }
     ensures { λ r. ⌜ r ≤ 8 ⌝ }
 {
@@ -21,22 +22,33 @@ fn read_servers(word: u64, ids: &mut [u64]) -> usize
         if left == 0 {
             return n;
         }
-        ids[n] = left % 256;
+        ids[n] = (left % 256) as u8;
         left /= 256;
         n += 1;
     }
     n
 }
 
+// Makes each byte of a list 0xFF.
+fn fill(list: &mut [u8])
+    requires { ⌜ length (now list) ≤ 2048 ⌝ }
+{
+    let mut i: usize = 0;
+    while i < list.len() {
+        list[i] = 255;
+        i += 1;
+    }
+}
+
 // A head's start, end, mean gap, longest duration.
 fn config_of(head: &[u8]) -> ChaosConfig
-    requires { ⌜ length (now head) ≡ 64 ⌝ }
+    requires { ⌜ length (now head) ≡ 128 ⌝ }
 {
     ChaosConfig {
-        start: SimTime(words::load(head, 2)),
-        end: SimTime(words::load(head, 3)),
-        mean_gap: Duration(words::load(head, 4)),
-        max_duration: Duration(words::load(head, 5)),
+        start: SimTime(words::load(head, 3)),
+        end: SimTime(words::load(head, 4)),
+        mean_gap: Duration(words::load(head, 5)),
+        max_duration: Duration(words::load(head, 6)),
     }
 }
 
@@ -52,71 +64,91 @@ fn after_draws(state: u64, draws: u64) -> u64 {
     g.state
 }
 
-// A head: number of entries, servers, four times, state, next state. The schedule is made in the list.
-fn head_agrees(list: &mut [u8], head: &[u8]) -> bool
-    requires { ⌜ (length (now list) ≡ 2048) × (length (now head) ≡ 64) ⌝ }
+// Whether an answer is a head's: a refusal's number, or the number of entries, and draws that lead from its state to the next.
+fn answer_agrees(answer: Scheduled, head: &[u8]) -> bool
+    requires { ⌜ length (now head) ≡ 128 ⌝ }
 {
-    let mut ids = [0u64; 8];
-    let n = read_servers(words::load(head, 1), &mut ids);
-    let before = words::load(head, 6);
-    let after = words::load(head, 7);
-    let mut state = [before];
-    let answer = schedule::chaos_schedule(&ids[0..n], config_of(head), list, &mut state);
-    let Scheduled::Made { count, draws } = answer else {
-        return false;
-    };
-    (count == words::load(head, 0)) & (state[0] == after) & (after_draws(before, draws) == after)
-}
-
-// A number, 0 where it is not there.
-fn number(there: bool, n: u64) -> u64 {
-    if there { n } else { 0 }
-}
-
-// An entry: time, kind, first number, second number, groups. The groups are the first number of a partition, whose kind is 4.
-fn told(entry: Listed, row: &[u8]) -> bool
-    requires { ⌜ length (now row) ≡ 64 ⌝ }
-{
-    let partition = entry.kind == 4;
-    (entry.time.0 == words::load(row, 0))
-        & (entry.kind == words::load(row, 1))
-        & (number(!partition, entry.first) == words::load(row, 2))
-        & (entry.second == words::load(row, 3))
-        & (number(partition, entry.first) == words::load(row, 4))
-}
-
-// Whether entry k of a list of n is a row's. A list has no more than 64.
-fn entry_agrees(list: &[u8], n: usize, k: usize, row: &[u8]) -> bool
-    requires { ⌜ (k < n) × (length (now list) ≡ 2048) × (length (now row) ≡ 64) ⌝ }
-{
-    if 64 < n {
-        return false;
+    let refusal = words::load(head, 0);
+    let entries = words::load(head, 1);
+    let before = words::load(head, 7);
+    let after = words::load(head, 8);
+    match answer {
+        Scheduled::Refused(number) => (number == refusal) & (entries == 0),
+        Scheduled::Made { count, draws } => (refusal == 0)
+            & (count == entries)
+            & (after_draws(before, draws) == after),
     }
-    told(schedule::entry_at(list, n, k), row)
 }
 
-// The number of entries that the last head has, how many of them were read, and whether the row agrees.
+// The length of a head's list, 0 where the list that is lent is shorter.
+fn list_length(word: u64) -> usize
+    ensures { λ r. ⌜ r ≤ 2048 ⌝ }
+{
+    if 2048 < word { 0 } else { word as usize }
+}
+
+// The schedule of a word of servers, made in a list of bytes 0xFF.
+fn made_again(list: &mut [u8], servers: u64, config: ChaosConfig, g: Rng) -> DrawnSchedule
+    requires { ⌜ length (now list) ≤ 2048 ⌝ }
+{
+    fill(list);
+    let mut ids = [0u8; 8];
+    let n = read_servers(servers, &mut ids);
+    faults_schedule::drawn_schedule(&ids[0..n], config, list, g)
+}
+
+// A head: refusal or 0, number of entries, servers, four times, state, next state, length of the list. The schedule is made in the list.
+fn head_agrees(list: &mut [u8], size: usize, head: &[u8]) -> bool
+    requires { ⌜ (length (now list) ≡ 2048) × (size ≤ 2048) × (length (now head) ≡ 128) ⌝ }
+{
+    let after = words::load(head, 8);
+    let length = words::load(head, 9);
+    let g = Rng::new(words::load(head, 7));
+    let drawn = made_again(&mut list[0..size], words::load(head, 2), config_of(head), g);
+    let answer = drawn.value;
+    answer_agrees(answer, head) & (drawn.next.state == after) & (size as u64 == length)
+}
+
+// As many bytes as are left, up to a row.
+fn part(left: usize) -> usize
+    ensures { λ r. ⌜ (r ≤ left) × (r ≤ 128) ⌝ }
+{
+    if left < 128 { left } else { 128 }
+}
+
+// Whether the bytes of a list from `read` on, up to a row of them, are a row's.
+fn bytes_agree(list: &[u8], size: usize, read: usize, row: &[u8]) -> bool
+    requires { ⌜ (length (now list) ≡ 2048) × (size ≤ 2048) × (read < size) × (length (now row) ≡ 128) ⌝ }
+{
+    let n = part(size - read);
+    let end = read + n;
+    words::equal(&list[read..end], &row[0..n])
+}
+
+// The length of the last head's list, how much of it was read, and whether the row agrees.
 struct Replayed {
-    entries: usize,
+    size: usize,
     read: usize,
     agrees: bool,
 }
 
-// A row of schedules.bin: an entry of the last head where one is left, else a head.
-fn schedule_row(list: &mut [u8], entries: usize, read: usize, row: &[u8]) -> Replayed
-    requires { ⌜ (length (now list) ≡ 2048) × (length (now row) ≡ 64) ⌝ }
+// A row of schedules.bin: bytes of the last head's list where some are left, else a head.
+fn schedule_row(list: &mut [u8], size: usize, read: usize, row: &[u8]) -> Replayed
+    requires { ⌜ (length (now list) ≡ 2048) × (size ≤ 2048) × (length (now row) ≡ 128) ⌝ }
+    ensures { λ r. ⌜ r .size ≤ 2048 ⌝ }
 {
-    if read < entries {
+    if read < size {
         Replayed {
-            entries,
-            read: read + 1,
-            agrees: entry_agrees(list, entries, read, row),
+            size,
+            read: read + 128,
+            agrees: bytes_agree(list, size, read, row),
         }
     } else {
+        let size = list_length(words::load(row, 9));
         Replayed {
-            entries: words::load(row, 0) as usize,
+            size,
             read: 0,
-            agrees: head_agrees(list, row),
+            agrees: head_agrees(list, size, row),
         }
     }
 }
@@ -125,14 +157,14 @@ fn schedule_row(list: &mut [u8], entries: usize, read: usize, row: &[u8]) -> Rep
 pub fn compared(s: &[u8], list: &mut [u8]) -> Tally
     requires { ⌜ length (now list) ≡ 2048 ⌝ }
 {
-    let mut entries: usize = 0;
+    let mut size: usize = 0;
     let mut read: usize = 0;
     let mut tally = crate::none();
     let mut at: usize = 0;
-    while 64 <= s.len() - at {
-        let end = at + 64;
-        let row = schedule_row(list, entries, read, &s[at..end]);
-        entries = row.entries;
+    while 128 <= s.len() - at {
+        let end = at + 128;
+        let row = schedule_row(list, size, read, &s[at..end]);
+        size = row.size;
         read = row.read;
         tally = crate::tallied(tally, row.agrees);
         at = end;

@@ -1,18 +1,20 @@
 -- Laws of the generator. Assumes nothing.
 use mathlib.Core.Path.{_≡_, refl, ap, _∙_}
+use mathlib.Core.Bool.{Bool, true, false}
 use Prim.Native.Nat.{ℕ, zero, suc, _+_, _*_, _/_, _%_, _^_, _<_}
 use native.Mathlib.Nat.{lt-of-le-of-lt, mod-lt, div-lt-iff-lt-mul, mul-lt-mul-of-pos-right, mod-add-mod, zero-add, suc-add}
 use native.Mathlib.Omega.{arith}
 use lib.Arith.{lt-one}
 use lib.Bits.{xor-lt}
-use lib.Dec.{lit<}
+use lib.Dec.{lit<, eqb}
 use lib.Pow.{shr-le, pow-pos}
 use borrow.Author.Tests.{eq-eqb, ne-eqb}
+use Rattle.laws.specs.Bools.{pick}
 use Rattle.rng.specs.declared.Rng.{Rng}
 use Rattle.rng.specs.declared.Drawn.{Drawn}
 use Rattle.rng.specs.declared.Bounded.the-variants.{Value, ZeroBound}
 use Rattle.rng.specs.declared.DrawnBelow.{DrawnBelow}
-use Rattle.rng.specs.Rng.{golden, wrappingMul, xorShift, mix, moved, nextU64, under, below, after}
+use Rattle.rng.specs.Rng.{golden, wrappingMul, xorShift, mix, moved, nextU64, under, below, boundedNumber, belowNumber, after}
 
 -- A draw's value and the state after it fit 64 bits.
 xor-shift-lt : (k z : ℕ) → z < 2 ^ 64 → xorShift k z < 2 ^ 64
@@ -64,6 +66,29 @@ pub below-positive : (g : Rng) (bound : ℕ) (d : Drawn) → (bound ≡ 0 → �
     → record { value = Value (d .value); next = d .next } ≡ below g bound
 unfolding below
 below-positive g bound d n e = simp (ne-eqb bound 0 n, e)
+
+-- The number of what a draw below a bound answers.
+pub number-zero : (bound : ℕ) → bound ≡ 0 → 9 ≡ belowNumber bound
+unfolding belowNumber
+number-zero bound e = simp (eq-eqb bound 0 e)
+
+pub number-positive : (bound : ℕ) → (bound ≡ 0 → ⊥) → 0 ≡ belowNumber bound
+unfolding belowNumber
+number-positive bound n = simp (ne-eqb bound 0 n)
+
+pub below-number : (g : Rng) (bound : ℕ) → boundedNumber (below g bound .value) ≡ belowNumber bound
+unfolding below belowNumber
+below-number g bound = by (eqb bound 0)
+  where
+    none : DrawnBelow
+    none = record { value = ZeroBound; next = g }
+
+    some : DrawnBelow
+    some = record { value = Value (under g bound .value); next = under g bound .next }
+
+    by : (t : Bool) → boundedNumber (pick t none some .value) ≡ pick t 9 0
+    by true = refl
+    by false = refl
 
 -- A positive bound is given a number below it.
 pub below-lt : (g : Rng) (bound : ℕ) → 0 < bound → (v : ℕ) → below g bound .value ≡ Value v → v < bound

@@ -58,15 +58,14 @@ below g bound =
     (record { value = ZeroBound; next = g })
     (record { value = Value (under g bound .value); next = under g bound .next })
 
--- Document 01's number for a draw below a bound: 0, and 9 where the bound is zero.
-abbrev pub number : Bounded → ℕ
-number (Value v) = 0
-number ZeroBound = 9
+-- Document 01's number for what a draw below a bound answers.
+abbrev pub boundedNumber : Bounded → ℕ
+boundedNumber (Value v) = 0
+boundedNumber ZeroBound = 9
 
--- Document 01's value for a draw below a bound: the number drawn, and 0 where the bound is zero.
-abbrev pub valueOf : Bounded → ℕ
-valueOf (Value v) = v
-valueOf ZeroBound = 0
+-- Question 9 of a draw below a bound: the bound is not zero.
+unfoldable pub belowNumber : ℕ → ℕ
+belowNumber bound = pick (eqb bound 0) 9 0
 
 -- The generator after so many draws.
 abbrev pub after : ℕ → Rng → Rng

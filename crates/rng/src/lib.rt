@@ -2,7 +2,7 @@
 // Pseudorandom Number Generators", OOPSLA 2014.
 ghost use mathlib.Core.Path.{_≡_};
 ghost use Prim.Native.Nat.{_+_, _-_, _*_, _/_, _%_, _^_, _≤_, _<_};
-ghost use Rattle.rng.specs.Rng.{Parts, new, nextU64, under, below};
+ghost use Rattle.rng.specs.Rng.{Parts, new, nextU64, under, below, boundedNumber, belowNumber};
 
 // A seeded SplitMix64 generator.
 pub struct Rng {
@@ -19,6 +19,18 @@ pub struct Drawn {
 pub enum Bounded {
     Value(u64),
     ZeroBound,
+}
+
+impl Bounded {
+    // Document 01's number: 0, and 9 where the bound is zero.
+    pub fn number(self) -> u64
+        ensures { λ r. ⌜ r ≡ boundedNumber self ⌝ }
+    {
+        match self {
+            Bounded::Value(_) => 0,
+            Bounded::ZeroBound => 9,
+        }
+    }
 }
 
 // A draw below a bound: its value, and the generator after it.
@@ -101,7 +113,7 @@ pub fn drawn_under(g: Rng, bound: u64) -> Drawn
 
 // A number below a bound, and the generator after the draw; no number, and the generator as it was, where the bound is zero.
 pub fn drawn_below(g: Rng, bound: u64) -> DrawnBelow
-    ensures { λ r. ⌜ r ≡ below g bound ⌝ }
+    ensures { λ r. ⌜ (r ≡ below g bound) × (boundedNumber (r .value) ≡ belowNumber bound) ⌝ }
 {
     if bound == 0 {
         return DrawnBelow {
@@ -136,7 +148,8 @@ impl Rng {
 
     // A number below a bound; no number, and the generator as it was, where the bound is zero.
     pub fn below(&mut self, bound: u64) -> Bounded
-        ensures { λ r. ⌜ (r ≡ below (now (self .entry)) bound .value) × (now (self .exit) ≡ below (now (self .entry)) bound .next) ⌝ }
+        ensures { λ r. ⌜ (r ≡ below (now (self .entry)) bound .value) × (now (self .exit) ≡ below (now (self .entry)) bound .next)
+            × (boundedNumber r ≡ belowNumber bound) ⌝ }
     {
         let draw = drawn_below(*self, bound);
         *self = draw.next;

@@ -19,7 +19,7 @@ use Rattle.storage.specs.declared.HardState.{HardState}
 use Rattle.checks.specs.Checks.{Violation, checkNumber}
 use Rattle.leader.specs.declared.LeaderOption.{LeaderOption}
 use Rattle.leader.specs.declared.LeaderOption.the-variants as led
-use Rattle.durability.specs.declared.replies.Reply.{Reply}
+use Rattle.checks_durability.specs.declared.replies.Reply.{Reply}
 use Rattle.model.specs.State.{State, Confirmation, Phase, closed, writing, sending}
 use Rattle.model.specs.Simulation.{Opening, noInput, openStart, openMessage, openTimer, openProposal, openConfirmation}
 use Rattle.model.specs.Calls.{Asked, sealingNumber}

@@ -20,7 +20,7 @@ use Rattle.queue.specs.Queue as queue
 use Rattle.queue.specs.Range as range
 use Rattle.leader.specs.Leader as leader
 use Rattle.checks.specs.Checks as checks
-use Rattle.durability.specs.Acknowledged as acknowledged
+use Rattle.checks_durability.specs.Acknowledged as acknowledged
 use Rattle.model.specs.Simulation as simulation
 use Rattle.model.specs.Calls as calls
 use Rattle.model.specs.Reads as reads
@@ -35,12 +35,12 @@ listed = tt
 
 -- Bytes and commands, the generator and its streams.
 unfoldable pub drawn : Unit {0}
-unfolding types.samePayload words.le words.bytesOf client.encode client.decode rng.mix rng.nextU64 rng.under seeds.tag seeds.streamSeed seeds.streamRng
+unfolding types.payloadOf types.samePayload words.le words.bytesOf client.encode client.decode rng.mix rng.nextU64 rng.under seeds.tag seeds.streamSeed seeds.streamRng
 drawn = tt
 
 -- Settings and limits.
 unfoldable pub configured : Unit {0}
-unfolding questions.firstNo config.validate config.accepts limits.within limits.serversFit limits.durationFits limits.durationsFit limits.limitsFit limits.settingsFit limits.judge
+unfolding questions.firstNo config.validate config.accepts limits.within limits.serversFit limits.durationFits limits.durationsFit limits.limitsFit limits.countsFit limits.settingsFit limits.judge
 configured = tt
 
 -- Log, disk and the lengths of records.
@@ -50,7 +50,7 @@ stored = tt
 
 -- Network, metrics, queue and leader.
 unfoldable pub sent : Unit {0}
-unfolding faults.inCluster faults.groupsIn network.delay network.chance network.link network.delivered network.route network.some network.elsewhere network.separated network.partition network.networkInRange metrics.add metrics.recordSend metrics.deliverToLeader metrics.recordSync metrics.recordReply metrics.countsFit metrics.metricsFit queue.push range.messageRoom range.inOrder leader.better leader.leaderFrom leader.leader
+unfolding faults.only faults.faultOf faults.inCluster faults.groupsIn network.delay network.chance network.link network.delivered network.route network.anyFrom network.elsewhere network.separated network.partition network.linkWithin network.linksWithin network.networkInRange metrics.add metrics.recordSend metrics.deliverToLeader metrics.recordSync metrics.recordReply metrics.totalsFit metrics.countersFit metrics.noneCounted metrics.metricsFit queue.push range.messageRoom range.inOrder leader.better leader.leaderFrom leader.leader
 sent = tt
 
 -- The checks.
@@ -65,7 +65,7 @@ simulated = tt
 
 -- The calls.
 unfoldable pub called : Unit {0}
-unfolding calls.start calls.step calls.propose calls.fireTimer calls.confirmLeadership calls.groupsWord calls.faultOf calls.targetsKnown calls.numbersInRange calls.schedule calls.writeHardStateCall calls.writePutCall calls.writeTruncateCall calls.sealed calls.seal calls.outputSend calls.outputSetTimer calls.outputCancelTimer calls.outputApply calls.outputConfirmed calls.outputLost calls.end calls.logsFrom calls.checkLogMatchingCall calls.appliedFrom calls.checkDurabilityCall
+unfolding calls.start calls.step calls.propose calls.fireTimer calls.confirmLeadership calls.groupsWord calls.faultGiven calls.schedule calls.writeHardStateCall calls.writePutCall calls.writeTruncateCall calls.sealed calls.seal calls.outputSend calls.outputSetTimer calls.outputCancelTimer calls.outputApply calls.outputConfirmed calls.outputLost calls.end calls.logsFrom calls.checkLogMatchingCall calls.appliedFrom calls.checkDurabilityCall
 called = tt
 
 -- The reads.

@@ -1,9 +1,10 @@
 pub mod Storage
 pub mod Waiting
 pub mod WaitingLaws
+pub mod Stores
+pub mod PartLaws
 pub mod Replay
 pub mod ReplayLaws
-pub mod Stores
-pub mod StoresLaws
 pub mod Writes
 pub mod WritesLaws
+pub mod StoresLaws

@@ -2,7 +2,7 @@
 use mathlib.Core.Path.{_≡_, refl, sym, ap}
 use mathlib.Core.Bool.{Bool, true}
 use mathlib.Core.List.{List, [], _∷_}
-use Prim.Native.Nat.{ℕ, zero, suc, _+_, _-_, _≤_}
+use Prim.Native.Nat.{ℕ, zero, suc, _+_, _-_, _*_, _≤_}
 use native.Mathlib.Omega.{arith}
 use lib.Dec.{eqb, leb}
 use lib.ListN.{length, getD}
@@ -218,8 +218,8 @@ pub record Pushes (p m mark : ℕ) (src : List ℕ) (a b : ℕ) (s s′ : List �
   pub to : (w : Write) → markOf (kindOf w) ≡ mark → bodyOf (kindOf w) ≡ src → firstOf w ≡ a → secondOf w ≡ b → Becomes (waiting p) m (m + 1) s s′ (append w)
 
 abbrev pub entryShape : LogIndex → Term → Payload → Shape
-entryShape index term noop = Shape.PutNoop index term
-entryShape index term (command bs) = Shape.PutCommand index term (length bs)
+entryShape index term noop = Shape.Put index term 0 0
+entryShape index term (command bs) = Shape.Put index term 1 (length bs)
 
 -- A write without the bytes of its command.
 abbrev pub shapeOf : Write → Shape
@@ -227,11 +227,17 @@ shapeOf (writeHardState h) = Shape.HardState h
 shapeOf (writePut index e) = entryShape index (e .term) (e .payload)
 shapeOf (writeTruncate from) = Shape.Truncate from
 
+-- The length of a put's command.
 abbrev pub lengthOf : Shape → ℕ
 lengthOf (Shape.HardState h) = 0
-lengthOf (Shape.PutNoop index term) = 0
-lengthOf (Shape.PutCommand index term k) = k
+lengthOf (Shape.Put index term kind n) = n
 lengthOf (Shape.Truncate from) = 0
+
+-- The kind of a put's payload.
+abbrev pub putKind : Shape → ℕ
+putKind (Shape.HardState h) = 0
+putKind (Shape.Put index term kind n) = kind
+putKind (Shape.Truncate from) = 0
 
 abbrev pub nothing : Write
 nothing = writeTruncate (record { 0 = 0 })
@@ -245,15 +251,25 @@ unfoldable pub shaped : ℕ → ℕ → ℕ → ℕ → Shape
 shaped p zero a b = Shape.HardState (record { term = record { 0 = a }; «voted_for» = None })
 shaped p (suc zero) a b = Shape.HardState (record { term = record { 0 = a }; «voted_for» = Some (record { 0 = b }) })
 shaped p (suc (suc zero)) a b = Shape.Truncate (record { 0 = a })
-shaped p (suc (suc (suc zero))) a b = Shape.PutNoop (record { 0 = a }) (record { 0 = b })
-shaped p (suc (suc (suc (suc k)))) a b = Shape.PutCommand (record { 0 = a }) (record { 0 = b }) (pick (leb k p) k 0)
+shaped p (suc (suc (suc zero))) a b = Shape.Put (record { 0 = a }) (record { 0 = b }) 0 0
+shaped p (suc (suc (suc (suc k)))) a b = Shape.Put (record { 0 = a }) (record { 0 = b }) 1 (pick (leb k p) k 0)
 
--- r is what a row says; its length is at most p.
+-- A shape whose kind and length are those of a payload of up to p bytes: a noop has none.
+pub record Short (p : ℕ) (r : Shape) : Type 0 where
+  pub kind : putKind r ≤ 1
+  pub bare : lengthOf r ≤ 256 * putKind r
+  pub most : lengthOf r ≤ p
+
+-- r is what a row says.
 pub record Shaped (p mark a b : ℕ) (r : Shape) : Type 0 where
   pub is : r ≡ shaped p mark a b
-  pub short : lengthOf r ≤ p
+  pub short : Short p r
 
--- Where s holds m writes, r is write k without the bytes of its command; its length is at most p.
+-- Where s holds m writes, r is write k without the bytes of its command.
 pub record Shows (p m k : ℕ) (r : Shape) (s : List ℕ) : Type 0 where
   pub is : Gives (waiting p) m s r (shapeAt k)
-  pub short : lengthOf r ≤ p
+  pub short : Short p r
+
+-- No write.
+unfoldable pub emptied : List Write → List Write
+emptied ws = []

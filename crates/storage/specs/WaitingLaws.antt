@@ -11,7 +11,7 @@ use mir.Syntax.{w64}
 use mir.Val.{Fits}
 use borrow.Author.Tests.{lt-ltb, le-leb, lt-leb, not-true, not-false}
 use Rattle.laws.specs.Bools.{pick, _and_, and-left, and-both, no-and, true-and, code-and}
-use Rattle.units.specs.Types.{Payload, noop, command}
+use Rattle.units.specs.Types.{Payload, noop, command, payloadOf}
 use Rattle.units.specs.declared.Term.{Term}
 use Rattle.units.specs.declared.LogIndex.{LogIndex}
 use Rattle.units.specs.declared.NodeId.{NodeId}
@@ -21,16 +21,18 @@ use Rattle.words.specs.Words.{bytes, W, Bytes, allz}
 use Rattle.words.specs.Sets.{sets-append}
 use Rattle.words.specs.Lift.{bytes-append, length-bytes, W-part}
 use Rattle.layout.specs.Tables.{Holds, Held, Becomes, append}
-use Rattle.layout.specs.TableLaws.{row-word, row-held, appends, rowed-start, rowed-done}
+use Rattle.layout.specs.Code.{zeros}
+use Rattle.layout.specs.TableLaws.{row-word, row-held, appends, clear-held, rowed-start, rowed-done}
 use Rattle.layout.specs.Marked.{wordsFor, Sound, sound, sounds, marked, bodyIn}
 use Rattle.layout.specs.MarkedCalls.{laid, restOk}
-use Rattle.layout.specs.MarkedLaws.{puts}
+use Rattle.layout.specs.Payload.{markOf as payloadMark, bodyOf as payloadBody}
+use Rattle.layout.specs.MarkedLaws.{puts, kind-mark, kind-body}
 use Rattle.layout.specs.Parts.{lentRow, backRow, length-lentRow, row-back, lent-fine, lent-fails}
 use Rattle.storage.specs.declared.HardState.{HardState}
 use Rattle.storage.specs.declared.waiting.Shape.{Shape}
 use Rattle.storage.specs.declared.waiting.Shape.the-variants as Shape
 use Rattle.storage.specs.Storage.{Write, writeHardState, writePut, writeTruncate}
-use Rattle.storage.specs.Waiting.{Kind, markOf, bodyOf, kindMarking, kindFrom, kindOf, firstOf, secondOf, voteKind, voteNumber, payloadKind, plain, plainMark, two-more, writeFrom, writeCode, waiting, putWithin, withinMark, waitingIn, Pushes, entryShape, shapeOf, lengthOf, nothing, shapeAt, shaped, Shaped, Shows}
+use Rattle.storage.specs.Waiting.{Kind, markOf, bodyOf, kindMarking, kindFrom, kindOf, firstOf, secondOf, voteKind, voteNumber, payloadKind, plain, plainMark, two-more, writeFrom, writeCode, waiting, putWithin, withinMark, waitingIn, Pushes, entryShape, shapeOf, lengthOf, nothing, shapeAt, shaped, Short, Shaped, Shows, emptied}
 
 -- ---- a write after the last
 
@@ -72,6 +74,15 @@ pushed p m mark a b src s ys s′ q room l fm fa fb B ey es = record { to = to }
         ∙ ap (sets s (8 * o)) (ap₂ (λ (x y : ℕ). bytes (marked kindMarking p .enc k) ++ bytes (x ∷ y ∷ [])) (sym ea) (sym eb₂) ∙ sym (bytes-append (marked kindMarking p .enc k) (firstOf w ∷ secondOf w ∷ [])))
         ∙ ap (λ (j : ℕ). sets s (8 * j) (bytes (writeCode p .enc w))) at-is)
 
+-- a put's number and bytes are those of its payload
+put-mark : (y : Payload) → markOf (payloadKind y) ≡ 2 + payloadMark y
+put-mark noop = refl
+put-mark (command bs) = omega arith
+
+put-body : (y : Payload) → bodyOf (payloadKind y) ≡ payloadBody y
+put-body noop = refl
+put-body (command bs) = refl
+
 module _ (p m : ℕ) (s s′ : List ℕ) where
   pub pushed-state : (h : HardState) → h .«voted_for» ≡ None → Pushes p m 0 [] (h .term .0) 0 s s′ → Becomes (waiting p) m (m + 1) s s′ (append (writeHardState h))
   pushed-state h e P =
@@ -81,52 +92,60 @@ module _ (p m : ℕ) (s s′ : List ℕ) where
   pushed-vote h id e P =
       P .to (writeHardState h) (ap (λ (v : NodeOption). markOf (voteKind v)) e) (ap (λ (v : NodeOption). bodyOf (voteKind v)) e) refl (ap voteNumber e)
 
-  pub pushed-noop : (index : LogIndex) (term : Term) → Pushes p m 3 [] (index .0) (term .0) s s′ → Becomes (waiting p) m (m + 1) s s′ (append (writePut index (record { term = term; payload = noop })))
-  pushed-noop index term P = P .to (writePut index (record { term = term; payload = noop })) refl refl refl refl
-
-  pub pushed-command : (index : LogIndex) (term : Term) (src : List ℕ) → Pushes p m (4 + length src) src (index .0) (term .0) s s′
-      → Becomes (waiting p) m (m + 1) s s′ (append (writePut index (record { term = term; payload = command src })))
-  pushed-command index term src P = P .to (writePut index (record { term = term; payload = command src })) refl refl refl refl
+  pub pushed-put : (index : LogIndex) (term : Term) (kind : ℕ) (src : List ℕ) → kind ≤ 1 → length src ≤ 256 * kind → Pushes p m (3 + kind + length src) src (index .0) (term .0) s s′
+      → Becomes (waiting p) m (m + 1) s s′ (append (writePut index (record { term = term; payload = payloadOf kind src })))
+  pushed-put index term kind src k l P =
+      let n : markOf (payloadKind (payloadOf kind src)) ≡ 3 + kind + length src = omega (arith, put-mark (payloadOf kind src), kind-mark kind src k l) in
+      P .to (writePut index (record { term = term; payload = payloadOf kind src })) n (put-body (payloadOf kind src) ∙ kind-body kind src k l) refl refl
 
   pub pushed-truncate : (from : LogIndex) → Pushes p m 2 [] (from .0) 0 s s′ → Becomes (waiting p) m (m + 1) s s′ (append (writeTruncate from))
   pushed-truncate from P = P .to (writeTruncate from) refl refl refl refl
 
-pub ruleset pushes = (pushed-state, pushed-vote, pushed-noop, pushed-command, pushed-truncate)
+pub ruleset pushes = (pushed-state, pushed-vote, pushed-put, pushed-truncate)
+
+-- ---- no write waits
+
+pub cleared-writes : (p m end : ℕ) (s s′ : List ℕ) → end ≡ m * (3 + wordsFor p) → s′ ≡ sets s 0 (zeros (8 * end - 0)) → Becomes (waiting p) m 0 s s′ emptied
+unfolding emptied
+cleared-writes p m end s s′ e f =
+    let k : 8 * end - 0 ≡ 8 * (m * (3 + wordsFor p)) = omega arith in
+    record { to = λ N ws h. clear-held h s′ refl (f ∙ ap (λ (j : ℕ). sets s 0 (zeros j)) k) }
 
 -- ---- what a row says
 
 module _ (p m a b : ℕ) where
-  shaped-as : (k : ℕ) (r : Shape) → m ≡ k → r ≡ shaped p k a b → lengthOf r ≤ p → Shaped p m a b r
+  shaped-as : (k : ℕ) (r : Shape) → m ≡ k → r ≡ shaped p k a b → Short p r → Shaped p m a b r
   shaped-as k r e f l = record { is = f ∙ ap (λ (j : ℕ). shaped p j a b) (sym e); short = l }
 
   pub shaped-state : m < 1 → Shaped p m a b (Shape.HardState (record { term = record { 0 = a }; «voted_for» = None }))
   unfolding shaped
-  shaped-state h = shaped-as 0 _ (omega arith) refl (omega arith)
+  shaped-state h = shaped-as 0 _ (omega arith) refl (record { kind = omega arith; bare = omega arith; most = omega arith })
 
   pub shaped-vote : 1 ≤ m → m < 2 → Shaped p m a b (Shape.HardState (record { term = record { 0 = a }; «voted_for» = Some (record { 0 = b }) }))
   unfolding shaped
-  shaped-vote h k = shaped-as (suc zero) _ (omega arith) refl (omega arith)
+  shaped-vote h k = shaped-as (suc zero) _ (omega arith) refl (record { kind = omega arith; bare = omega arith; most = omega arith })
 
   pub shaped-truncate : 2 ≤ m → m < 3 → Shaped p m a b (Shape.Truncate (record { 0 = a }))
   unfolding shaped
-  shaped-truncate h k = shaped-as (suc (suc zero)) _ (omega arith) refl (omega arith)
+  shaped-truncate h k = shaped-as (suc (suc zero)) _ (omega arith) refl (record { kind = omega arith; bare = omega arith; most = omega arith })
 
-module _ (p m : ℕ) (index : LogIndex) (term : Term) where
-  pub shaped-noop : 3 ≤ m → m < 4 → Shaped p m (index .0) (term .0) (Shape.PutNoop index term)
+module _ (p m : ℕ) (index : LogIndex) (term : Term) (q : p ≤ 256) where
+  shaped-put : (k kind n : ℕ) → m ≡ k → Shape.Put index term kind n ≡ shaped p k (index .0) (term .0) → kind ≤ 1 → n ≤ 256 * kind → n ≤ p → Shaped p m (index .0) (term .0) (Shape.Put index term kind n)
+  shaped-put k kind n e f a b c = shaped-as p m (index .0) (term .0) k (Shape.Put index term kind n) e f (record { kind = a; bare = b; most = c })
+
+  pub shaped-noop : 3 ≤ m → m < 4 → Shaped p m (index .0) (term .0) (Shape.Put index term 0 0)
   unfolding shaped
-  shaped-noop h k = shaped-as p m (index .0) (term .0) (suc (suc (suc zero))) (Shape.PutNoop index term) (omega arith) refl (omega arith)
+  shaped-noop h k = shaped-put (suc (suc (suc zero))) 0 0 (omega arith) refl (omega arith) (omega arith) (omega arith)
 
-  pub shaped-command : 4 ≤ m → m - 4 ≤ p → Shaped p m (index .0) (term .0) (Shape.PutCommand index term (m - 4))
+  pub shaped-command : 4 ≤ m → m - 4 ≤ p → Shaped p m (index .0) (term .0) (Shape.Put index term 1 (m - 4))
   unfolding shaped
   shaped-command h k =
-      shaped-as p m (index .0) (term .0) (suc (suc (suc (suc (m - 4))))) (Shape.PutCommand index term (m - 4)) (omega arith)
-      (ap (λ (t : Bool). Shape.PutCommand index term (pick t (m - 4) 0)) (sym (le-leb (m - 4) p k))) k
+      shaped-put (suc (suc (suc (suc (m - 4))))) 1 (m - 4) (omega arith) (ap (λ (t : Bool). Shape.Put index term 1 (pick t (m - 4) 0)) (sym (le-leb (m - 4) p k))) (omega arith) (omega arith) k
 
-  pub shaped-long : 4 ≤ m → p < m - 4 → Shaped p m (index .0) (term .0) (Shape.PutCommand index term 0)
+  pub shaped-long : 4 ≤ m → p < m - 4 → Shaped p m (index .0) (term .0) (Shape.Put index term 1 0)
   unfolding shaped
   shaped-long h k =
-      shaped-as p m (index .0) (term .0) (suc (suc (suc (suc (m - 4))))) (Shape.PutCommand index term 0) (omega arith)
-      (ap (λ (t : Bool). Shape.PutCommand index term (pick t (m - 4) 0)) (sym (lt-leb (m - 4) p k))) (omega arith)
+      shaped-put (suc (suc (suc (suc (m - 4))))) 1 0 (omega arith) (ap (λ (t : Bool). Shape.Put index term 1 (pick t (m - 4) 0)) (sym (lt-leb (m - 4) p k))) (omega arith) (omega arith) (omega arith)
 
 pub ruleset shapes = (shaped-state, shaped-vote, shaped-truncate, shaped-noop, shaped-command, shaped-long)
 
@@ -145,7 +164,7 @@ shaped-write p (writePut index e) g = by (e .payload) (sound kindMarking p (payl
     by noop s = refl
     by (command bs) s =
         let f : 4 + length bs ≡ suc (suc (suc (suc (length bs)))) = omega arith in
-        ap (λ (k : ℕ). shaped p k (index .0) (e .term .0)) f ∙ ap (λ (t : Bool). Shape.PutCommand index (e .term) (pick t (length bs) 0)) (le-leb (length bs) p (s .short))
+        ap (λ (k : ℕ). shaped p k (index .0) (e .term .0)) f ∙ ap (λ (t : Bool). Shape.Put index (e .term) 1 (pick t (length bs) 0)) (le-leb (length bs) p (s .short))
 shaped-write p (writeTruncate from) g = refl
 
 pub shows : (p m k at mark a b : ℕ) (s : List ℕ) (r : Shape) → k < m → at ≡ k * (3 + wordsFor p) → mark ≡ getD (W s) at 0 → a ≡ getD (W s) (at + (3 + wordsFor p) - 2) 0

@@ -1,15 +1,16 @@
 // Persistent state (consensus/storage.rs, sim/storage.rs): a server's term, vote and log, current and durable, and the writes not yet synced.
-// The two logs and the waiting writes are regions that the caller lends; what has a fixed size goes by value.
+// A disk is one region that the caller lends: the current log and the durable log, of `places` places each, and `rows` rows of waiting
+// writes, side by side; p is the greatest length of a command. What has a fixed size goes by value.
 ghost use mathlib.Core.Path.{_≡_};
 ghost use Prim.Native.Nat.{_+_, _*_, _^_, _≤_, _<_};
 ghost use lib.ListN.{length};
-ghost use Rattle.layout.specs.Marked.{wordsFor};
-ghost use Rattle.storage.specs.Stores.{Syncs, Crashes};
+ghost use Rattle.storage.specs.Stores.{diskBytes, Syncs, Crashes};
 
 pub mod waiting; // the writes not yet synced
 pub mod replay; // what a sync does with them
 pub mod write; // one more write
 
+use layout::rows;
 use units::NodeOption;
 use units::Term;
 
@@ -20,7 +21,7 @@ pub struct HardState {
     pub voted_for: NodeOption,
 }
 
-// A server's storage without its logs and its waiting writes: both hard states, the count of waiting writes, and the entries discarded.
+// A server's storage without its region: both hard states, the count of waiting writes, and the entries discarded.
 pub struct StorageState {
     pub current: HardState,
     pub durable: HardState,
@@ -36,18 +37,20 @@ pub struct Synced {
 }
 
 // Makes the waiting writes durable.
-pub fn sync(v: StorageState, durable: &mut [u8], waiting: &mut [u8], n: usize, p: usize) -> Synced
-    requires { ⌜ (v .waiting ≤ 2 ^ 32) × (p ≤ 256) × (8 * (n * (2 + wordsFor p)) ≤ length (now durable)) × (8 * (v .waiting * (3 + wordsFor p)) ≤ length (now waiting)) ⌝ }
-    ensures { λ r. ⌜ Syncs p n v r (now (durable .entry)) (now (durable .exit)) (now (waiting .entry)) (now (waiting .exit)) ⌝ }
+pub fn sync(v: StorageState, disk: &mut [u8], places: usize, rows: usize, p: usize) -> Synced
+    requires { ⌜ (p ≤ 256) × (length (now disk) ≡ diskBytes p places rows) × (v .waiting ≤ rows) × (v .waiting ≤ 2 ^ 32) ⌝ }
+    ensures { λ r. ⌜ Syncs p places rows v r (now (disk .entry)) (now (disk .exit)) ⌝ }
 {
     let m = v.waiting as usize;
     let current = v.current;
     let before = v.durable;
     let discarded = v.discarded;
-    let bytes = replay::unsynced_bytes(waiting, m, p);
-    let after = replay::replay(durable, n, waiting, m, p, before);
-    let end = waiting.len();
-    words::fill_zero(waiting, 0, end);
+    let logs = rows::start(places, places, 2 + (p + 7) / 8);
+    let from = 16 * logs;
+    let end = disk.len();
+    let bytes = replay::unsynced_bytes(&disk[from..end], m, p);
+    let after = replay::replay(disk, places, rows, p, m, before);
+    waiting::clear(&mut disk[from..end], m, p);
     Synced {
         state: StorageState {
             current,
@@ -60,21 +63,19 @@ pub fn sync(v: StorageState, durable: &mut [u8], waiting: &mut [u8], n: usize, p
     }
 }
 
-// Discards the waiting writes.
-pub fn crash(
-    v: StorageState,
-    current: &mut [u8],
-    durable: &[u8],
-    waiting: &mut [u8],
-) -> StorageState
-    requires { ⌜ length (now current) ≡ length (now durable) ⌝ }
-    ensures { λ r. ⌜ Crashes v r (now (current .entry)) (now (current .exit)) (now (durable .entry)) (now (waiting .entry)) (now (waiting .exit)) ⌝ }
+// Discards the waiting writes: the durable log is copied over the current one.
+pub fn crash(v: StorageState, disk: &mut [u8], places: usize, rows: usize, p: usize) -> StorageState
+    requires { ⌜ (p ≤ 256) × (length (now disk) ≡ diskBytes p places rows) × (v .waiting ≤ rows) ⌝ }
+    ensures { λ r. ⌜ Crashes p places rows v r (now (disk .entry)) (now (disk .exit)) ⌝ }
 {
+    let m = v.waiting as usize;
     let state = v.durable;
     let discarded = v.discarded;
-    log::copy(current, durable);
-    let end = waiting.len();
-    words::fill_zero(waiting, 0, end);
+    let logs = rows::start(places, places, 2 + (p + 7) / 8);
+    let from = 16 * logs;
+    let end = disk.len();
+    words::close_gap(disk, 0, from, 8 * logs);
+    waiting::clear(&mut disk[from..end], m, p);
     StorageState {
         current: state,
         durable: state,

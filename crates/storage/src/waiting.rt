@@ -4,14 +4,14 @@
 ghost use mathlib.Core.Path.{_≡_};
 ghost use Prim.Native.Nat.{_+_, _-_, _*_, _≤_, _<_};
 ghost use lib.ListN.{length};
-ghost use Rattle.units.specs.Types.{noop, command};
+ghost use Rattle.units.specs.Types.{payloadOf};
 ghost use Rattle.laws.specs.Decides.{Decides};
 ghost use Rattle.words.specs.Words.{W};
 ghost use Rattle.layout.specs.Code.{okN};
 ghost use Rattle.layout.specs.Tables.{Tabled, Becomes, append};
 ghost use Rattle.layout.specs.Marked.{wordsFor};
 ghost use Rattle.storage.specs.Storage.{writeHardState, writePut, writeTruncate};
-ghost use Rattle.storage.specs.Waiting.{waiting, waitingIn, plainMark, withinMark, Pushes, Shaped, Shows};
+ghost use Rattle.storage.specs.Waiting.{waiting, waitingIn, plainMark, withinMark, Pushes, Shaped, Shows, emptied};
 use crate::HardState;
 use layout::marked;
 use layout::rows;
@@ -20,16 +20,13 @@ use units::NodeId;
 use units::NodeOption;
 use units::Term;
 
-// A write without the bytes of its command.
+// A write without the bytes of its command: a put has its payload's kind, 0 or 1, and the length of a command.
 pub enum Shape {
     HardState(HardState),
-    PutNoop {
+    Put {
         index: LogIndex,
         term: Term,
-    },
-    PutCommand {
-        index: LogIndex,
-        term: Term,
+        kind: u64,
         length: usize,
     },
     Truncate(LogIndex),
@@ -64,21 +61,21 @@ pub fn push_hard_state(s: &mut [u8], m: usize, p: usize, state: HardState)
     }
 }
 
-// One more write: a noop put at an index.
-pub fn push_noop(s: &mut [u8], m: usize, p: usize, index: LogIndex, term: Term)
+// One more write: an entry put at an index; its payload is that of a kind and the bytes of src, of which a noop has none.
+pub fn push_put(
+    s: &mut [u8],
+    m: usize,
+    p: usize,
+    index: LogIndex,
+    term: Term,
+    kind: u64,
+    src: &[u8],
+)
     requires { ⌜ (p ≤ 256) × (8 * (m * (3 + wordsFor p) + (3 + wordsFor p)) ≤ length (now s)) ⌝ }
-    ensures { λ _. ⌜ Becomes (waiting p) m (m + 1) (now (s .entry)) (now (s .exit)) (append (writePut index (record { term = term; payload = noop }))) ⌝ }
+    requires { ⌜ (kind ≤ 1) × (length (now src) ≤ 256 * kind) × (length (now src) ≤ p) ⌝ }
+    ensures { λ _. ⌜ Becomes (waiting p) m (m + 1) (now (s .entry)) (now (s .exit)) (append (writePut index (record { term = term; payload = payloadOf kind (now (src .entry)) }))) ⌝ }
 {
-    let none = [0u8; 0];
-    push(s, m, p, 3, &none, index.0, term.0);
-}
-
-// One more write: a command of the bytes of src put at an index.
-pub fn push_command(s: &mut [u8], m: usize, p: usize, index: LogIndex, term: Term, src: &[u8])
-    requires { ⌜ (p ≤ 256) × (8 * (m * (3 + wordsFor p) + (3 + wordsFor p)) ≤ length (now s)) × (length (now src) ≤ p) ⌝ }
-    ensures { λ _. ⌜ Becomes (waiting p) m (m + 1) (now (s .entry)) (now (s .exit)) (append (writePut index (record { term = term; payload = command (now (src .entry)) }))) ⌝ }
-{
-    push(s, m, p, 4 + src.len() as u64, src, index.0, term.0);
+    push(s, m, p, 3 + kind + src.len() as u64, src, index.0, term.0);
 }
 
 // One more write: a truncation.
@@ -90,10 +87,22 @@ pub fn push_truncate(s: &mut [u8], m: usize, p: usize, from: LogIndex)
     push(s, m, p, 2, &none, from.0, 0);
 }
 
+// ---- no write waits
+
+// Removes the m writes. What follows them is zero already.
+pub fn clear(s: &mut [u8], m: usize, p: usize)
+    requires { ⌜ (p ≤ 256) × (8 * (m * (3 + wordsFor p)) ≤ length (now s)) ⌝ }
+    ensures { λ _. ⌜ Becomes (waiting p) m 0 (now (s .entry)) (now (s .exit)) emptied ⌝ }
+{
+    let end = rows::start(m, m, 3 + (p + 7) / 8);
+    words::fill_zero(s, 0, 8 * end);
+}
+
 // ---- reading
 
 // What a row says by its numbers.
 fn row_shape(p: usize, mark: u64, a: u64, b: u64) -> Shape
+    requires { ⌜ p ≤ 256 ⌝ }
     ensures { λ r. ⌜ Shaped p mark a b r ⌝ }
 {
     if mark < 1 {
@@ -116,23 +125,30 @@ fn row_shape(p: usize, mark: u64, a: u64, b: u64) -> Shape
 
 // What a row says that is a put.
 fn put_shape(p: usize, mark: u64, index: LogIndex, term: Term) -> Shape
-    requires { ⌜ 3 ≤ mark ⌝ }
+    requires { ⌜ (p ≤ 256) × (3 ≤ mark) ⌝ }
     ensures { λ r. ⌜ Shaped p mark (index .0) (term .0) r ⌝ }
 {
     if mark < 4 {
-        return Shape::PutNoop { index, term };
+        return Shape::Put {
+            index,
+            term,
+            kind: 0,
+            length: 0,
+        };
     }
     let k = (mark - 4) as usize;
     if k <= p {
-        Shape::PutCommand {
+        Shape::Put {
             index,
             term,
+            kind: 1,
             length: k,
         }
     } else {
-        Shape::PutCommand {
+        Shape::Put {
             index,
             term,
+            kind: 1,
             length: 0,
         }
     }

@@ -1,16 +1,17 @@
-// The writes of an input (sim/storage.rs): seen at once in the current log and hard state, and kept waiting for the next sync. cap is the
-// count of rows that the region of waiting writes has, n that of the log's places, p the greatest length of a command.
+// The writes of an input (sim/storage.rs): seen at once in the current log and hard state, and kept waiting for the next sync.
 ghost use mathlib.Core.Path.{_≡_};
-ghost use Prim.Native.Nat.{_+_, _*_, _≤_};
+ghost use Prim.Native.Nat.{_+_, _*_, _≤_, _<_};
 ghost use lib.ListN.{length};
 ghost use Rattle.laws.specs.Bools.{pick};
-ghost use Rattle.units.specs.Types.{noop, command};
+ghost use Rattle.units.specs.Types.{payloadOf};
 ghost use Rattle.layout.specs.Marked.{wordsFor};
 ghost use Rattle.storage.specs.Storage.{writeHardState, writePut, writeTruncate};
-ghost use Rattle.storage.specs.Writes.{Writes, WritesState, replacedBy};
+ghost use Rattle.storage.specs.Stores.{diskBytes};
+ghost use Rattle.storage.specs.Writes.{Writes, Makes, Replaces, replacedBy};
 use crate::HardState;
 use crate::StorageState;
 use crate::waiting;
+use layout::rows;
 use log::Place;
 use units::LogIndex;
 use units::Term;
@@ -27,21 +28,25 @@ pub enum Written {
 // Replaces the hard state.
 pub fn set_hard_state(
     v: StorageState,
-    writes: &mut [u8],
-    cap: usize,
+    disk: &mut [u8],
+    places: usize,
+    rows: usize,
     p: usize,
     state: HardState,
 ) -> Written
-    requires { ⌜ (p ≤ 256) × (8 * (cap * (3 + wordsFor p)) ≤ length (now writes)) ⌝ }
-    ensures { λ r. ⌜ WritesState p cap v (writeHardState state) r (now (writes .entry)) (now (writes .exit)) ⌝ }
+    requires { ⌜ (p ≤ 256) × (length (now disk) ≡ diskBytes p places rows) ⌝ }
+    ensures { λ r. ⌜ Writes p places rows v (writeHardState state) r (now (disk .entry)) (now (disk .exit)) ⌝ }
 {
     let count = v.waiting;
     let durable = v.durable;
     let discarded = v.discarded;
-    if cap <= count as usize {
+    if rows <= count as usize {
         return Written::Full;
     }
-    waiting::push_hard_state(writes, count as usize, p, state);
+    let logs = rows::start(places, places, 2 + (p + 7) / 8);
+    let from = 16 * logs;
+    let end = disk.len();
+    waiting::push_hard_state(&mut disk[from..end], count as usize, p, state);
     Written::Done(StorageState {
         current: state,
         durable,
@@ -68,73 +73,80 @@ fn replaced(place: Place, same: bool) -> u64
     }
 }
 
-// Puts a noop at an index.
-pub fn put_noop(
-    v: StorageState,
-    log: &mut [u8],
-    writes: &mut [u8],
+// How many entries of a log a put discards.
+fn replaces(
+    log: &[u8],
     n: usize,
-    cap: usize,
     p: usize,
     index: LogIndex,
     term: Term,
-) -> Written
-    requires { ⌜ (1 ≤ index .0) × (index .0 ≤ n) × (p ≤ 256) × (8 * (n * (2 + wordsFor p)) ≤ length (now log)) × (8 * (cap * (3 + wordsFor p)) ≤ length (now writes)) ⌝ }
-    ensures { λ r. ⌜ Writes p n cap v (writePut index (record { term = term; payload = noop })) r (now (log .entry)) (now (log .exit)) (now (writes .entry)) (now (writes .exit)) ⌝ }
+    kind: u64,
+    src: &[u8],
+) -> u64
+    requires { ⌜ (p ≤ 256) × (8 * (n * (2 + wordsFor p)) ≤ length (now log)) ⌝ }
+    requires { ⌜ (kind ≤ 1) × (length (now src) ≤ 256 * kind) × (length (now src) ≤ p) ⌝ }
+    ensures { λ r. ⌜ Replaces p n (writePut index (record { term = term; payload = payloadOf kind (now (src .entry)) })) r (now (log .entry)) ⌝ }
 {
-    let count = v.waiting;
-    let current = v.current;
-    let durable = v.durable;
-    let discarded = v.discarded;
-    if cap <= count as usize {
-        return Written::Full;
-    }
     let place = log::entry(log, n, p, index);
-    let same = log::holds_noop(log, n, p, index);
-    let d = replaced(place, same);
-    if 18446744073709551615 - d < discarded {
-        return Written::Past64Bits;
-    }
-    log::put_noop(log, n, p, index, term);
-    waiting::push_noop(writes, count as usize, p, index, term);
-    Written::Done(StorageState {
-        current,
-        durable,
-        waiting: count + 1,
-        discarded: discarded + d,
-    })
+    let same = log::holds(log, n, p, index, kind, src);
+    replaced(place, same)
 }
 
-// Puts a command of the bytes of src at an index.
-pub fn put_command(
+// Puts an entry in the current log, and as one more waiting write.
+fn put_entry(
+    disk: &mut [u8],
+    places: usize,
+    rows: usize,
+    p: usize,
+    m: usize,
+    index: LogIndex,
+    term: Term,
+    kind: u64,
+    src: &[u8],
+)
+    requires { ⌜ (p ≤ 256) × (length (now disk) ≡ diskBytes p places rows) × (m < rows) × (1 ≤ index .0) × (index .0 ≤ places) ⌝ }
+    requires { ⌜ (kind ≤ 1) × (length (now src) ≤ 256 * kind) × (length (now src) ≤ p) ⌝ }
+    ensures { λ _. ⌜ Makes p places rows m (writePut index (record { term = term; payload = payloadOf kind (now (src .entry)) })) (now (disk .entry)) (now (disk .exit)) ⌝ }
+{
+    let logs = rows::start(places, places, 2 + (p + 7) / 8);
+    let to = 8 * logs;
+    let from = 16 * logs;
+    let end = disk.len();
+    log::put(&mut disk[0..to], places, p, index, term, kind, src);
+    waiting::push_put(&mut disk[from..end], m, p, index, term, kind, src);
+}
+
+// Puts an entry at an index; its payload is that of a kind and the bytes of src, of which a noop has none.
+pub fn put(
     v: StorageState,
-    log: &mut [u8],
-    writes: &mut [u8],
-    n: usize,
-    cap: usize,
+    disk: &mut [u8],
+    places: usize,
+    rows: usize,
     p: usize,
     index: LogIndex,
     term: Term,
+    kind: u64,
     src: &[u8],
 ) -> Written
-    requires { ⌜ (1 ≤ index .0) × (index .0 ≤ n) × (p ≤ 256) × (8 * (n * (2 + wordsFor p)) ≤ length (now log)) × (8 * (cap * (3 + wordsFor p)) ≤ length (now writes)) × (length (now src) ≤ p) ⌝ }
-    ensures { λ r. ⌜ Writes p n cap v (writePut index (record { term = term; payload = command (now (src .entry)) })) r (now (log .entry)) (now (log .exit)) (now (writes .entry)) (now (writes .exit)) ⌝ }
+    requires { ⌜ (p ≤ 256) × (length (now disk) ≡ diskBytes p places rows) × (1 ≤ index .0) × (index .0 ≤ places) ⌝ }
+    requires { ⌜ (kind ≤ 1) × (length (now src) ≤ 256 * kind) × (length (now src) ≤ p) ⌝ }
+    ensures { λ r. ⌜ Writes p places rows v (writePut index (record { term = term; payload = payloadOf kind (now (src .entry)) })) r (now (disk .entry)) (now (disk .exit)) ⌝ }
 {
     let count = v.waiting;
     let current = v.current;
     let durable = v.durable;
     let discarded = v.discarded;
-    if cap <= count as usize {
+    if rows <= count as usize {
         return Written::Full;
     }
-    let place = log::entry(log, n, p, index);
-    let same = log::holds_command(log, n, p, index, src);
-    let d = replaced(place, same);
+    let logs = rows::start(places, places, 2 + (p + 7) / 8);
+    let to = 8 * logs;
+    let d = replaces(&disk[0..to], places, p, index, term, kind, src);
     if 18446744073709551615 - d < discarded {
         return Written::Past64Bits;
     }
-    log::put_command(log, n, p, index, term, src);
-    waiting::push_command(writes, count as usize, p, index, term, src);
+    let m = count as usize;
+    put_entry(disk, places, rows, p, m, index, term, kind, src);
     Written::Done(StorageState {
         current,
         durable,
@@ -143,32 +155,35 @@ pub fn put_command(
     })
 }
 
-// Removes every entry at `from` or later.
+// Removes every entry at an index or later.
 pub fn truncate(
     v: StorageState,
-    log: &mut [u8],
-    writes: &mut [u8],
-    n: usize,
-    cap: usize,
+    disk: &mut [u8],
+    places: usize,
+    rows: usize,
     p: usize,
-    from: LogIndex,
+    index: LogIndex,
 ) -> Written
-    requires { ⌜ (p ≤ 256) × (8 * (n * (2 + wordsFor p)) ≤ length (now log)) × (8 * (cap * (3 + wordsFor p)) ≤ length (now writes)) ⌝ }
-    ensures { λ r. ⌜ Writes p n cap v (writeTruncate from) r (now (log .entry)) (now (log .exit)) (now (writes .entry)) (now (writes .exit)) ⌝ }
+    requires { ⌜ (p ≤ 256) × (length (now disk) ≡ diskBytes p places rows) ⌝ }
+    ensures { λ r. ⌜ Writes p places rows v (writeTruncate index) r (now (disk .entry)) (now (disk .exit)) ⌝ }
 {
     let count = v.waiting;
     let current = v.current;
     let durable = v.durable;
     let discarded = v.discarded;
-    if cap <= count as usize {
+    if rows <= count as usize {
         return Written::Full;
     }
-    let d = log::removed(log, n, p, from);
+    let logs = rows::start(places, places, 2 + (p + 7) / 8);
+    let to = 8 * logs;
+    let from = 16 * logs;
+    let end = disk.len();
+    let d = log::removed(&disk[0..to], places, p, index);
     if 18446744073709551615 - d < discarded {
         return Written::Past64Bits;
     }
-    log::truncate(log, n, p, from);
-    waiting::push_truncate(writes, count as usize, p, from);
+    log::truncate(&mut disk[0..to], places, p, index);
+    waiting::push_truncate(&mut disk[from..end], count as usize, p, index);
     Written::Done(StorageState {
         current,
         durable,

@@ -18,10 +18,14 @@ plus t d = pick (ltb (t .0 + d .0) (2 ^ 64)) (Fits (record { 0 = t .0 + d .0 }))
 unfoldable pub minus : SimTime → SimTime → Duration
 minus t earlier = record { 0 = t .0 - earlier .0 }
 
--- Document 01's number for a sum: 0 where it fits, else question 10's.
-abbrev pub number : TimeSum → ℕ
-number (Fits t) = 0
-number Past64Bits = 10
+-- Document 01's number for what a sum answers.
+abbrev pub sumNumber : TimeSum → ℕ
+sumNumber (Fits t) = 0
+sumNumber Past64Bits = 10
+
+-- Question 10 of a sum: it fits 64 bits.
+unfoldable pub plusNumber : SimTime → Duration → ℕ
+plusNumber t d = pick (ltb (t .0 + d .0) (2 ^ 64)) 0 10
 
 pub plus-fits : (t : SimTime) (d : Duration) → t .0 + d .0 < 2 ^ 64 → Fits (record { 0 = t .0 + d .0 }) ≡ plus t d
 unfolding plus
@@ -30,6 +34,14 @@ plus-fits t d h = simp (lt-ltb (t .0 + d .0) (2 ^ 64) h)
 pub plus-past : (t : SimTime) (d : Duration) → 2 ^ 64 ≤ t .0 + d .0 → Past64Bits ≡ plus t d
 unfolding plus
 plus-past t d h = simp (le-ltb (t .0 + d .0) (2 ^ 64) h)
+
+pub number-fits : (t : SimTime) (d : Duration) → t .0 + d .0 < 2 ^ 64 → 0 ≡ plusNumber t d
+unfolding plusNumber
+number-fits t d h = simp (lt-ltb (t .0 + d .0) (2 ^ 64) h)
+
+pub number-past : (t : SimTime) (d : Duration) → 2 ^ 64 ≤ t .0 + d .0 → 10 ≡ plusNumber t d
+unfolding plusNumber
+number-past t d h = simp (le-ltb (t .0 + d .0) (2 ^ 64) h)
 
 pub minus-later : (t earlier : SimTime) → t .0 < earlier .0 → record { 0 = 0 } ≡ minus t earlier
 unfolding minus

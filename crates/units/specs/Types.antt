@@ -3,6 +3,8 @@ use mathlib.Core.Bool.{Bool, true, false}
 use mathlib.Core.List.{List}
 use mathlib.Core.Option.{Option, none, some}
 use Prim.Native.Nat.{ℕ}
+use lib.Dec.{eqb}
+use Rattle.laws.specs.Bools.{pick}
 use Rattle.laws.specs.Lists.{sameList}
 use Rattle.units.specs.declared.Term.{Term}
 use Rattle.units.specs.declared.TermOption.{TermOption}
@@ -17,6 +19,10 @@ termOption (Some term) = some term
 pub data Payload : Type 0 where
   noop : Payload
   command : List ℕ → Payload
+
+-- The payload of a kind and bytes: 0 is a noop, 1 a command.
+unfoldable pub payloadOf : ℕ → List ℕ → Payload
+payloadOf kind bytes = pick (eqb kind 0) noop (command bytes)
 
 -- One entry of the log.
 pub record Entry : Type 0 where

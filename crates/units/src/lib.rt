@@ -1,6 +1,6 @@
 // Identifiers, terms, log indexes and simulated time (types.rs, time.rs): numbers that never stand in for each other.
 ghost use mathlib.Core.Path.{_≡_};
-ghost use Rattle.units.specs.Time.{plus, minus};
+ghost use Rattle.units.specs.Time.{plus, minus, sumNumber, plusNumber};
 
 // Identifies a server.
 pub struct NodeId(pub u64);
@@ -35,10 +35,22 @@ pub enum TimeSum {
     Past64Bits,
 }
 
+impl TimeSum {
+    // Document 01's number: 0 where the sum fits, else question 10's.
+    pub fn number(self) -> u64
+        ensures { λ r. ⌜ r ≡ sumNumber self ⌝ }
+    {
+        match self {
+            TimeSum::Fits(_) => 0,
+            TimeSum::Past64Bits => 10,
+        }
+    }
+}
+
 impl SimTime {
     // The time `duration` after this one.
     pub fn plus(self, duration: Duration) -> TimeSum
-        ensures { λ r. ⌜ r ≡ plus self duration ⌝ }
+        ensures { λ r. ⌜ (r ≡ plus self duration) × (sumNumber r ≡ plusNumber self duration) ⌝ }
     {
         let t = self.0;
         let d = duration.0;

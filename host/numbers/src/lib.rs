@@ -274,14 +274,18 @@ pub fn chaos_of(chaos: &Chaos) -> ChaosConfig {
     }
 }
 
-/// A schedule's list: of each entry its time, its fault, the two numbers and the groups.
-pub fn schedule(schedule: &[(SimTime, Fault)]) -> Vec<[u64; 5]> {
+/// A schedule's list: of each entry its time, its fault and the two numbers. A partition's first
+/// number is its groups, one byte each.
+pub fn schedule(schedule: &[(SimTime, Fault)]) -> Vec<[u64; 4]> {
     let entry = |(at, scheduled): &(SimTime, Fault)| {
         let (kind, first, second, groups) = fault(scheduled);
         let mut masks = [0; 8];
         masks[..groups.len()].copy_from_slice(&groups);
-        let groups = u64::from_le_bytes(masks);
-        [leaves::nanos(*at), kind, first, second, groups]
+        let first = match kind {
+            kinds::fault::PARTITION => u64::from_le_bytes(masks),
+            _ => first,
+        };
+        [leaves::nanos(*at), kind, first, second]
     };
     schedule.iter().map(entry).collect()
 }

@@ -3,7 +3,7 @@
 use std::collections::BTreeMap;
 
 use consensus::{Consensus, NodeId, Payload, RequestId, Rng, Timer};
-use port::{Chaos, Done, Drawn, Input, Opened, Sealed, Settings, Stepped, kinds};
+use port::{Chaos, Done, Drawn, ENTRY, Input, Opened, Sealed, Settings, Stepped, kinds};
 use sim::queue::{Note, take_notes};
 use sim::{Fault, SimTime, Simulation, Stream, chaos_schedule, leaves, stream_seed};
 use trace::{Answer, Call, Exchange, Trace};
@@ -15,6 +15,9 @@ use crate::recorded::{Kind, Recorded, Seen, take_seen};
 
 /// The number of the reference's event `Fault`.
 const FAULT_EVENT: u64 = 3;
+
+/// Bytes that a schedule's list has behind its entries: a place, and a part of one.
+const SPARE: usize = ENTRY + 8;
 
 /// A run that is over.
 #[derive(Debug, Clone, PartialEq, Eq)]
@@ -130,16 +133,16 @@ impl<N: Consensus> Run<N> {
         let servers = ids.iter().map(|id| id.0 as u8).collect();
         let schedule = chaos_schedule(ids, &numbers::chaos_of(chaos), rng);
         let entries = numbers::schedule(&schedule);
-        let places = entries.len() as u64;
+        let count = entries.len();
         let call = Call::ChaosSchedule {
             servers,
             chaos: *chaos,
             generator: before,
-            places,
+            length: (count * ENTRY + SPARE) as u64,
         };
         let drawn = Drawn {
             refusal: 0,
-            count: places,
+            count: count as u64,
         };
         let left = [numbers::generator(rng)];
         let words = left.iter().chain(entries.iter().flatten());

@@ -18,7 +18,7 @@ pub use settings::{Chaos, Limits, Settings, area_length};
 pub use words::Words;
 
 /// Bytes of an entry in a schedule's list.
-pub const ENTRY: usize = 40;
+pub const ENTRY: usize = 32;
 
 /// The calls. `area` is the memory that holds the state, the same at each call of a run.
 pub trait Port {
@@ -142,8 +142,9 @@ pub trait Port {
     /// The run as a whole.
     fn read_run(&mut self, area: &[u8]) -> Run;
 
-    /// Draws a schedule of faults for the servers, one byte each. `list` gets [`ENTRY`] bytes an
-    /// entry: time, fault, the two numbers and the groups, as words.
+    /// Draws a schedule of faults for the servers, one byte each. `list`, of any length, gets
+    /// [`ENTRY`] bytes an entry: time, fault and the two numbers, as words. A partition's first
+    /// number is its groups, one byte a group. What the list has behind the entries stays.
     fn chaos_schedule(
         &mut self,
         servers: &[u8],

@@ -98,7 +98,7 @@ calls! {
     30 ReadConfirmation { place: u64 } -> Confirmation;
     31 ReadViolation { place: u64 } -> Violation;
     32 ReadRun {} -> Run;
-    33 ChaosSchedule { servers: Vec<u8>, chaos: Chaos, generator: u64, places: u64 } -> Drawn;
+    33 ChaosSchedule { servers: Vec<u8>, chaos: Chaos, generator: u64, length: u64 } -> Drawn;
 }
 
 impl Call {

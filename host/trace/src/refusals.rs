@@ -401,11 +401,11 @@ fn schedules() -> Vec<(Call, u64)> {
         mean_gap: 100_000_000,
         max_duration: 0,
     };
-    let schedule = |servers: &[u8], chaos, places| Call::ChaosSchedule {
+    let schedule = |servers: &[u8], chaos, length| Call::ChaosSchedule {
         servers: servers.to_vec(),
         chaos,
         generator: 7,
-        places,
+        length,
     };
     let late = Chaos {
         end: (1 << 62) + 1,
@@ -421,13 +421,14 @@ fn schedules() -> Vec<(Call, u64)> {
     };
     let over = Chaos { end: 0, ..chaos };
     vec![
-        (schedule(&[], late, 9), refusal::SERVERS),
-        (schedule(&[1; 9], chaos, 9), refusal::SERVERS),
-        (schedule(&[1, 9], late, 9), refusal::SERVER),
-        (schedule(&[0, 1], chaos, 9), refusal::SERVER),
-        (schedule(&[1, 2], late, 9), refusal::RANGE),
-        (schedule(&[1, 2], slow, 9), refusal::RANGE),
-        (schedule(&[1], crowded, 9), refusal::ROOM),
+        (schedule(&[], late, 300), refusal::SERVERS),
+        (schedule(&[1; 9], chaos, 300), refusal::SERVERS),
+        (schedule(&[1, 9], late, 300), refusal::SERVER),
+        (schedule(&[0, 1], chaos, 300), refusal::SERVER),
+        (schedule(&[1, 2], late, 300), refusal::RANGE),
+        (schedule(&[1, 2], slow, 300), refusal::RANGE),
+        (schedule(&[1], crowded, 300), refusal::ROOM),
+        (schedule(&[1, 2, 3], over, 31), refusal::ROOM),
         (schedule(&[1, 2, 3], over, 0), refusal::ROOM),
     ]
 }

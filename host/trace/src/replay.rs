@@ -2,7 +2,7 @@
 
 use std::fmt;
 
-use port::{ENTRY, Limits, Port, area_length};
+use port::{Limits, Port, area_length};
 
 use crate::{Answer, Call, Trace};
 
@@ -131,7 +131,7 @@ impl Lent {
         let refused = expected.numbers.refusal() != 0;
         let before = refused.then(|| self.area.clone());
         let buffer = match call {
-            Call::ChaosSchedule { places, .. } => *places as usize * ENTRY,
+            Call::ChaosSchedule { length, .. } => *length as usize,
             _ => self.longest,
         };
         self.buffer.clear();

@@ -1,9 +1,9 @@
--- Made by tools/uniform from proofs.txt, not by hand: 5625d44fc90babc6
+-- Made by tools/uniform from proofs.txt, not by hand: 8d2c823e215e5478
 use Prim.Native.Nat.{_-_}
 use Rattle.words.specs.Words.{W}
 use Rattle.layout.specs.TableLaws.{Rowed}
 use Rattle.checks.specs.Entries.{seenIn}
-use Rattle.checks.specs.EntryLaws.{entry-rows}
+use Rattle.checks.specs.EntryLaws.{index-rows}
 use borrow.Author.Needs.{needs}
 use Rattle.checks.proofs.entries.check_entries.Statement.{statement}
 use Rattle.checks.proofs.entries.check_entries.Tie as tie
@@ -20,19 +20,19 @@ check-entries-spec =
     (tie.spec
     Inv-loop
     μ-loop
-    (λ c. search (entry-rows, needs))  -- add-w
-    (λ c. search (entry-rows, needs))  -- add-w-2
-    (λ c. search (entry-rows, needs))  -- loop-holds
-    (λ c κs. search (entry-rows, needs))  -- start-of-requires
-    (λ c. search (entry-rows, needs))  -- mul-a
-    (λ c. search (entry-rows, needs))  -- add-e
-    (λ c. search (entry-rows, needs))  -- mul-e
-    (λ c. search (entry-rows, needs))  -- sub-check-entry
-    (λ c. search (entry-rows, needs))  -- part-check-entry-start
-    (λ c. search (entry-rows, needs))  -- part-check-entry-end
-    (λ c κs. search (entry-rows, needs))  -- check-entry-requires
-    (λ c. search (entry-rows, needs))  -- returns
-    (λ c. search (entry-rows, needs))  -- add-i
-    (λ c. search (entry-rows, needs))  -- loop-less
-    (λ c. search (entry-rows, needs))  -- loop-again
-    (λ c. search (entry-rows, needs)))  -- returns-2
+    (λ c. search (index-rows, needs))  -- add-w
+    (λ c. search (index-rows, needs))  -- add-w-2
+    (λ c. search (index-rows, needs))  -- loop-holds
+    (λ c κs. search (index-rows, needs))  -- start-of-requires
+    (λ c. search (index-rows, needs))  -- mul-a
+    (λ c. search (index-rows, needs))  -- add-e
+    (λ c. search (index-rows, needs))  -- mul-e
+    (λ c. search (index-rows, needs))  -- sub-check-entry
+    (λ c. search (index-rows, needs))  -- part-check-entry-start
+    (λ c. search (index-rows, needs))  -- part-check-entry-end
+    (λ c κs. search (index-rows, needs))  -- check-entry-requires
+    (λ c. search (index-rows, needs))  -- returns
+    (λ c. search (index-rows, needs))  -- add-i
+    (λ c. search (index-rows, needs))  -- loop-less
+    (λ c. search (index-rows, needs))  -- loop-again
+    (λ c. search (index-rows, needs)))  -- returns-2

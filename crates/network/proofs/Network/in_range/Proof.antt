@@ -1,4 +1,4 @@
--- Made by tools/uniform from proofs.txt, not by hand: 550e20a090b5cace
+-- Made by tools/uniform from proofs.txt, not by hand: 66b3772edafad185
 use Rattle.network.proofs.Typed.{typed-in-range}
 use borrow.Author.Needs.{needs}
 use Rattle.network.proofs.Network.in_range.Statement.{statement}
@@ -8,4 +8,5 @@ pub in-range-spec : {M : Type 1} → statement M
 in-range-spec =
     tie.close
     (tie.spec
+    (λ c κs. search (typed-in-range, needs))  -- links-within-requires
     (λ c. search (typed-in-range, needs)))  -- returns

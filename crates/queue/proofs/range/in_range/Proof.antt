@@ -1,4 +1,4 @@
--- Made by tools/uniform from proofs.txt, not by hand: b81523b252a28ac7
+-- Made by tools/uniform from proofs.txt, not by hand: 3ca698834b21629a
 use Rattle.queue.specs.RangeLaws.{ranges}
 use borrow.Author.Needs.{needs}
 use Rattle.queue.proofs.range.in_range.Statement.{statement}
@@ -10,8 +10,8 @@ in-range-spec =
     (tie.spec
     (λ c. search (ranges, needs))  -- enum-known-e
     (λ c. search (ranges, needs))  -- enum-known-e-2
-    (λ c κs. search (ranges, needs))  -- id-fits-requires
-    (λ c κs. search (ranges, needs))  -- id-fits-requires-2
+    (λ c κs. search (ranges, needs))  -- in-cluster-requires
+    (λ c κs. search (ranges, needs))  -- in-cluster-requires-2
     (λ c. search (ranges, needs))  -- enum-known-e-3
     (λ c. search (ranges, needs))  -- enum-known-e-4
     (λ c κs. search (ranges, needs))  -- fault-in-range-requires

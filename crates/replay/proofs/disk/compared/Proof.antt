@@ -1,4 +1,4 @@
--- Made by tools/uniform from proofs.txt, not by hand: e09b790ae08afbe8
+-- Made by tools/uniform from proofs.txt, not by hand: e41d20b51c3b4cbf
 use Prim.Native.Nat.{_-_, _^_, _≤_, _<_}
 use mathlib.Core.Path.{_≡_}
 use lib.ListN.{length}
@@ -7,10 +7,10 @@ use Rattle.replay.proofs.disk.compared.Statement.{statement}
 use Rattle.replay.proofs.disk.compared.Tie as tie
 
 abbrev Inv-loop : tie.InvT-loop
-Inv-loop s current₀ durable₀ waiting₀ v₀ tally₀ at₀ current durable waiting v tally at = (at ≤ length s) × (length s < 2 ^ 63) × (tally .rows ≤ at) × (tally .differ ≤ at) × (length current ≡ 384) × (length durable ≡ 384) × (length waiting ≡ 512)
+Inv-loop s disk₀ v₀ tally₀ at₀ disk v tally at = (at ≤ length s) × (length s < 2 ^ 63) × (tally .rows ≤ at) × (tally .differ ≤ at) × (length disk ≡ 1280)
 
 abbrev μ-loop : tie.MeasureT-loop
-μ-loop s current₀ durable₀ waiting₀ v₀ tally₀ at₀ current durable waiting v tally at = length s - at
+μ-loop s disk₀ v₀ tally₀ at₀ disk v tally at = length s - at
 
 pub compared-spec : {M : Type 1} → statement M
 compared-spec =
@@ -31,6 +31,4 @@ compared-spec =
     (λ c. search needs)  -- loop-less
     (λ c. search needs)  -- loop-again
     (λ c. search needs)  -- same-length
-    (λ c. search needs)  -- same-length-2
-    (λ c. search needs)  -- same-length-3
     (λ c. search needs))  -- returns

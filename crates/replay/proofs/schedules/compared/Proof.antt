@@ -1,4 +1,4 @@
--- Made by tools/uniform from proofs.txt, not by hand: 621df3a20dd20a8f
+-- Made by tools/uniform from proofs.txt, not by hand: 9ed2009988e98745
 use Prim.Native.Nat.{_-_, _≤_}
 use mathlib.Core.Path.{_≡_}
 use lib.ListN.{length}
@@ -7,10 +7,10 @@ use Rattle.replay.proofs.schedules.compared.Statement.{statement}
 use Rattle.replay.proofs.schedules.compared.Tie as tie
 
 abbrev Inv-loop : tie.InvT-loop
-Inv-loop s list₀ entries₀ read₀ tally₀ at₀ list entries read tally at = (at ≤ length s) × (tally .rows ≤ at) × (tally .differ ≤ at) × (length list ≡ 2048)
+Inv-loop s list₀ size₀ read₀ tally₀ at₀ list size read tally at = (at ≤ length s) × (tally .rows ≤ at) × (tally .differ ≤ at) × (length list ≡ 2048) × (size ≤ 2048)
 
 abbrev μ-loop : tie.MeasureT-loop
-μ-loop s list₀ entries₀ read₀ tally₀ at₀ list entries read tally at = length s - at
+μ-loop s list₀ size₀ read₀ tally₀ at₀ list size read tally at = length s - at
 
 pub compared-spec : {M : Type 1} → statement M
 compared-spec =

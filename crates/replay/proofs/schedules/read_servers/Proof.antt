@@ -1,4 +1,4 @@
--- Made by tools/uniform from proofs.txt, not by hand: 64288e853121bc28
+-- Made by tools/uniform from proofs.txt, not by hand: 4587a40c8e211b60
 use Prim.Native.Nat.{_-_, _≤_}
 use mathlib.Core.Path.{_≡_}
 use lib.ListN.{length}
@@ -21,7 +21,7 @@ read-servers-spec =
     (λ c. search needs)  -- loop-holds
     (λ c. search needs)  -- same-length
     (λ c. search needs)  -- returns
-    (λ c. search needs)  -- mul-ids
+    (λ c. search needs)  -- cast-ids
     (λ c. search needs)  -- slice-write-ids
     (λ c. search needs)  -- add-n
     (λ c. search needs)  -- loop-less

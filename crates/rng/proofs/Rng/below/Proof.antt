@@ -2,7 +2,9 @@
 use mathlib.Core.Path.{refl}
 use mathlib.Core.List.{[], _∷_}
 use base.Logic.{emp, id⊢}
-use contract.Monad.{factI}
+use contract.Monad.{factI, fact-use}
+use denote.Ref.{now}
+use Rattle.rng.specs.Laws.{below-number}
 use Rattle.walks.proofs.Close.{gives}
 use Rattle.walks.proofs.Thin.{thin1-proved}
 use Rattle.rng.specs.Rng as specs
@@ -20,5 +22,7 @@ unfolding code.routine
 below-spec 𝓤 H 𝓜 𝓖 𝓡 =
     thin1-proved rngₚ boundedₚ drawBelow u64ₚ 𝓤 H 𝓜 𝓖 𝓡 code.env key.name drawn-def.name (below.clauses 𝓤 H (𝓖 .A) (𝓜 .mem) (𝓡 .run)) (code.unfolded 𝓤 H 𝓜 𝓡)
     (λ h n. Unit {0}) (λ κs a g. factI 𝓤 (Unit {0}) (emp 𝓤) tt) specs.below
-    (λ h n p ok okn. gives 𝓤 H 𝓜 𝓖 𝓡 code.env (rngₚ ∷ u64ₚ ∷ []) drawnBelowₚ (drawn.clauses 𝓤 H (𝓖 .A) (𝓜 .mem) (𝓡 .run)) drawn-def.name drawn-def.routine code.calls-rng·drawn-below (drawn-thm.met 𝓤 H 𝓜 𝓖 𝓡) (h, (n, tt)) tt (specs.below h n) (λ r e. id⊢ 𝓤 _) (ok, (okn, tt)) (id⊢ 𝓤 (emp 𝓤)))
-    (λ κs a g. factI 𝓤 _ (emp 𝓤) (refl, refl))
+    (λ h n p ok okn. gives 𝓤 H 𝓜 𝓖 𝓡 code.env (rngₚ ∷ u64ₚ ∷ []) drawnBelowₚ (drawn.clauses 𝓤 H (𝓖 .A) (𝓜 .mem)
+    (𝓡 .run)) drawn-def.name drawn-def.routine code.calls-rng·drawn-below (drawn-thm.met 𝓤 H 𝓜 𝓖 𝓡) (h, (n, tt)) tt (specs.below h n)
+    (λ r e. fact-use 𝓤 _ (id⊢ 𝓤 _) (λ p. factI 𝓤 _ _ (p .0))) (ok, (okn, tt)) (id⊢ 𝓤 (emp 𝓤)))
+    (λ κs a g. factI 𝓤 _ (emp 𝓤) (refl, refl, below-number (now (a .0)) (a .1 .0)))

@@ -1,4 +1,4 @@
--- Made by tools/uniform from proofs.txt, not by hand: 620473a4a7dc47f8
+-- Made by tools/uniform from proofs.txt, not by hand: 6673282faec45cb8
 use Prim.Native.Nat.{_-_}
 use Rattle.storage.specs.ReplayLaws.{Replaying, replays}
 use borrow.Author.Needs.{needs}
@@ -6,10 +6,10 @@ use Rattle.storage.proofs.replay.replay.Statement.{statement}
 use Rattle.storage.proofs.replay.replay.Tie as tie
 
 abbrev Inv-loop : tie.InvT-loop
-Inv-loop log₀ n s m p next₀ k₀ log next k = Replaying p n m next₀ s log₀ next log k
+Inv-loop disk₀ places rows p m next₀ k₀ disk next k = Replaying p places rows m next₀ disk₀ next disk k
 
 abbrev μ-loop : tie.MeasureT-loop
-μ-loop log₀ n s m p next₀ k₀ log next k = m - k
+μ-loop disk₀ places rows p m next₀ k₀ disk next k = m - k
 
 pub replay-spec : {M : Type 1} → statement M
 replay-spec =

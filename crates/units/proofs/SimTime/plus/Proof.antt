@@ -1,6 +1,6 @@
--- Made by tools/uniform from proofs.txt, not by hand: 895140f8b38ac557
+-- Made by tools/uniform from proofs.txt, not by hand: 0829693da595c228
 use native.Mathlib.Omega.{arith}
-use Rattle.units.specs.Time.{plus-fits, plus-past}
+use Rattle.units.specs.Time.{plus-fits, plus-past, number-fits, number-past}
 use borrow.Author.Needs.{needs}
 use Rattle.units.proofs.SimTime.plus.Statement.{statement}
 use Rattle.units.proofs.SimTime.plus.Tie as tie
@@ -11,5 +11,5 @@ plus-spec =
     (tie.spec
     (λ c. search needs)  -- sub-if1
     (λ c. search needs)  -- add-t8
-    (λ c. plus-fits _ _ (omega arith))  -- returns
-    (λ c. plus-past _ _ (omega arith)))  -- returns-2
+    (λ c. (plus-fits _ _ (omega arith), number-fits _ _ (omega arith)))  -- returns
+    (λ c. (plus-past _ _ (omega arith), number-past _ _ (omega arith))))  -- returns-2

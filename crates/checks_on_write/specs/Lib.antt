@@ -1,0 +1,4 @@
+pub mod OnWrite
+pub mod OnWrites
+pub mod Laws
+pub mod WritesLaws

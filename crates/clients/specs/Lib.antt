@@ -1,0 +1,4 @@
+pub mod Clients
+pub mod ClientLaws
+pub mod Confirmations
+pub mod ConfirmationLaws

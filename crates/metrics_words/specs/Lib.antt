@@ -1,0 +1,2 @@
+pub mod MetricsCode
+pub mod Laws

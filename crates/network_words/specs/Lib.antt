@@ -1,0 +1,4 @@
+pub mod Links
+pub mod LinkLaws
+pub mod NetworkCode
+pub mod Laws

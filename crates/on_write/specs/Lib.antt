@@ -1,2 +1,0 @@
-pub mod OnWrite
-pub mod Laws
