@@ -1,12 +1,13 @@
 -- The outcome of every call but the reads is fine. Assumes nothing.
-use mathlib.Core.Path.{_≡_, refl, _∙_}
+use mathlib.Core.Path.{_≡_, refl, sym, _∙_}
 use mathlib.Core.Bool.{true}
 use mathlib.Core.List.{List, [], _∷_, List·Memᴰ·head}
 use mathlib.Core.Option.{none, some}
-use Prim.Native.Nat.{ℕ, _-_, _^_}
+use Prim.Native.Nat.{ℕ, zero, suc, _-_, _^_}
+use native.Mathlib.Omega.{arith}
 use lib.Dec.{leb, ltb, eqb}
 use lib.ListN.{length}
-use borrow.Author.Tests.{leb-true}
+use borrow.Author.Tests.{leb-true, ne-eqb}
 use Rattle.laws.specs.Bools.{pick, _and_, cases, and-left, and-right}
 use Rattle.laws.specs.ListLaws.{Each}
 use Rattle.units.specs.Types.{payloadOf}
@@ -25,9 +26,10 @@ use Rattle.model.specs.State.{State, closed, writing, Input, Owed, serverAt, id
 use Rattle.model.specs.Simulation.{running, writeAt, setTimer, cancelTimer, confirm}
 use Rattle.model.specs.Calls as model
 use Rattle.model.specs.Calls.{Out, done, isFlag, isAccepted, isPayload, inCluster, timerOf}
-use Rattle.book.specs.Calls.{WriteCall, OutputCall, start, step, propose, fireTimer, confirmLeadership, schedule, write, seal, output, end, checkLogMatching, checkDurability, Answer, acted, opened, stepped, asked, sealed}
-use Rattle.book.specs.Calls as calls
+use Rattle.model.specs.Outcome.{WriteCall, OutputCall, start, step, propose, fireTimer, confirmLeadership, schedule, write, seal, output, end, checkLogMatching, checkDurability, Answer, acted, opened, stepped, asked, sealed, act}
+use Rattle.model.specs.Outcome as calls
 use Rattle.book.specs.Book.{Book, writeOf, give}
+use Rattle.book.specs.Book as book
 use Rattle.book.specs.Disks.{InLog}
 use Rattle.book.specs.Handed.{ScheduledGiven}
 use Rattle.book.specs.Holds.{Held, nowhere, holds-queue, holds-push, holds-applied, holds-more}
@@ -38,9 +40,11 @@ use Rattle.book.specs.Moves.{moves-process, moves-begin}
 use Rattle.book.specs.Inputs.{held-write, inv-sync, moves-cut, held-message, send-phase, held-set-timer, held-cancel-timer, held-confirm, held-apply, apply-phase, moves-end}
 use Rattle.book.specs.Outcomes.{Fine, fine, fine-ask, fine-fault, fine-closed, fine-writing, fine-sending}
 
--- A call that answers nothing besides.
-abbrev pub act : Unit {0} → Answer
-act _ = acted
+-- a timer's number is read alike
+timer-read : (kind : ℕ) → timerOf kind ≡ book.timerOf kind
+timer-read zero = refl
+timer-read (suc zero) = refl
+timer-read (suc (suc kind)) = sym (rw (ne-eqb (suc (suc kind)) 1 (λ e. absurd (omega arith))))
 
 pub fine-start : (b : Book) (config : SimConfig) (limits : Limits) (seed : ℕ) → Fine opened b (start config limits seed) (model.start config limits seed)
 unfolding model.start
@@ -60,28 +64,28 @@ module _ (b : Book) (s : State) (i : Inv b (s .phase) s) where
     where
       by : Phased b closed → Held b nowhere s → (queue : Queue) → Each (λ _. ScheduledGiven (b .given)) queue
           → Fine stepped b (step deadline buffer) (model.stepped s deadline (pop queue))
-      by q h [] g = fine tt (kept (i .held))
+      by q h [] g = fine (q .1, tt) (kept (i .held))
       by q h (e ∷ rest) g =
           let moved = moves-process b q _ (e .event) (e .message) (g .0) (holds-queue h (g .1)) in
-          cases (leb (e .time .0) (deadline .0)) (λ t. rw t (fine (moved .0) (moved .1))) (λ t. rw t (fine tt (kept (i .held))))
+          cases (leb (e .time .0) (deadline .0)) (λ t. rw t (fine (q .1, moved .0) (moved .1))) (λ t. rw t (fine (q .1, tt) (kept (i .held))))
 
   pub fine-propose : (server : ℕ) → Fine asked b (propose server) (model.propose server s)
   unfolding model.propose
   fine-propose server =
       fine-closed s i (λ q h. fine-ask (inCluster s server) 7
-      (λ _. cases (running s (server - 1)) (λ t. rw t (fine tt (moves.opened b q refl h))) (λ t. rw t (fine tt (kept (i .held))))))
+      (λ _. cases (running s (server - 1)) (λ t. rw t (fine (q .1) (moves.opened b q refl h))) (λ t. rw t (fine (q .1) (kept (i .held))))))
 
   pub fine-fire-timer : (server timer : ℕ) → Fine opened b (fireTimer server timer) (model.fireTimer server timer s)
   unfolding model.fireTimer
   fine-fire-timer server timer =
       fine-closed s i (λ q h. fine-ask (inCluster s server) 7 (λ _. fine-ask (isFlag timer) 9
-      (λ _. cases (running s (server - 1)) (λ t. rw t (fine tt (moves.opened b q refl h))) (λ t. rw t (fine tt i)))))
+      (λ _. cases (running s (server - 1)) (λ t. rw t (fine (q .1) (moves.opened b q refl h))) (λ t. rw t (fine (q .1) i)))))
 
   pub fine-confirm-leadership : (server : ℕ) (request : RequestId) → Fine asked b (confirmLeadership server request) (model.confirmLeadership server request s)
   unfolding model.confirmLeadership
   fine-confirm-leadership server request =
       fine-closed s i (λ q h. fine-ask (inCluster s server) 7
-      (λ _. cases (running s (server - 1)) (λ t. rw t (fine tt (moves.opened b q refl h))) (λ t. rw t (fine tt i))))
+      (λ _. cases (running s (server - 1)) (λ t. rw t (fine (q .1) (moves.opened b q refl h))) (λ t. rw t (fine (q .1) i))))
 
   pub fine-schedule : (time : SimTime) (kind first second : ℕ) (groups : List ℕ)
       → Fine act b (schedule time kind first second groups) (model.schedule time kind first second groups s)
@@ -91,23 +95,23 @@ module _ (b : Book) (s : State) (i : Inv b (s .phase) s) where
       let fault = model.faultGiven kind first second groups in
       fine-closed s i (λ q h. fine-ask (pick partitions (model.membersKnown s groups) (model.targetsKnown s fault)) 7
       (λ _. fine-ask (leb (time .0) (2 ^ 62) and pick partitions (leb (length groups) 8) true) 9
-      (λ _. fine-fault fault (λ f. fine tt (kept (holds-push (i .held) _ _ [] tt))))))
+      (λ _. fine-fault fault (λ f. fine refl (kept (holds-push (i .held) _ _ [] tt))))))
 
   pub fine-check-log-matching : Fine act b checkLogMatching (model.checkLogMatchingCall s)
   unfolding model.checkLogMatchingCall
   fine-check-log-matching =
-      fine-closed s i (λ q h. fine tt (kept (holds-applied (i .held) (log-matching-applied (s .checker) (s .now) (model.logsFrom 0 (s .servers))))))
+      fine-closed s i (λ q h. fine refl (kept (holds-applied (i .held) (log-matching-applied (s .checker) (s .now) (model.logsFrom 0 (s .servers))))))
 
   pub fine-check-durability : Fine act b checkDurability (model.checkDurabilityCall s)
   unfolding model.checkDurabilityCall
-  fine-check-durability = fine-closed s i (λ q h. fine tt (kept (holds-applied (i .held) (durability-applied (s .checker) (s .now) _ _))))
+  fine-check-durability = fine-closed s i (λ q h. fine refl (kept (holds-applied (i .held) (durability-applied (s .checker) (s .now) _ _))))
 
   -- ---- writes and the seal
 
   fine-written : (w : WriteCall) (slot : ℕ) (input : Input) (owed : Owed) → s .phase ≡ writing slot input owed → Inv b (writing slot input owed) s
       → InLog (b .lastIndex) (writeOf w) → Fine act b (write w) (model.written s slot (writeOf w))
   unfolding writeAt
-  fine-written w slot input owed e j k = fine {t = writeAt s slot (writeOf w)} tt (rw e (record { phased = j .phased; held = held-write b slot (b .waiting) (writeOf w) s k (j .held) }))
+  fine-written w slot input owed e j k = fine {t = writeAt s slot (writeOf w)} refl (rw e (record { phased = j .phased; held = held-write b slot (b .waiting) (writeOf w) s k (j .held) }))
 
   pub fine-write-hard-state : (term : Term) (present vote : ℕ)
       → Fine act b (write (calls.hardState term present vote)) (model.writeHardStateCall term present vote s)
@@ -117,7 +121,7 @@ module _ (b : Book) (s : State) (i : Inv b (s .phase) s) where
 
   pub fine-write-put : (index : LogIndex) (term : Term) (kind : ℕ) (bytes : List ℕ)
       → Fine act b (write (calls.put index term kind bytes)) (model.writePutCall index term kind bytes s)
-  unfolding model.writePutCall
+  unfolding model.writePutCall payloadOf
   fine-write-put index term kind bytes =
       fine-writing s i (λ slot input owed e j. fine-ask (leb 1 (index .0) and leb (index .0) (s .limits .«log_indexes»)) 8
       (λ f.
@@ -137,8 +141,8 @@ module _ (b : Book) (s : State) (i : Inv b (s .phase) s) where
       let synced = inv-sync b slot input verdict owed s (j .phased .1) (j .held) in
       fine-ask (isFlag refusal and (pick (eqb refusal 1) (isFlag present and model.canBeRefused input) true)) 9
       (λ _. cases (serverAt s slot .crashOnNextInput)
-      (λ t. rw t (fine tt (moves-cut b slot input verdict owed s (j .held) .1)))
-      (λ t. rw t (cases (unsynced (serverAt s slot .storage)) (λ u. rw u (fine tt synced)) (λ u. rw u (fine tt synced))))))
+      (λ t. rw t (fine (λ n. absurd (n refl)) (moves-cut b slot input verdict owed s (j .held) .1)))
+      (λ t. rw t (cases (unsynced (serverAt s slot .storage)) (λ u. rw u (fine (λ _. refl) synced)) (λ u. rw u (fine (λ _. refl) synced))))))
 
   -- ---- outputs and the end
 
@@ -150,7 +154,7 @@ module _ (b : Book) (s : State) (i : Inv b (s .phase) s) where
       → Fine act b (output o) (model.output (s .phase) f)
   fine-output o h =
       fine-sending s i (λ slot input verdict owed e j. fine-ask (isAccepted verdict) 6
-      (λ _. h slot (j .phased .1) (j .held) (λ t p l. fine {t = t} (j .phased .0) (rw (p ∙ e) (record { phased = j .phased; held = l })))))
+      (λ _. h slot (j .phased .1) (j .held) (λ t p l. fine {t = t} (j .phased .0, refl) (rw (p ∙ e) (record { phased = j .phased; held = l })))))
 
   pub fine-output-send : (to : ℕ) (message : List ℕ) (entries : ℕ) → Fine act b (output (calls.send to message entries)) (model.outputSend to message entries s)
   unfolding model.outputSend faults.inCluster
@@ -166,7 +170,7 @@ module _ (b : Book) (s : State) (i : Inv b (s .phase) s) where
   fine-output-set-timer timer duration =
       let o = calls.setTimer timer duration in
       fine-output o (λ slot e h left. fine-ask (isFlag timer and leb (duration .0) (2 ^ 40)) 9
-      (λ _. left _ refl (held-set-timer (give b o) nowhere slot s (holds-more h _) (timerOf timer) duration (List·Memᴰ·head (rw e)))))
+      (λ _. left _ refl (held-set-timer (give b o) nowhere slot s (holds-more h _) (timerOf timer) duration (List·Memᴰ·head (rw (e, timer-read timer))))))
 
   pub fine-output-cancel-timer : (timer : ℕ) → Fine act b (output (calls.cancelTimer timer)) (model.outputCancelTimer timer s)
   unfolding model.outputCancelTimer cancelTimer
@@ -174,7 +178,7 @@ module _ (b : Book) (s : State) (i : Inv b (s .phase) s) where
       fine-output (calls.cancelTimer timer) (λ slot e h left. fine-ask (isFlag timer) 9 (λ _. left _ refl (held-cancel-timer b nowhere slot s h (timerOf timer))))
 
   pub fine-output-apply : (index : LogIndex) (kind : ℕ) (bytes : List ℕ) → Fine act b (output (calls.apply index kind bytes)) (model.outputApply index kind bytes s)
-  unfolding model.outputApply
+  unfolding model.outputApply payloadOf
   fine-output-apply index kind bytes =
       let o = calls.apply index kind bytes in
       let payload = payloadOf kind bytes in
@@ -200,4 +204,4 @@ module _ (b : Book) (s : State) (i : Inv b (s .phase) s) where
   unfolding model.end
   fine-end role term present leader commit =
       fine-sending s i (λ slot input verdict owed e j. fine-ask (leb role 2 and isFlag present) 9
-      (λ _. fine tt (moves-end b slot input verdict owed _ s (j .phased .2) (j .held) .1)))
+      (λ _. fine (j .phased .2) (moves-end b slot input verdict owed _ s (j .phased .2) (j .held) .1)))

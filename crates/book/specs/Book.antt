@@ -8,14 +8,16 @@ use Prim.Native.Nat.{ℕ, zero, suc, _+_}
 use lib.Dec.{leb, eqb}
 use Rattle.laws.specs.Bools.{pick}
 use Rattle.laws.specs.Lists.{isSome}
-use Rattle.units.specs.Types.{Payload, command, payloadOf, Entry}
+use Rattle.units.specs.Types.{Payload, noop, command, Entry}
 use Rattle.units.specs.declared.NodeId.{NodeId}
-use Rattle.units.specs.declared.NodeOption.the-variants.{None}
+use Rattle.units.specs.declared.NodeOption.{NodeOption}
+use Rattle.units.specs.declared.NodeOption.the-variants.{None, Some}
 use Rattle.units.specs.declared.LogIndex.{LogIndex}
 use Rattle.units.specs.declared.Duration.{Duration}
 use Rattle.client.specs.Key.{decode}
 use Rattle.client.specs.declared.Decoded.the-variants.{Key}
 use Rattle.protocol.specs.declared.Timer.{Timer}
+use Rattle.protocol.specs.declared.Timer.the-variants.{Election, Heartbeat}
 use Rattle.protocol.specs.declared.RequestId.{RequestId}
 use Rattle.storage.specs.Storage as storage
 use Rattle.storage.specs.Storage.{Write}
@@ -23,11 +25,26 @@ use Rattle.storage.specs.declared.HardState.{HardState}
 use Rattle.checks_durability.specs.declared.replies.Reply.{Reply}
 use Rattle.model.specs.State.{Confirmation}
 use Rattle.model.specs.Simulation.{Opening, noInput, openStart, openMessage, openTimer, openProposal, openConfirmation}
-use Rattle.model.specs.Calls.{nodeOption, timerOf, Asked, Sealing, synced, nothingToSync, cut}
+use Rattle.model.specs.Calls.{Asked, Sealing, synced, nothingToSync, cut}
 use Rattle.model.specs.Calls as model
 use Rattle.model.specs.Reads.{LogRead}
-use Rattle.book.specs.Calls.{WriteCall, OutputCall, send, setTimer, cancelTimer, apply, confirmed, lost, ReadCall, readStatus, readHardState, readLog, readEntry, readLeader, readApplied, readAppliedEntry, readMetrics, readSentBy, readReply, readConfirmation, readViolation, readRun, Call, start, step, propose, fireTimer, confirmLeadership, schedule, write, seal, output, end, checkLogMatching, checkDurability, read, Answer, no, acted, opened, stepped, asked, sealed, got, gotHardState, gotLog, gotEntry, gotApplied, gotAppliedEntry, gotReply, gotConfirmation}
-use Rattle.book.specs.Calls as calls
+use Rattle.model.specs.Outcome.{WriteCall, OutputCall, send, setTimer, cancelTimer, apply, confirmed, lost, ReadCall, readStatus, readHardState, readLog, readEntry, readLeader, readApplied, readAppliedEntry, readMetrics, readSentBy, readReply, readConfirmation, readViolation, readRun, readSettings, Call, start, step, propose, fireTimer, confirmLeadership, schedule, write, seal, output, end, checkLogMatching, checkDurability, read, Answer, no, acted, opened, stepped, asked, sealed, got, gotHardState, gotLog, gotEntry, gotApplied, gotAppliedEntry, gotReply, gotConfirmation}
+use Rattle.model.specs.Outcome as calls
+use Rattle.claims.specs.Claim.{accepted}
+
+-- ---- arguments, as document 01 reads them
+
+-- A vote that may be absent: 1 says that there is one.
+abbrev pub voteOf : ℕ → ℕ → NodeOption
+voteOf present id = pick (eqb present 1) (Some (record { 0 = id })) None
+
+-- A payload: kind 0 is a noop, kind 1 a command of the bytes.
+abbrev pub payloadOf : ℕ → List ℕ → Payload
+payloadOf kind bytes = pick (eqb kind 0) noop (command bytes)
+
+-- A timer: kind 0 is that of elections, kind 1 that of heartbeats.
+abbrev pub timerOf : ℕ → Timer
+timerOf kind = pick (eqb kind 1) Heartbeat Election
 
 -- ---- what a server finds
 
@@ -77,8 +94,8 @@ pub data Open : Type 0 where
 pub record Book : Type 0 where
   -- the last log index that there is, from the latest fresh start
   pub lastIndex : ℕ
-  -- what each server finds
-  pub found : NodeId → Found
+  -- the writes of each server's finished inputs since then, in order
+  pub finished : NodeId → List Write
   -- the writes that wait for the seal
   pub waiting : List Write
   pub input : Open
@@ -87,38 +104,38 @@ pub record Book : Type 0 where
   -- what output calls have handed over since the latest fresh start
   pub given : List Given
 
+-- What a server finds: the writes of its finished inputs replayed on an empty log, in order.
+abbrev pub found : Book → NodeId → Found
+found b id = doWrites empty (b .finished id)
+
 -- A fresh start: every server is empty, and no write waits.
 abbrev pub fresh : ℕ → Book
-fresh indexes = record { lastIndex = indexes; found = λ _. empty; waiting = []; input = notOpen; server = record { 0 = 0 }; given = [] }
+fresh indexes = record { lastIndex = indexes; finished = λ _. []; waiting = []; input = notOpen; server = record { 0 = 0 }; given = [] }
 
 -- The book with an input of a server opened, and with none open.
 abbrev pub openInput : Book → NodeId → Book
 openInput b server =
-    record { lastIndex = b .lastIndex; found = b .found; waiting = b .waiting; input = unsealed; server = server; given = b .given }
+    record { lastIndex = b .lastIndex; finished = b .finished; waiting = b .waiting; input = unsealed; server = server; given = b .given }
 
 abbrev pub noneOpen : Book → Book
-noneOpen b = record { lastIndex = b .lastIndex; found = b .found; waiting = b .waiting; input = notOpen; server = b .server; given = b .given }
+noneOpen b = record { lastIndex = b .lastIndex; finished = b .finished; waiting = b .waiting; input = notOpen; server = b .server; given = b .given }
 
--- What an opening tells: whose input it is; with none opened nothing changes.
-abbrev pub tellOpening : Book → Opening → Book
-tellOpening b noInput = b
-tellOpening b (openStart server incarnation seed) = openInput b server
-tellOpening b (openMessage server sender entries bytes) = openInput b server
-tellOpening b (openTimer server timer) = openInput b server
-tellOpening b (openProposal server client seq) = openInput b server
-tellOpening b (openConfirmation server request) = openInput b server
+-- Whose input was opened; with none opened nothing changes.
+abbrev pub tellOpened : Book → Option NodeId → Book
+tellOpened b none = b
+tellOpened b (some server) = openInput b server
 
 -- A write waits.
 abbrev pub wait : Book → Write → Book
 wait b w =
-    record { lastIndex = b .lastIndex; found = b .found; waiting = b .waiting ++ (w ∷ []); input = b .input; server = b .server; given = b .given }
+    record { lastIndex = b .lastIndex; finished = b .finished; waiting = b .waiting ++ (w ∷ []); input = b .input; server = b .server; given = b .given }
 
 -- The waiting writes done, in order, for the open input's server: the input is finished.
 abbrev pub finishInput : Book → Book
 finishInput b =
     record {
       lastIndex = b .lastIndex;
-      found = λ id. pick (eqb (id .0) (b .server .0)) (doWrites (b .found id) (b .waiting)) (b .found id);
+      finished = λ id. pick (eqb (id .0) (b .server .0)) (b .finished id ++ b .waiting) (b .finished id);
       waiting = [];
       input = sealedBySync;
       server = b .server;
@@ -127,18 +144,22 @@ finishInput b =
 
 -- The waiting writes dropped: the input is struck, and none is open.
 abbrev pub strikeInput : Book → Book
-strikeInput b = record { lastIndex = b .lastIndex; found = b .found; waiting = []; input = notOpen; server = b .server; given = b .given }
+strikeInput b = record { lastIndex = b .lastIndex; finished = b .finished; waiting = []; input = notOpen; server = b .server; given = b .given }
 
--- A seal that syncs, or has nothing to sync, finishes the input; one that cuts strikes it, and the next start may open.
-abbrev pub tellSeal : Book → Option Sealing → Opening → Book
+-- How a seal ended an input.
+pub data Ending : Type 0 where
+  bySync : Ending
+  byCut : Ending
+
+-- A seal that syncs finishes the input; one that cuts strikes it, and the next start may open.
+abbrev pub tellSeal : Book → Option Ending → Option NodeId → Book
 tellSeal b none next = b
-tellSeal b (some synced) next = finishInput b
-tellSeal b (some nothingToSync) next = finishInput b
-tellSeal b (some cut) next = tellOpening (strikeInput b) next
+tellSeal b (some bySync) next = finishInput b
+tellSeal b (some byCut) next = tellOpened (strikeInput b) next
 
 -- The write of a call's arguments.
 abbrev pub writeOf : WriteCall → Write
-writeOf (calls.hardState term present vote) = storage.writeHardState (record { term = term; «voted_for» = nodeOption present vote })
+writeOf (calls.hardState term present vote) = storage.writeHardState (record { term = term; «voted_for» = voteOf present vote })
 writeOf (calls.put index term kind bytes) = storage.writePut index (record { term = term; payload = payloadOf kind bytes })
 writeOf (calls.truncate from) = storage.writeTruncate from
 
@@ -154,11 +175,26 @@ giveOutput server (lost request) given = answered server request none ∷ given
 -- An output call has handed something over.
 abbrev pub give : Book → OutputCall → Book
 give b o =
-    record { lastIndex = b .lastIndex; found = b .found; waiting = b .waiting; input = b .input; server = b .server; given = giveOutput (b .server) o (b .given) }
+    record { lastIndex = b .lastIndex; finished = b .finished; waiting = b .waiting; input = b .input; server = b .server; given = giveOutput (b .server) o (b .given) }
 
 -- ---- what the book is told
 
--- What an answer tells: the input that it opened, how it sealed, and whether it accepted the call.
+-- Of an answer: whether the call was accepted, whose input it opened, and whether it synced or cut.
+pub record Told : Type 0 where
+  pub accepted : Bool
+  pub opened : Option NodeId
+  pub ending : Option Ending
+
+-- Whose input was opened.
+abbrev pub whose : Opening → Option NodeId
+whose noInput = none
+whose (openStart server incarnation seed) = some server
+whose (openMessage server sender entries bytes) = some server
+whose (openTimer server timer) = some server
+whose (openProposal server client seq) = some server
+whose (openConfirmation server request) = some server
+
+-- What a direct call opened.
 abbrev pub askedOpening : Asked → Opening
 askedOpening (model.asked next) = next
 askedOpening model.stopped = noInput
@@ -173,51 +209,51 @@ openingOf (no number) = noInput
 openingOf acted = noInput
 openingOf (got x) = noInput
 
+-- A seal with nothing to sync finishes its input as one that syncs does.
+abbrev pub endingOf : Sealing → Ending
+endingOf synced = bySync
+endingOf nothingToSync = bySync
+endingOf cut = byCut
+
 -- How an answer sealed, if its call was a seal.
-abbrev pub sealingOf : Answer → Option Sealing
-sealingOf (sealed s) = some (s .sealing)
-sealingOf (no number) = none
-sealingOf acted = none
-sealingOf (opened next) = none
-sealingOf (stepped s) = none
-sealingOf (asked a) = none
-sealingOf (got x) = none
+abbrev pub sealedBy : Answer → Option Ending
+sealedBy (sealed s) = some (endingOf (s .sealing))
+sealedBy (no number) = none
+sealedBy acted = none
+sealedBy (opened next) = none
+sealedBy (stepped s) = none
+sealedBy (asked a) = none
+sealedBy (got x) = none
 
--- Whether an answer accepts its call.
-abbrev pub accepted : Answer → Bool
-accepted (no number) = false
-accepted acted = true
-accepted (opened next) = true
-accepted (stepped s) = true
-accepted (asked a) = true
-accepted (sealed s) = true
-accepted (got x) = true
+-- What the book is told of an answer.
+abbrev pub toldOf : Answer → Told
+toldOf a = record { accepted = accepted a; opened = whose (openingOf a); ending = sealedBy a }
 
--- The book after an accepted call: of the answer it is told the opened input and the seal.
-abbrev pub enter : Book → Call → Opening → Option Sealing → Book
-enter b (start config limits seed) next how = tellOpening (fresh (limits .«log_indexes»)) next
-enter b (step deadline buffer) next how = tellOpening b next
-enter b (propose server) next how = tellOpening b next
-enter b (fireTimer server timer) next how = tellOpening b next
-enter b (confirmLeadership server request) next how = tellOpening b next
+-- The book after an accepted call: of the answer it is told whose input it opened, and how it sealed.
+abbrev pub enter : Book → Call → Option NodeId → Option Ending → Book
+enter b (start config limits seed) next how = tellOpened (fresh (limits .«log_indexes»)) next
+enter b (step deadline buffer) next how = tellOpened b next
+enter b (propose server) next how = tellOpened b next
+enter b (fireTimer server timer) next how = tellOpened b next
+enter b (confirmLeadership server request) next how = tellOpened b next
 enter b (schedule time kind first second groups) next how = b
 enter b (write w) next how = wait b (writeOf w)
 enter b (calls.seal refusal present leader) next how = tellSeal b how next
 enter b (output o) next how = give b o
-enter b (end role term present leader commit) next how = tellOpening (noneOpen b) next
+enter b (end role term present leader commit) next how = tellOpened (noneOpen b) next
 enter b checkLogMatching next how = b
 enter b checkDurability next how = b
 enter b (read r) next how = b
 
 -- The book after any call: a refused one changes nothing.
-unfoldable pub note : Book → Call → Answer → Book
-note b c a = pick (accepted a) (enter b c (openingOf a) (sealingOf a)) b
+unfoldable pub note : Book → Call → Told → Book
+note b c t = pick (t .accepted) (enter b c (t .opened) (t .ending)) b
 
 -- ---- the claim: (a) what a server finds when it starts, (b) when outputs come, (c) what a step or a read hands back
 
--- No write of a server waits. So it is when a server starts, first or again, up to its first write.
-abbrev pub Unwritten : Book → ℕ → Type 0
-Unwritten b server = b .server .0 ≡ server → b .waiting ≡ []
+-- What a server has written so far: what it finds, and the writes of its open input that wait.
+abbrev pub soFar : Book → ℕ → Found
+soFar b server = doWrites (found b (record { 0 = server })) (pick (eqb server (b .server .0)) (b .waiting) [])
 
 -- What a step hands back was handed over by an output call.
 abbrev pub HandedOver : List Given → Opening → Type 0
@@ -235,11 +271,11 @@ pub record KeyApplied (given : List Given) (client seq : ℕ) (index : LogIndex)
   pub key : decode bytes ≡ Key (record { client = client; seq = seq })
   pub handed : List·Memᴰ (wasApplied server index (command bytes)) given
 
--- What the answer of an accepted read must be: (a) of a server of which no write waits, the book's; (c) what was handed over, in every field that both carry.
+-- What the answer of an accepted read must be: (a) what the book says of what the server has written so far; (c) what was handed over, in every field that both carry.
 abbrev pub RightRead : Book → ReadCall → Answer → Type 0
-RightRead b (readHardState server) a = (h : HardState) → a ≡ got (gotHardState h) → Unwritten b server → h ≡ b .found (record { 0 = server }) .hardState
-RightRead b (readLog server) a = (l : LogRead) → a ≡ got (gotLog l) → Unwritten b server → l .entries ≡ countUpTo (b .lastIndex) (b .found (record { 0 = server }) .log)
-RightRead b (readEntry server index buffer) a = (e : Option Entry) → a ≡ got (gotEntry e) → Unwritten b server → e ≡ b .found (record { 0 = server }) .log index
+RightRead b (readHardState server) a = (h : HardState) → a ≡ got (gotHardState h) → h ≡ soFar b server .hardState
+RightRead b (readLog server) a = (l : LogRead) → a ≡ got (gotLog l) → l .entries ≡ countUpTo (b .lastIndex) (soFar b server .log)
+RightRead b (readEntry server index buffer) a = (e : Option Entry) → a ≡ got (gotEntry e) → e ≡ soFar b server .log index
 RightRead b (readApplied server) a =
     (n : ℕ) → a ≡ got (gotApplied (suc n)) → (p : Payload) × List·Memᴰ (wasApplied (record { 0 = server }) (record { 0 = suc n }) p) (b .given)
 RightRead b (readAppliedEntry index buffer) a =
@@ -253,24 +289,21 @@ RightRead b readMetrics a = Unit {0}
 RightRead b (readSentBy server) a = Unit {0}
 RightRead b (readViolation place) a = Unit {0}
 RightRead b readRun a = Unit {0}
+RightRead b readSettings a = Unit {0}
 
--- What the answer of an accepted call must be: (b) an output comes while a synced input is open; (c) what a step hands back was handed over.
+-- What the answer of an accepted call must be: no write waits where a call opens an input, and no other call does; (b) an output comes while a synced input is open; (c) what a step hands
+-- back was handed over.
 abbrev pub Right : Book → Call → Answer → Type 0
-Right b (step deadline buffer) a = HandedOver (b .given) (openingOf a)
-Right b (output o) a = b .input ≡ sealedBySync
-Right b (read r) a = RightRead b r a
+Right b (step deadline buffer) a = (b .waiting ≡ []) × HandedOver (b .given) (openingOf a)
+Right b (output o) a = (b .input ≡ sealedBySync) × (openingOf a ≡ noInput)
+Right b (read r) a = RightRead b r a × (openingOf a ≡ noInput)
 Right b (start config limits seed) a = Unit {0}
-Right b (propose server) a = Unit {0}
-Right b (fireTimer server timer) a = Unit {0}
-Right b (confirmLeadership server request) a = Unit {0}
-Right b (schedule time kind first second groups) a = Unit {0}
-Right b (write w) a = Unit {0}
-Right b (calls.seal refusal present leader) a = Unit {0}
-Right b (end role term present leader commit) a = Unit {0}
-Right b checkLogMatching a = Unit {0}
-Right b checkDurability a = Unit {0}
-
--- Every accepted call of a list is right by the book as it stands then.
-unfoldable pub Kept : Book → List (Call × Answer) → Type 0
-Kept b [] = Unit {0}
-Kept b (x ∷ xs) = (accepted (x .1) ≡ true → Right b (x .0) (x .1)) × Kept (note b (x .0) (x .1)) xs
+Right b (propose server) a = b .waiting ≡ []
+Right b (fireTimer server timer) a = b .waiting ≡ []
+Right b (confirmLeadership server request) a = b .waiting ≡ []
+Right b (schedule time kind first second groups) a = openingOf a ≡ noInput
+Right b (write w) a = openingOf a ≡ noInput
+Right b (calls.seal refusal present leader) a = (sealedBy a ≡ some byCut → ⊥) → openingOf a ≡ noInput
+Right b (end role term present leader commit) a = b .waiting ≡ []
+Right b checkLogMatching a = openingOf a ≡ noInput
+Right b checkDurability a = openingOf a ≡ noInput

@@ -20,6 +20,7 @@ use Rattle.queue.specs.declared.Event.{Event}
 use Rattle.checks_durability.specs.declared.replies.Reply.{Reply}
 use Rattle.model.specs.State.{State, Server, Confirmation, idOf}
 use Rattle.book.specs.Book.{Found, Given, Book}
+use Rattle.book.specs.Book as book
 use Rattle.book.specs.Stores.{Stored}
 use Rattle.book.specs.Handed.{EventGiven, ScheduledGiven, ReplyGiven, ConfirmationGiven, PayloadGiven, NextGiven, key-more, event-more}
 
@@ -44,7 +45,7 @@ pub record Holds (last : ℕ) (found : NodeId → Found) (given : List Given) (w
 -- Of a state, the parts that it reads.
 abbrev pub Held : Book → (ℕ → List Write) → State → Type 0
 Held b waits s =
-    Holds (b .lastIndex) (b .found) (b .given) waits (s .limits) (s .servers) (s .queue) (s .replies) (s .confirmations) (s .checker .applied)
+    Holds (b .lastIndex) (book.found b) (b .given) waits (s .limits) (s .servers) (s .queue) (s .replies) (s .confirmations) (s .checker .applied)
 
 -- ---- where writes wait
 

@@ -28,7 +28,7 @@ use Rattle.storage.specs.Storage.{Write, sync, unsynced, written}
 use Rattle.model.specs.State.{State, direct, fromClient, Input, startInput, messageInput, timerInput, proposeInput, confirmInput, Verdict, accepted, notLeader, Owed, serverAt, idOf}
 use Rattle.model.specs.Fields.{withStorage}
 use Rattle.model.specs.Simulation.{onServer, stopServer, writeAt, redirect, cutInput, syncInput, pushRouted, send, raised, setTimer, cancelTimer, replyTo, replyFor, apply, confirm, endInput}
-use Rattle.book.specs.Book.{doWrites, Given, sent, timerSet, wasApplied, answered, Book, noneOpen, finishInput, strikeInput}
+use Rattle.book.specs.Book.{Found, empty, found, doWrite, doWrites, Given, sent, timerSet, wasApplied, answered, Book, noneOpen, finishInput, strikeInput}
 use Rattle.book.specs.Disks.{InLog}
 use Rattle.book.specs.Stores.{stored-write, stored-sync}
 use Rattle.book.specs.Handed.{PayloadGiven}
@@ -37,13 +37,19 @@ use Rattle.book.specs.Holds.{Held, nowhere, only, only-at, only-other, h
 use Rattle.book.specs.Invariant.{Inv, Moves}
 use Rattle.book.specs.Moves.{held-stop, moves-close}
 
+-- writes done after others
+doWrites-append : (f : Found) (ws vs : List Write) → doWrites f (ws ++ vs) ≡ doWrites (doWrites f ws) vs
+unfolding doWrites
+doWrites-append f [] vs = refl
+doWrites-append f (w ∷ ws) vs = doWrites-append (doWrite f w) ws vs
+
 -- ---- writes
 
 pub held-write : (b : Book) (slot : ℕ) (ws : List Write) (w : Write) (s : State) → InLog (b .lastIndex) w → Held b (only slot ws) s
     → Held b (only slot (ws ++ (w ∷ []))) (writeAt s slot w)
 unfolding writeAt
 held-write b slot ws w s i h =
-    holds-change h (b .found) (only slot (ws ++ (w ∷ []))) slot _
+    holds-change h (found b) (only slot (ws ++ (w ∷ []))) slot _
     (λ v x. record { stored = rw (only-at slot (ws ++ (w ∷ []))) (stored-write (rw (only-at slot ws) at (x .stored)) w i); next = x .next })
     (λ k n v x. rw (only-other slot (ws ++ (w ∷ [])) k n) (rw (only-other slot ws k n) at x))
 
@@ -52,14 +58,14 @@ held-write b slot ws w s i h =
 held-sync : (b : Book) (slot : ℕ) (s : State) → b .server ≡ idOf slot → Held b (only slot (b .waiting)) s
     → Held (finishInput b) nowhere (onServer s slot (λ v. withStorage v (sync (v .storage))))
 held-sync b slot s e h =
-    holds-change h (finishInput b .found) nowhere slot _
+    holds-change h (found (finishInput b)) nowhere slot _
     (λ v x. record { stored = rw finished-at (stored-sync (rw (only-at slot (b .waiting)) at (x .stored))); next = x .next })
     (λ k n v x. rw (finished-other k n) (rw (only-other slot (b .waiting) k n) at x))
   where
-    finished-at : finishInput b .found (idOf slot) ≡ doWrites (b .found (idOf slot)) (b .waiting)
-    finished-at = rw (e, eq-eqb (slot + 1) (slot + 1) refl)
+    finished-at : found (finishInput b) (idOf slot) ≡ doWrites (found b (idOf slot)) (b .waiting)
+    finished-at = rw (e, eq-eqb (slot + 1) (slot + 1) refl) (doWrites-append empty (b .finished (idOf slot)) (b .waiting))
 
-    finished-other : (k : ℕ) → (k ≡ slot → ⊥) → finishInput b .found (idOf k) ≡ b .found (idOf k)
+    finished-other : (k : ℕ) → (k ≡ slot → ⊥) → found (finishInput b) (idOf k) ≡ found b (idOf k)
     finished-other k n = rw (e, ne-eqb (k + 1) (slot + 1) (λ z. n (omega arith)))
 
 pub inv-sync : (b : Book) (slot : ℕ) (input : Input) (verdict : Verdict) (owed : Owed) (s : State) → b .server ≡ idOf slot → Held b (only slot (b .waiting)) s

@@ -7,7 +7,7 @@ use Rattle.units.specs.declared.NodeId.{NodeId}
 use Rattle.storage.specs.Storage.{Write}
 use Rattle.model.specs.State.{State, Phase, closed, writing, sending, idOf, slotOf}
 use Rattle.model.specs.Simulation.{Moved}
-use Rattle.book.specs.Book.{Book, notOpen, unsealed, sealedBySync, tellOpening, HandedOver}
+use Rattle.book.specs.Book.{Book, notOpen, unsealed, sealedBySync, tellOpened, whose, HandedOver}
 use Rattle.book.specs.Holds.{Held, nowhere, only}
 
 -- What a phase says of the book.
@@ -29,7 +29,7 @@ pub record Inv (b : Book) (p : Phase) (s : State) : Type 0 where
 
 -- A state that is left, with the input that was opened: what it hands back was handed over.
 abbrev pub Moves : Book → Moved → Type 0
-Moves b m = HandedOver (b .given) (m .opening) × Inv (tellOpening b (m .opening)) (m .state .phase) (m .state)
+Moves b m = HandedOver (b .given) (m .opening) × Inv (tellOpened b (whose (m .opening))) (m .state .phase) (m .state)
 
 -- A server in the cluster stands at its place.
 pub id-slot : (id : NodeId) → 1 ≤ id .0 → id ≡ idOf (slotOf id)

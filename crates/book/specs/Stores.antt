@@ -44,7 +44,6 @@ pub stored-empty : (last : ℕ) → Stored last empty [] (emptyStorage last)
 unfolding applyWrites
 stored-empty last = record { durable = agrees-empty last; waiting = refl; current = refl; inLog = tt }
 
--- With no write waiting, what is read is what is durable.
-pub stored-current : {last : ℕ} {f : Found} {s : Storage} → Stored last f [] s → Agrees last (s .current) f
-unfolding applyWrites
-stored-current h = rw (h .current) (h .durable)
+-- What is read is what is durable, with the writes that wait.
+pub stored-current : {last : ℕ} {f : Found} {ws : List Write} {s : Storage} → Stored last f ws s → Agrees last (s .current) (doWrites f ws)
+stored-current {ws = ws} h = rw (h .current) (agrees-writes ws (h .durable) (h .inLog))

@@ -3,6 +3,7 @@ pub mod Fields
 pub mod Simulation
 pub mod Calls
 pub mod Reads
+pub mod Outcome
 pub mod Fits
 pub mod Slips
 pub mod FitsLaws

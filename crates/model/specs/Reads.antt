@@ -7,6 +7,7 @@ use lib.ListN.{length}
 use Rattle.laws.specs.Lists.{at}
 use Rattle.units.specs.Types.{Payload, Entry}
 use Rattle.units.specs.declared.SimTime.{SimTime}
+use Rattle.config.specs.declared.Limits.{Limits}
 use Rattle.protocol.specs.declared.Status.{Status}
 use Rattle.metrics.specs.Metrics.{sentBy}
 use Rattle.metrics.specs.declared.Counts.{Counts}
@@ -68,9 +69,22 @@ appliedAt applied (suc place) = at applied place
 unfoldable pub readAppliedEntry : ℕ → ℕ → State → Out (Option Payload)
 readAppliedEntry index buffer s = ask (leb (s .limits .payload) buffer) 9 (done (appliedAt (s .checker .applied) index) s)
 
--- The counters so far (metrics), and one server's messages (sent_by).
-unfoldable pub readMetrics : State → Out Metrics
-readMetrics s = done (s .metrics) s
+-- The entries that all servers have discarded so far (discarded_entries).
+unfoldable pub discardedBy : List Server → ℕ
+discardedBy [] = 0
+discardedBy (v ∷ vs) = v .storage .discarded + discardedBy vs
+
+-- The counters so far (metrics), with discarded_entries and max_log_gaps.
+pub record MetricsRead : Type 0 where
+  pub metrics : Metrics
+  pub discarded : ℕ
+  pub maxLogGaps : ℕ
+
+-- The counters so far; 10 where the discarded entries of all servers together pass 64 bits.
+unfoldable pub readMetrics : State → Out MetricsRead
+readMetrics s =
+    ask (ltb (discardedBy (s .servers)) (2 ^ 64)) 10
+    (done (record { metrics = s .metrics; discarded = discardedBy (s .servers); maxLogGaps = s .maxLogGaps }) s)
 
 -- One server's messages.
 unfoldable pub readSentBy : ℕ → State → Out Counts
@@ -88,39 +102,39 @@ readConfirmation place s = done (at (s .confirmations) place) s
 unfoldable pub readViolation : ℕ → State → Out (Option Violation)
 readViolation place s = done (at (s .checker .violations) place) s
 
--- The entries that all servers have discarded so far (discarded_entries).
-unfoldable pub discardedBy : List Server → ℕ
-discardedBy [] = 0
-discardedBy (v ∷ vs) = v .storage .discarded + discardedBy vs
-
--- The run as a whole: now, events, seed, violation_count, discarded_entries, max_log_gaps, how many replies, confirmations and events are held, and the open input.
+-- The run as a whole: now, events, seed, violation_count, how many replies, confirmations and events are held, and the open input.
 pub record RunRead : Type 0 where
   pub now : SimTime
   pub events : ℕ
   pub seed : ℕ
-  pub violations : ℕ
-  pub discarded : ℕ
-  pub maxLogGaps : ℕ
+  pub phase : Phase
+  pub queued : ℕ
   pub replies : ℕ
   pub confirmations : ℕ
-  pub queued : ℕ
-  pub phase : Phase
+  pub violations : ℕ
 
--- The run as a whole; 10 where the discarded entries of all servers together pass 64 bits.
+-- The run as a whole.
 unfoldable pub readRun : State → Out RunRead
 readRun s =
-    ask (ltb (discardedBy (s .servers)) (2 ^ 64)) 10
-    (done
+    done
     (record {
       now = s .now;
       events = s .events;
       seed = s .seed;
-      violations = s .checker .total;
-      discarded = discardedBy (s .servers);
-      maxLogGaps = s .maxLogGaps;
+      phase = s .phase;
+      queued = length (s .queue);
       replies = length (s .replies);
       confirmations = length (s .confirmations);
-      queued = length (s .queue);
-      phase = s .phase;
+      violations = s .checker .total;
     })
-    s)
+    s
+
+-- How many servers and clients there are, and the six limits.
+pub record SettingsRead : Type 0 where
+  pub servers : ℕ
+  pub clients : ℕ
+  pub limits : Limits
+
+-- The counts by which a host sizes its buffers.
+unfoldable pub readSettings : State → Out SettingsRead
+readSettings s = done (record { servers = s .config .servers; clients = s .config .clients; limits = s .limits }) s

@@ -24,9 +24,9 @@ use Rattle.model.specs.State.{State, Confirmation, Phase, closed, writing, send
 use Rattle.model.specs.Simulation.{Opening, noInput, openStart, openMessage, openTimer, openProposal, openConfirmation}
 use Rattle.model.specs.Calls.{Asked, sealingNumber}
 use Rattle.model.specs.Calls as model
-use Rattle.model.specs.Reads.{LogRead, RunRead}
+use Rattle.model.specs.Reads.{LogRead, MetricsRead, RunRead, SettingsRead}
 use Rattle.model.specs.Fits.{stateFits}
-use Rattle.book.specs.Calls.{Call, Reading, gotStatus, gotHardState, gotLog, gotEntry, gotLeader, gotApplied, gotAppliedEntry, gotMetrics, gotSentBy, gotReply, gotConfirmation, gotViolation, gotRun, Answer, no, acted, opened, stepped, asked, sealed, got, after}
+use Rattle.model.specs.Outcome.{Call, Reading, gotStatus, gotHardState, gotLog, gotEntry, gotLeader, gotApplied, gotAppliedEntry, gotMetrics, gotSentBy, gotReply, gotConfirmation, gotViolation, gotRun, gotSettings, Answer, no, acted, opened, stepped, asked, sealed, got, after}
 
 -- A call, and what the Rust answered.
 pub data Exchange : Type 0 where
@@ -119,9 +119,11 @@ appliedBytes (some p) = payloadBytes p
 abbrev pub countsNumbers : Counts → List ℕ
 countsNumbers c = c .messages ∷ c .bytes ∷ c .entries ∷ []
 
--- The counters. The table's last two numbers, entries discarded and the greatest gaps, stand with the run.
-abbrev pub metricsNumbers : Metrics → List ℕ
-metricsNumbers m = countsNumbers (m .sent) ++ m .«entries_to_leaders» ∷ m .fsyncs ∷ m .«storage_bytes» ∷ m .«client_replies» ∷ []
+-- The counters, the entries discarded and the greatest gaps.
+abbrev pub metricsNumbers : MetricsRead → List ℕ
+metricsNumbers r =
+    let m : Metrics = r .metrics in
+    countsNumbers (m .sent) ++ m .«entries_to_leaders» ∷ m .fsyncs ∷ m .«storage_bytes» ∷ m .«client_replies» ∷ r .discarded ∷ r .maxLogGaps ∷ []
 
 -- A reply: a flag, the times and the index. The Rust's replies carry neither client nor sequence number.
 abbrev pub replyNumbers : Option Reply → List ℕ
@@ -144,10 +146,16 @@ violationNumbers none = replicate 9 0
 violationNumbers (some v) =
     1 ∷ v .time .0 ∷ checkNumber (v .check) ∷ length (v .detail) ∷ v .detail ++ replicate (5 - length (v .detail)) 0
 
--- The run as a whole; then the entries discarded and the greatest gaps.
+-- The run as a whole.
 abbrev pub runNumbers : RunRead → List ℕ
 runNumbers r =
-    r .now .0 ∷ r .events ∷ r .seed ∷ phaseNumber (r .phase) ∷ r .queued ∷ r .replies ∷ r .confirmations ∷ r .violations ∷ r .discarded ∷ r .maxLogGaps ∷ []
+    r .now .0 ∷ r .events ∷ r .seed ∷ phaseNumber (r .phase) ∷ r .queued ∷ r .replies ∷ r .confirmations ∷ r .violations ∷ []
+
+-- Servers, clients and the six limits.
+abbrev pub settingsNumbers : SettingsRead → List ℕ
+settingsNumbers r =
+    let l = r .limits in
+    r .servers ∷ r .clients ∷ l .«log_indexes» ∷ l .payload ∷ l .message ∷ l .events ∷ l .writes ∷ l .history ∷ []
 
 -- ---- answers
 
@@ -166,6 +174,7 @@ readingNumbers (gotReply r) = replyNumbers r
 readingNumbers (gotConfirmation c) = confirmationNumbers c
 readingNumbers (gotViolation v) = violationNumbers v
 readingNumbers (gotRun r) = runNumbers r
+readingNumbers (gotSettings r) = settingsNumbers r
 
 -- The numbers of an answer, the refusal first; a refused call answers nothing else.
 unfoldable pub numbersOf : Answer → List ℕ
@@ -192,6 +201,7 @@ readingBytes (gotReply r) = []
 readingBytes (gotConfirmation c) = []
 readingBytes (gotViolation v) = []
 readingBytes (gotRun r) = []
+readingBytes (gotSettings r) = []
 
 -- The bytes that a call wrote to the lent buffer: a step those of a message, a read those of a command.
 unfoldable pub bytesOf : Answer → List ℕ

@@ -25,7 +25,7 @@ use Rattle.model.specs.Simulation as simulation
 use Rattle.model.specs.Calls as calls
 use Rattle.model.specs.Reads as reads
 use Rattle.model.specs.Fits as fits
-use Rattle.book.specs.Calls as book
+use Rattle.model.specs.Outcome as outcome
 use Rattle.runs.specs.Trace as trace
 
 -- Tests and lists.
@@ -70,12 +70,12 @@ called = tt
 
 -- The reads.
 unfoldable pub read : Unit {0}
-unfolding reads.readStatus reads.readHardState reads.readLog reads.readEntry reads.readLeader reads.readApplied reads.readAppliedEntry reads.readMetrics reads.readSentBy reads.readReply reads.readConfirmation reads.readViolation reads.discardedBy reads.readRun
+unfolding reads.readStatus reads.readHardState reads.readLog reads.readEntry reads.readLeader reads.readApplied reads.readAppliedEntry reads.readMetrics reads.readSentBy reads.readReply reads.readConfirmation reads.readViolation reads.discardedBy reads.readRun reads.readSettings
 read = tt
 
 -- Question 10, and the comparison of answers.
 unfoldable pub compared : Unit {0}
-unfolding fits.stateFits book.afterWrite book.afterOutput book.afterRead book.after trace.readingNumbers trace.numbersOf trace.readingBytes trace.bytesOf trace.is trace.differs
+unfolding fits.stateFits outcome.writeOutcome outcome.outputOutcome outcome.readOutcome outcome.outcome outcome.finish trace.readingNumbers trace.numbersOf trace.readingBytes trace.bytesOf trace.is trace.differs
 compared = tt
 
 -- All of it.

@@ -1,6 +1,6 @@
 -- 300 exchanges from the beginning of the Rust's run of the node `vote-not-saved` with seed 20. Between them stand calls that document 01 refuses; of these and of the reads one in 23 is kept, and every read that finds a reply, confirmation, violation or applied entry. Made by `write_run vote-not-saved 20 300 23` (host/README.md). Assumes nothing.
 use mathlib.Core.List.{List, [], _∷_}
-use Rattle.book.specs.Calls.{hardState, put, truncate, send, setTimer, cancelTimer, apply, confirmed, lost, readStatus, readHardState, readLog, readEntry, readLeader, readApplied, readAppliedEntry, readMetrics, readSentBy, readReply, readConfirmation, readViolation, readRun, start, step, propose, fireTimer, confirmLeadership, schedule, write, seal, output, end, checkLogMatching, checkDurability, read}
+use Rattle.model.specs.Outcome.{hardState, put, truncate, send, setTimer, cancelTimer, apply, confirmed, lost, readStatus, readHardState, readLog, readEntry, readLeader, readApplied, readAppliedEntry, readMetrics, readSentBy, readReply, readConfirmation, readViolation, readRun, start, step, propose, fireTimer, confirmLeadership, schedule, write, seal, output, end, checkLogMatching, checkDurability, read}
 use Rattle.runs.specs.Trace.{Exchange, exchange}
 
 -- The exchanges in order.
@@ -43,7 +43,7 @@ exchanges =
     ∷ exchange (schedule (record { 0 = 581984531 }) 2 1 0 []) (0 ∷ []) []
     ∷ exchange (read (readLog 1)) (0 ∷ 0 ∷ 0 ∷ 0 ∷ []) []
     ∷ exchange (schedule (record { 0 = 593448285 }) 2 2 0 []) (0 ∷ []) []
-    ∷ exchange (read readMetrics) (0 ∷ 0 ∷ 0 ∷ 0 ∷ 0 ∷ 0 ∷ 0 ∷ 0 ∷ []) []
+    ∷ exchange (read readMetrics) (0 ∷ 0 ∷ 0 ∷ 0 ∷ 0 ∷ 0 ∷ 0 ∷ 0 ∷ 0 ∷ 0 ∷ []) []
     ∷ exchange (read (readConfirmation 0)) (0 ∷ 0 ∷ 0 ∷ 0 ∷ 0 ∷ []) []
     ∷ exchange (schedule (record { 0 = 635793733 }) 8 500000 0 []) (0 ∷ []) []
     ∷ exchange (read (readApplied 3)) (0 ∷ 0 ∷ []) []
@@ -54,7 +54,7 @@ exchanges =
     ∷ exchange (schedule (record { 0 = 703169487 }) 0 2 0 []) (0 ∷ []) []
     ∷ exchange (read (readHardState 1)) (0 ∷ 0 ∷ 0 ∷ 0 ∷ []) []
     ∷ exchange (schedule (record { 0 = 714263743 }) 5 2 1 []) (0 ∷ []) []
-    ∷ exchange (read readRun) (0 ∷ 0 ∷ 0 ∷ 20 ∷ 0 ∷ 23 ∷ 0 ∷ 0 ∷ 0 ∷ 0 ∷ 0 ∷ []) []
+    ∷ exchange (read readRun) (0 ∷ 0 ∷ 0 ∷ 20 ∷ 0 ∷ 23 ∷ 0 ∷ 0 ∷ 0 ∷ []) []
     ∷ exchange (read (readReply 0)) (0 ∷ 0 ∷ 0 ∷ 0 ∷ 0 ∷ []) []
     ∷ exchange (schedule (record { 0 = 763911851 }) 9 0 0 []) (0 ∷ []) []
     ∷ exchange (read (readLog 3)) (0 ∷ 0 ∷ 0 ∷ 0 ∷ []) []
@@ -85,7 +85,7 @@ exchanges =
     ∷ exchange (schedule (record { 0 = 1230087470 }) 4 0 0 (3 ∷ 4 ∷ [])) (0 ∷ []) []
     ∷ exchange (read (readLog 1)) (0 ∷ 0 ∷ 0 ∷ 0 ∷ []) []
     ∷ exchange (schedule (record { 0 = 1234743783 }) 7 0 0 []) (0 ∷ []) []
-    ∷ exchange (read readMetrics) (0 ∷ 0 ∷ 0 ∷ 0 ∷ 0 ∷ 0 ∷ 0 ∷ 0 ∷ []) []
+    ∷ exchange (read readMetrics) (0 ∷ 0 ∷ 0 ∷ 0 ∷ 0 ∷ 0 ∷ 0 ∷ 0 ∷ 0 ∷ 0 ∷ []) []
     ∷ exchange (read (readSentBy 0)) (7 ∷ []) []
     ∷ exchange (schedule (record { 0 = 1313050680 }) 5 1 3 []) (0 ∷ []) []
     ∷ exchange (schedule (record { 0 = 1343977827 }) 2 1 0 []) (0 ∷ []) []
@@ -105,7 +105,7 @@ exchanges =
     ∷ exchange (schedule (record { 0 = 1500000000 }) 9 0 0 []) (0 ∷ []) []
     ∷ exchange (read (readHardState 1)) (0 ∷ 0 ∷ 0 ∷ 0 ∷ []) []
     ∷ exchange (schedule (record { 0 = 1500000000 }) 2 3 0 []) (0 ∷ []) []
-    ∷ exchange (read readRun) (0 ∷ 0 ∷ 0 ∷ 20 ∷ 0 ∷ 47 ∷ 0 ∷ 0 ∷ 0 ∷ 0 ∷ 0 ∷ []) []
+    ∷ exchange (read readRun) (0 ∷ 0 ∷ 0 ∷ 20 ∷ 0 ∷ 47 ∷ 0 ∷ 0 ∷ 0 ∷ []) []
     ∷ exchange (read (readReply 0)) (0 ∷ 0 ∷ 0 ∷ 0 ∷ 0 ∷ []) []
     ∷ exchange (schedule (record { 0 = 1500000000 }) 11 0 0 []) (0 ∷ []) []
     ∷ exchange (read (readLog 3)) (0 ∷ 0 ∷ 0 ∷ 0 ∷ []) []
@@ -136,7 +136,7 @@ exchanges =
     ∷ exchange (schedule (record { 0 = 1047641637 }) 2 3 0 []) (0 ∷ []) []
     ∷ exchange (read (readLog 1)) (0 ∷ 0 ∷ 0 ∷ 0 ∷ []) []
     ∷ exchange (schedule (record { 0 = 1232182775 }) 1 3 0 []) (0 ∷ []) []
-    ∷ exchange (read readMetrics) (0 ∷ 0 ∷ 0 ∷ 0 ∷ 0 ∷ 0 ∷ 0 ∷ 0 ∷ []) []
+    ∷ exchange (read readMetrics) (0 ∷ 0 ∷ 0 ∷ 0 ∷ 0 ∷ 0 ∷ 0 ∷ 0 ∷ 0 ∷ 0 ∷ []) []
     ∷ exchange (read (readConfirmation 0)) (0 ∷ 0 ∷ 0 ∷ 0 ∷ 0 ∷ []) []
     ∷ exchange (schedule (record { 0 = 1277305278 }) 2 3 0 []) (0 ∷ []) []
     ∷ exchange (read (readApplied 3)) (0 ∷ 0 ∷ []) []
@@ -147,7 +147,7 @@ exchanges =
     ∷ exchange (schedule (record { 0 = 1110925853 }) 0 1 0 []) (0 ∷ []) []
     ∷ exchange (read (readHardState 1)) (0 ∷ 0 ∷ 0 ∷ 0 ∷ []) []
     ∷ exchange (schedule (record { 0 = 1147969234 }) 2 1 0 []) (0 ∷ []) []
-    ∷ exchange (read readRun) (0 ∷ 0 ∷ 0 ∷ 20 ∷ 0 ∷ 66 ∷ 0 ∷ 0 ∷ 0 ∷ 0 ∷ 0 ∷ []) []
+    ∷ exchange (read readRun) (0 ∷ 0 ∷ 0 ∷ 20 ∷ 0 ∷ 66 ∷ 0 ∷ 0 ∷ 0 ∷ []) []
     ∷ exchange (read (readLog 18446744073709551615)) (7 ∷ []) []
     ∷ exchange (schedule (record { 0 = 887069437 }) 1 3 0 []) (0 ∷ []) []
     ∷ exchange (schedule (record { 0 = 903547331 }) 2 3 0 []) (0 ∷ []) []
@@ -237,7 +237,7 @@ exchanges =
     ∷ exchange (step (record { 0 = 1500000000 }) 95) (0 ∷ 1 ∷ 0 ∷ 0 ∷ 0 ∷ 0 ∷ 0 ∷ []) []
     ∷ exchange (read (readLog 1)) (0 ∷ 0 ∷ 0 ∷ 0 ∷ []) []
     ∷ exchange (step (record { 0 = 1500000000 }) 95) (0 ∷ 1 ∷ 0 ∷ 0 ∷ 0 ∷ 0 ∷ 0 ∷ []) []
-    ∷ exchange (read readMetrics) (0 ∷ 8 ∷ 0 ∷ 0 ∷ 0 ∷ 4 ∷ 35 ∷ 0 ∷ []) []
+    ∷ exchange (read readMetrics) (0 ∷ 8 ∷ 0 ∷ 0 ∷ 0 ∷ 4 ∷ 35 ∷ 0 ∷ 0 ∷ 0 ∷ []) []
     ∷ exchange (read (readConfirmation 0)) (0 ∷ 0 ∷ 0 ∷ 0 ∷ 0 ∷ []) []
     ∷ exchange (step (record { 0 = 1500000000 }) 95) (0 ∷ 1 ∷ 2 ∷ 2 ∷ 1 ∷ 3 ∷ 0 ∷ []) (1 ∷ 1 ∷ 1 ∷ [])
     ∷ exchange (write (put (record { 0 = 1 }) (record { 0 = 1 }) 0 [])) (0 ∷ []) []

@@ -2,8 +2,8 @@
 use mathlib.Core.Bool.{Bool}
 use mathlib.Core.List.{List, _++_}
 use Prim.Native.Nat.{ℕ}
-use lib.Dec.{eqb}
-use lib.ListN.{drop}
+use lib.Dec.{eqb, ltb}
+use lib.ListN.{length, drop}
 use Rattle.laws.specs.Bools.{pick}
 use Rattle.model.specs.State.{State}
 use Rattle.model.specs.Calls.{Out, refused, done}
@@ -23,3 +23,17 @@ module _ {A R : Type 0} (no : ℕ → R) (say : A → R) where
   -- What a call answers, and the bytes after it.
   unfoldable pub call : List ℕ → (State → Out A) → R × List ℕ
   call b f = pick (eqb (gate b) 0) (finish b (f (decode b))) (no (gate b), b)
+
+  -- An outcome's answer.
+  abbrev pub answered : Out A → R
+  answered (refused n) = no n
+  answered (done a s) = say a
+
+  -- What a call that only reads answers: question 10 is not asked of it, and no byte changes.
+  unfoldable pub reading : List ℕ → (State → Out A) → R
+  reading b f = pick (eqb (gate b) 0) (answered (f (decode b))) (no (gate b))
+
+  -- What a start answers, and the bytes after it: it reads no old byte, and asks question 4 behind its own.
+  unfoldable pub starting : List ℕ → Out A → R × List ℕ
+  starting b (refused n) = (no n, b)
+  starting b (done a s) = pick (ltb (length b) (bytesOf (capacityOf s))) (no 4, b) (finish b (done a s))

@@ -19,9 +19,8 @@ use Rattle.state.specs.Area.{Area, capacityOf}
 use Rattle.state.specs.Decode.{gate, decode}
 use Rattle.state.specs.Encode.{encode}
 use Rattle.state.specs.EncodeLaws.{area-is}
-use Rattle.state.specs.Fitting.{area-fits}
 use Rattle.state.specs.Changes.{Inside, Gated, AreaOf, Changes, Reads, Planned, judged}
-use Rattle.state.specs.Call.{finish, call}
+use Rattle.state.specs.Call.{finish, call, reading}
 
 -- ---- numbers of an area that was let through
 
@@ -56,6 +55,21 @@ module _ {A R : Type 0} (no : ℕ → R) (say : A → R) (b : List ℕ) (f : Sta
         ∙ sym (ap (finish no say b) q ∙ ap (λ (u : Bool). pick u (say a, encode s ++ drop (bytesOf (capacityOf s)) b) (no 10, b)) t) ∙ enter
 
   module _ (g : Gate) (q : Gated b g) where
+    -- a call that only reads: shut out by the gate, refused, or answered
+    pub read-shut : (r : R) → 0 < g .refusal → r ≡ no (g .refusal) → r ≡ reading no say b f
+    unfolding reading
+    read-shut r n e =
+        let nonzero : eqb (gate b) 0 ≡ false = ne-eqb (gate b) 0 (λ w. let o : 0 < 0 = subst (λ (m : ℕ). 0 < m) (q .code ∙ w) n in omega arith) in
+        e ∙ ap no (q .code) ∙ rw nonzero refl
+
+    pub read-refused : g .refusal ≤ 0 → (r : R) (n : ℕ) → f (decode b) ≡ refused n → r ≡ no n → r ≡ reading no say b f
+    unfolding reading
+    read-refused y r n e er = er ∙ rw (eq-eqb (gate b) 0 (sym (q .code) ∙ (let z : g .refusal ≡ 0 = omega arith in z)), e) refl
+
+    pub read-answered : g .refusal ≤ 0 → (r : R) (a : A) (s : State) → f (decode b) ≡ done a s → r ≡ say a → r ≡ reading no say b f
+    unfolding reading
+    read-answered y r a s e er = er ∙ rw (eq-eqb (gate b) 0 (sym (q .code) ∙ (let z : g .refusal ≡ 0 = omega arith in z)), e) refl
+
     -- the gate refused
     pub call-shut : (r : R) → 0 < g .refusal → r ≡ no (g .refusal) → (r, b) ≡ call no say b f
     call-shut r n e = ap (λ (x : R). (x, b)) e ∙ shut (g .refusal) (q .code) (λ z. let o : 0 < 0 = subst (λ (m : ℕ). 0 < m) z n in omega arith)
@@ -63,13 +77,6 @@ module _ {A R : Type 0} (no : ℕ → R) (say : A → R) (b : List ℕ) (f : Sta
     module _ (y : g .refusal ≤ 0) where
       z : g .refusal ≡ 0
       z = omega arith
-
-      -- a call that only reads: refused, or answered
-      pub read-refused : (r : R) (n : ℕ) → f (decode b) ≡ refused n → r ≡ no n → r ≡ call no say b f .0
-      read-refused r n e er = er ∙ ap (λ (p : R × List ℕ). p .0) (refuses (g .refusal) (q .code) z n e)
-
-      pub read-answered : (r : R) (a : A) → f (decode b) ≡ done a (decode b) → r ≡ say a → r ≡ call no say b f .0
-      read-answered r a e er = er ∙ ap (λ (p : R × List ℕ). p .0) (acts (g .refusal) (q .code) z a (decode b) b e (area-fits (q .area z)) (q .area z) refl)
 
       -- the plan refused, or the act is done
       module _ (c : ℕ) (a : A) (op : State → State) (p : Planned b (g .capacity) c f a op) where

@@ -9,7 +9,7 @@ use crate::{Call, Exchange, Numbers, Trace};
 /// The names that exchanges are written with.
 const NAMES: &str = "\
 use mathlib.Core.List.{List, [], _∷_}
-use Rattle.book.specs.Calls.{hardState, put, truncate, send, setTimer, cancelTimer, apply, confirmed, lost, readStatus, readHardState, readLog, readEntry, readLeader, readApplied, readAppliedEntry, readMetrics, readSentBy, readReply, readConfirmation, readViolation, readRun, start, step, propose, fireTimer, confirmLeadership, schedule, write, seal, output, end, checkLogMatching, checkDurability, read}
+use Rattle.model.specs.Outcome.{hardState, put, truncate, send, setTimer, cancelTimer, apply, confirmed, lost, readStatus, readHardState, readLog, readEntry, readLeader, readApplied, readAppliedEntry, readMetrics, readSentBy, readReply, readConfirmation, readViolation, readRun, start, step, propose, fireTimer, confirmLeadership, schedule, write, seal, output, end, checkLogMatching, checkDurability, read}
 use Rattle.runs.specs.Trace.{Exchange, exchange}
 ";
 
@@ -25,13 +25,12 @@ impl Trace {
     /// Of the calls that change nothing, reads and refused ones, one in `still` is written, and
     /// every read that finds an element of a list. Left out are calls that the definitions do
     /// not have: a schedule, which takes no area, and a start that is refused for its area's
-    /// length. They have the last two numbers of the metrics with the run, so these are written
-    /// there.
+    /// length.
     pub fn to_antt(&self, about: &str, most: usize, still: usize) -> String {
         let mut buffer = 0;
         let mut met = 0;
         let mut lines = Vec::new();
-        for (place, Exchange { call, answer }) in self.exchanges.iter().enumerate() {
+        for Exchange { call, answer } in &self.exchanges {
             let refusal = answer.numbers.refusal();
             if let (Call::Start { limits, .. }, 0) = (call, refusal) {
                 buffer = limits.message.max(limits.payload);
@@ -43,7 +42,7 @@ impl Trace {
                 continue;
             }
             let call = text(call, buffer);
-            let numbers = list(self.numbers(place));
+            let numbers = list(numbers_of(&answer.numbers));
             let bytes = bytes(&answer.bytes);
             lines.push(format!("exchange ({call}) {numbers} {bytes}\n    ∷ "));
         }
@@ -51,27 +50,15 @@ impl Trace {
         let exchanges = lines.concat();
         format!("-- {about}\n{NAMES}{DECLARED}    {exchanges}[]\n")
     }
+}
 
-    /// The numbers of an answer as the definitions have them: of a refused call its number alone.
-    fn numbers(&self, place: usize) -> Vec<u64> {
-        let numbers = self.exchanges[place].answer.numbers;
-        let mut words = numbers.to_words();
-        match numbers {
-            _ if numbers.refusal() != 0 => words.truncate(1),
-            Numbers::Metrics(_) => words.truncate(words.len() - 2),
-            Numbers::Run(_) => {
-                let mut later = self.exchanges[place..].iter();
-                let metrics = later.find_map(|exchange| match exchange.answer.numbers {
-                    Numbers::Metrics(metrics) => Some(metrics),
-                    _ => None,
-                });
-                let metrics = metrics.expect("the metrics are read with the run");
-                words.extend([metrics.discarded, metrics.max_log_gaps]);
-            }
-            _ => {}
-        }
-        words
+/// The numbers of an answer as the definitions have them: of a refused call its number alone.
+fn numbers_of(numbers: &Numbers) -> Vec<u64> {
+    let mut words = numbers.to_words();
+    if numbers.refusal() != 0 {
+        words.truncate(1);
     }
+    words
 }
 
 /// Whether the definitions have the call, and ask what refused it.

@@ -1,0 +1,4 @@
+pub mod Claim
+pub mod States
+pub mod OnArea
+pub mod Areas
