@@ -15,5 +15,6 @@ pub mod Exists
 pub mod FitsBy
 pub mod Changes
 pub mod Puts
+pub mod Lens
 pub mod Call
 pub mod Exits
