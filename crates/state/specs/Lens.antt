@@ -6,7 +6,7 @@ use Prim.Native.Nat.{ℕ, zero, suc, _+_, _-_, _*_, _≤_, _<_}
 use native.Mathlib.Omega.{arith}
 use lib.ListN.{length, getD, set, drop, take, length-append, length-drop, length-set, take-append-drop, drop-of-length-le}
 use lib.Seq.{length-take-le, getD-set-same, take-at, drop-at}
-use Rattle.laws.specs.Bools.{every, every-get, and-left, and-right}
+use Rattle.laws.specs.Bools.{_and_, every, every-get, and-left, and-right}
 use Rattle.laws.specs.Lists.{modify}
 use Rattle.metrics.specs.Laws.{modify-set}
 use Rattle.client.specs.declared.ClientKey.{ClientKey}
@@ -39,7 +39,7 @@ use Rattle.state.specs.Area.{capacityOf, servers, serversCode}
 use Rattle.state.specs.Encode.{contents}
 use Rattle.state.specs.ServerFits.{server-good}
 use Rattle.state.specs.Fitting.{laid-limits, area-fits}
-use Rattle.state.specs.FitsBy.{fits-test, server-count}
+use Rattle.state.specs.FitsBy.{fits-test, server-count, fits-server}
 use Rattle.state.specs.Changes.{AreaOf}
 use Rattle.state.specs.Puts.{one-put}
 
@@ -148,6 +148,36 @@ module _ (F : Capacity) (v : Server) where
         ∙ append-nil (joined (serverContents F v)) ∙ sym content-is;
   }
 
+-- ---- one server changed
+
+modify-twice : {A : Type 0} (f g : A → A) (k : ℕ) (xs : List A) → modify k g (modify k f xs) ≡ modify k (λ x. g (f x)) xs
+unfolding modify
+modify-twice f g k [] = refl
+modify-twice f g zero (x ∷ xs) = refl
+modify-twice f g (suc k) (x ∷ xs) = ap (λ (l : List _). x ∷ l) (modify-twice f g k xs)
+
+-- one server changed twice
+pub server-twice : (s : State) (k : ℕ) (f g : Server → Server) → onServer (onServer s k f) k g ≡ onServer s k (λ v. g (f v))
+server-twice s k f g = ap (withServers s) (modify-twice f g k (s .servers))
+
+module _ (s : State) (k : ℕ) (f : Server → Server) where
+  -- the server after its change
+  pub server-after : k < length (s .servers) → serverAt (onServer s k f) k ≡ f (serverAt s k)
+  server-after i = ap (λ (l : List Server). getD l k (newServer 0)) (modify-set f (newServer 0) k (s .servers)) ∙ getD-set-same (s .servers) k (f (serverAt s k)) (newServer 0) i
+
+  -- where the state fits then, the server is in range
+  pub server-in-range : k < length (s .servers) → stateFits (onServer s k f) ≡ true → serverFits (s .config) (s .limits) (f (serverAt s k)) ≡ true
+  server-in-range i t =
+      let n : length (modify k f (s .servers)) ≡ length (s .servers) = ap length (modify-set f (newServer 0) k (s .servers)) ∙ length-set (s .servers) k (f (serverAt s k)) in
+      subst (λ (x : Server). serverFits (s .config) (s .limits) x ≡ true) (server-after i)
+      (every-get (serverFits (s .config) (s .limits)) (modify k f (s .servers)) k (newServer 0) (omega (arith, n)) (fits-test (onServer s k f) t 5))
+
+  -- question 10: that server's tests, and all tests that were before
+  pub fits-on-server : length (s .servers) ≡ s .config .servers → k < s .config .servers → every (serverFits (s .config) (s .limits)) (s .servers) ≡ true
+      → stateFits (onServer s k f) ≡ (serverFits (s .config) (s .limits) (f (serverAt s k)) and stateFits s)
+  fits-on-server n i h =
+      ap (λ (l : List Server). stateFits (withServers s l)) (modify-set f (newServer 0) k (s .servers)) ∙ fits-server s k (f (serverAt s k)) n i h
+
 -- ---- the block in the area
 
 -- by the counts of the state itself
@@ -220,15 +250,6 @@ module _ {b r : List ℕ} {F : Capacity} {s : State} (h : AreaOf b r F s) (k : �
   -- the server at k has a content
   pub server-at-held : ServerHeld F (serverAt s k)
   server-at-held = server-held F (serverAt s k) (server-lent .good)
-
-  -- a server that is put into a state which then fits has a content
-  put-good : (v : Server) → stateFits (withServers s (set (s .servers) k v)) ≡ true → serverGood F v ≡ true
-  put-good v t =
-      let j : k < length (s .servers) = omega (arith, server-count s (area-fits (h .area)), ap (λ (G : Capacity). G .servers) (h .capacity)) in
-      let f : serverFits (s .config) (s .limits) v ≡ true =
-      subst (λ (x : Server). serverFits (s .config) (s .limits) x ≡ true) (getD-set-same (s .servers) k v (newServer 0) j)
-      (every-get (serverFits (s .config) (s .limits)) (set (s .servers) k v) k (newServer 0) (omega (arith, length-set (s .servers) k v)) (fits-test (withServers s (set (s .servers) k v)) t 5)) in
-      subst (λ (G : Capacity). serverGood G v ≡ true) (sym (h .capacity)) (server-good (s .config) (s .limits) (laid-limits (h .area .laid)) v f)
 
 -- ---- regions of the block, one after another
 
@@ -327,21 +348,9 @@ module _ {b r : List ℕ} {F : Capacity} {s : State} {k : ℕ} {xs : List (List 
   cut-server f x t =
       let v : Server = f (serverAt s k) in
       let is : modify k f (s .servers) ≡ set (s .servers) k v = modify-set f (newServer 0) k (s .servers) in
-      let u : stateFits (withServers s (set (s .servers) k v)) ≡ true = subst (λ (l : List Server). stateFits (withServers s l) ≡ true) is t in
+      let j : k < length (s .servers) = omega (arith, c .below, server-count s (area-fits (c .area .area)), ap (λ (G : Capacity). G .servers) (c .area .capacity)) in
+      let g : serverGood F v ≡ true =
+      subst (λ (G : Capacity). serverGood G v ≡ true) (sym (c .area .capacity)) (server-good (s .config) (s .limits) (laid-limits (c .area .area .laid)) v (server-in-range s k f j t)) in
       subst (λ (l : List Server). AreaOf b r F (withServers s l)) (sym is)
       (subst (λ (l : List ℕ). AreaOf l r F (withServers s (set (s .servers) k v))) (sym (c .side))
-      (server-put (c .area) k (c .below) (c .block) v (cut-block F v (c .block) (put-good (c .area) k (c .below) v u) (c .cuts ∙ x) (c .long)) u))
-
--- ---- one server changed twice, and the server after a change
-
-modify-twice : {A : Type 0} (f g : A → A) (k : ℕ) (xs : List A) → modify k g (modify k f xs) ≡ modify k (λ x. g (f x)) xs
-unfolding modify
-modify-twice f g k [] = refl
-modify-twice f g zero (x ∷ xs) = refl
-modify-twice f g (suc k) (x ∷ xs) = ap (λ (l : List _). x ∷ l) (modify-twice f g k xs)
-
-pub server-twice : (s : State) (k : ℕ) (f g : Server → Server) → onServer (onServer s k f) k g ≡ onServer s k (λ v. g (f v))
-server-twice s k f g = ap (withServers s) (modify-twice f g k (s .servers))
-
-pub server-after : (s : State) (k : ℕ) (f : Server → Server) → k < length (s .servers) → serverAt (onServer s k f) k ≡ f (serverAt s k)
-server-after s k f i = ap (λ (l : List Server). getD l k (newServer 0)) (modify-set f (newServer 0) k (s .servers)) ∙ getD-set-same (s .servers) k (f (serverAt s k)) (newServer 0) i
+      (server-put (c .area) k (c .below) (c .block) v (cut-block F v (c .block) g (c .cuts ∙ x) (c .long)) (subst (λ (l : List Server). stateFits (withServers s l) ≡ true) is t)))
