@@ -3,12 +3,12 @@ use mathlib.Core.Path.{_≡_, refl, sym, ap, ap₂, subst, _∙_}
 use mathlib.Core.Bool.{Bool, true, false, _||_}
 use mathlib.Core.List.{List, [], _∷_, _++_}
 use mathlib.Core.Option.{Option, none, some}
-use Prim.Native.Nat.{ℕ, zero, suc, _+_, _-_, _*_, _≤_, _<_}
+use Prim.Native.Nat.{ℕ, suc, _+_, _-_, _*_, _≤_, _<_}
 use native.Mathlib.Numerals.{add-one}
 use native.Mathlib.Omega.{arith}
 use lib.Dec.{leb, ltb}
 use lib.ListN.{length, getD, set, take, drop, replicate, drop-of-length-le}
-use lib.Seq.{sets, take-at, drop-at, drop-cons}
+use lib.Seq.{sets, drop-at, drop-cons}
 use borrow.Author.Tests.{le-leb, lt-leb, ltb-true, ltb-false}
 use Rattle.laws.specs.Bools.{pick, cases, every, allb-in, and-left, and-right}
 use Rattle.laws.specs.Lists.{isSome}
@@ -18,7 +18,6 @@ use Rattle.client.specs.Key.{keyOf}
 use Rattle.client.specs.declared.ClientKey.{ClientKey}
 use Rattle.words.specs.Words.{W, bytes, bytesOf as bytesOfNumber}
 use Rattle.words.specs.Lift.{bytes-append, bytes-one, length-bytes, sets-whole}
-use Rattle.layout.specs.Cuts.{total}
 use Rattle.layout.specs.Tables.{Holds, Held, rowsIn}
 use Rattle.layout.specs.TableLaws.{held-rows, held-length, rows-are, clear-held}
 use Rattle.layout.specs.Contents.{holds-parse, holds-W}
@@ -41,12 +40,12 @@ use Rattle.units.specs.declared.TermOption.{TermOption}
 use Rattle.state.specs.Sizes.{blockWords, pendingWords, bytesOf, BlockAt, Counted}
 use Rattle.state.specs.SizeLaws.{room}
 use Rattle.state.specs.Parts.{serverStateIn, serverStateWords, serverStateCode, statusWords, boolNumber, termFlag, termNumber}
-use Rattle.state.specs.Server.{stateOfServer, status-here, term-here, optionTerm, termOption′, optionStatus, statusOption}
+use Rattle.state.specs.Server.{stateOfServer, status-here, term-here, optionStatus}
 use Rattle.state.specs.Area.{Area, capacityOf}
 use Rattle.state.specs.Fitting.{area-fits}
 use Rattle.state.specs.FitsBy.{server-count}
 use Rattle.state.specs.Changes.{Inside, AreaOf, Changes, Reads}
-use Rattle.state.specs.Lens.{blockParts, ServerCut, serverContents, ServerHeld, server-cut, server-at-held, part-lent, part-put, cut-server, server-in-range, pendingContent}
+use Rattle.state.specs.Lens.{ServerCut, serverContents, server-cut, server-at-held, part-lent, part-put, cut-server, server-in-range, pendingContent}
 use Rattle.state_server.specs.Servers.{BlockIn, serverStateAt, statusAt, withCount, withState, serverStateSet, StoresState, PendingIn, pendingAt, PendingCount, Counts, pendingHas, pendingRoom, registered, forgotten, pendingCleared, afterServer}
 
 -- ---- places
@@ -187,7 +186,7 @@ room-read b F k n key known c q = record {
 -- ---- the pending keys, written
 
 -- a test of every key with another put in is a test of that key
-insert-tested : (p : ClientKey → Bool) (key : ClientKey) (x : List ClientKey) → every p (insertBy pairs keyOf key x) ≡ true → p key ≡ true
+pub insert-tested : (p : ClientKey → Bool) (key : ClientKey) (x : List ClientKey) → every p (insertBy pairs keyOf key x) ≡ true → p key ≡ true
 unfolding insertBy
 insert-tested p key [] h = and-left _ _ h
 insert-tested p key (c ∷ x) h = by (pairs .before (keyOf c) (keyOf key)) refl (pairs .before (keyOf key) (keyOf c)) refl h (insert-tested p key x)

@@ -1,21 +1,28 @@
 -- One server of a state, without its storage: what is read of it, and the state with it another. Assumes nothing.
 use mathlib.Core.Path.{_≡_}
 use mathlib.Core.Bool.{Bool}
-use mathlib.Core.List.{List, []}
-use Prim.Native.Nat.{ℕ, _+_, _*_, _≤_, _<_}
-use lib.Dec.{leb}
+use mathlib.Core.List.{List, [], _∷_}
+use Prim.Native.Nat.{ℕ, _+_, _*_, _^_, _≤_}
+use lib.Dec.{leb, ltb}
 use lib.ListN.{length, getD, set, take}
+use Rattle.laws.specs.Bools.{allb}
 use Rattle.laws.specs.Lists.{isSome}
 use Rattle.laws.specs.Order.{pairs, lookup, insertBy, removeBy}
+use Rattle.units.specs.declared.Term.{Term}
+use Rattle.config.specs.declared.SimConfig.{SimConfig}
+use Rattle.config.specs.declared.Limits.{Limits}
+use Rattle.queue.specs.Range.{word}
 use Rattle.client.specs.Key.{keyOf}
 use Rattle.client.specs.declared.ClientKey.{ClientKey}
 use Rattle.words.specs.Words.{bytes}
 use Rattle.layout.specs.Cuts.{total}
+use Rattle.layout.specs.Keys.{keys}
 use Rattle.leader.specs.Leader.{better}
 use Rattle.leader.specs.declared.LeaderOption.{LeaderOption}
 use Rattle.model.specs.State.{State, Server, serverAt, idOf}
 use Rattle.model.specs.Fields.{withPending}
 use Rattle.model.specs.Simulation.{onServer}
+use Rattle.model.specs.Fits.{ifSome, statusFits}
 use Rattle.state.specs.declared.Capacity.{Capacity}
 use Rattle.state.specs.declared.ServerState.{ServerState}
 use Rattle.state.specs.declared.StatusOption.{StatusOption}
@@ -72,6 +79,19 @@ withState x v = record {
 unfoldable pub serverStateSet : ℕ → ServerState → State → State
 serverStateSet k x s = onServer s k (withState x)
 
+-- Whether the state x of a server is in range: its status, its incarnation of 32 bits, its generations, next-apply of 1 to L + 1, the term that it leads.
+unfoldable pub stateInRange : SimConfig → Limits → ServerState → Bool
+stateInRange config limits x =
+    allb (
+    ifSome (statusFits config limits) (statusOption (x .status))
+    ∷ ltb (x .incarnation) (2 ^ 32)
+    ∷ word (x .election)
+    ∷ word (x .heartbeat)
+    ∷ leb 1 (x .«next_apply»)
+    ∷ leb (x .«next_apply») (limits .«log_indexes» + 1)
+    ∷ ifSome (λ (term : Term). word (term .0)) (termOption′ (x .leading))
+    ∷ [])
+
 -- Whatever server's state the bytes b are, b′ are x with the count of pending keys that was there.
 pub record StoresState (b b′ : List ℕ) (x : ServerState) : Type 0 where
   pub to : (y : ServerState) → b ≡ bytes (serverStateWords y) → b′ ≡ bytes (serverStateWords (withCount x (y .pending)))
@@ -104,6 +124,10 @@ pendingHas k key s = isSome (lookup pairs keyOf (keyOf key) (serverAt s k .pendi
 -- Whether its keys with this one are at most H.
 unfoldable pub pendingRoom : ℕ → ClientKey → State → Bool
 pendingRoom k key s = leb (length (insertBy pairs keyOf key (serverAt s k .pending))) (s .limits .history)
+
+-- Whether a key is one of a client's: 64 bits each, and the client below C.
+unfoldable pub keyInRange : ℕ → ClientKey → Bool
+keyInRange C key = keys C .row .good key
 
 -- The state with a key registered at the server at k.
 unfoldable pub registered : ℕ → ClientKey → State → State

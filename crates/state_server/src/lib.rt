@@ -1,7 +1,7 @@
 // One server of the state that an area holds, by its place from 0 on: its status, counters and flags, and its pending keys; and the leader of
 // all servers.
 ghost use mathlib.Core.Path.{_≡_};
-ghost use Prim.Native.Nat.{_+_, _*_, _≤_, _<_};
+ghost use Prim.Native.Nat.{_+_, _*_, _<_};
 ghost use lib.ListN.{length};
 ghost use Rattle.model.specs.Simulation.{leaderOf};
 ghost use Rattle.state.specs.Parts.{boolNumber};
