@@ -16,5 +16,6 @@ pub mod FitsBy
 pub mod Changes
 pub mod Puts
 pub mod Tables
+pub mod Lens
 pub mod Call
 pub mod Exits
