@@ -2,12 +2,16 @@
 use mathlib.Core.Path.{_≡_}
 use mathlib.Core.Bool.{Bool}
 use mathlib.Core.List.{List, [], _∷_}
-use Prim.Native.Nat.{ℕ, _+_}
+use Prim.Native.Nat.{ℕ, zero, suc, _+_, _≤_}
 use lib.Dec.{leb}
 use lib.ListN.{length}
 use lib.Seq.{sets}
+use Rattle.laws.specs.Lists.{listFrom}
 use Rattle.units.specs.declared.SimTime.{SimTime}
+use Rattle.rng.specs.Rng.{under}
+use Rattle.rng.specs.declared.Rng.{Rng}
 use Rattle.queue.specs.declared.Event.{Event}
+use Rattle.queue.specs.declared.Event.the-variants as event
 use Rattle.queue.specs.Queue.{Scheduled, Queue, push}
 use Rattle.queue.specs.Range.{scheduledFits}
 use Rattle.queue.specs.Table.{rest}
@@ -16,6 +20,7 @@ use Rattle.model.specs.Fields.{withQueue}
 use Rattle.model.specs.Simulation.{firstSends}
 use Rattle.state.specs.declared.Capacity.{Capacity}
 use Rattle.state.specs.Area.{Area, capacityOf}
+use Rattle.state.specs.Changes.{Inside, Changes, Reads}
 use Rattle.state_queue.specs.declared.NextEvent.{NextEvent}
 use Rattle.state_queue.specs.declared.NextEvent.the-variants.{None, Some}
 
@@ -65,6 +70,29 @@ unfoldable pub pushedAll : List Scheduled → State → State
 pushedAll [] s = s
 pushedAll (e ∷ es) s = pushedAll es (pushed e s)
 
+-- The first event of each of n clients from client c on, all at one time.
+unfoldable pub sendEvents : SimTime → ℕ → ℕ → List Scheduled
+sendEvents time c n = listFrom c n (λ k. plain time (event.ClientSend k))
+
+-- The Start event of each of n servers from a place on, at times drawn below the spread.
+unfoldable pub startEvents : ℕ → ℕ → ℕ → Rng → List Scheduled
+startEvents spread slot zero g = []
+startEvents spread slot (suc n) g =
+    let d = under g spread in
+    plain (record { 0 = d .value }) (event.Start slot) ∷ startEvents spread (suc slot) n (d .next)
+
 -- The state with the first event of each of its clients.
 unfoldable pub firstSent : State → State
 firstSent s = firstSends s 0 (length (s .clients))
+
+-- The time of a state.
+abbrev pub nowOf : State → SimTime
+nowOf s = s .now
+
+-- The first events of c clients were pushed, at the time that the state in b has: b′ is as long, and holds the state with them.
+pub record Sending (b : List ℕ) (F : Capacity) (time : SimTime) (b′ : List ℕ) (c : ℕ) : Type 0 where
+  pub inside : Inside b′ F
+  pub long : length b′ ≡ length b
+  pub few : c ≤ F .clients
+  pub time-is : Reads b F time nowOf
+  pub changes : Changes b b′ F (pushedAll (sendEvents time 0 c))

@@ -11,13 +11,15 @@ use Rattle.laws.specs.Bools.{pick, _and_, and-left, and-right, and-both, and-tr
 use Rattle.laws.specs.Order.{numbers, notBelow, next, chain, sorted, pushBy}
 use Rattle.laws.specs.OrderLaws.{every-push, length-push}
 use Rattle.layout.specs.Sorted.{sorted-push}
+use Rattle.units.specs.declared.SimTime.{SimTime}
+use Rattle.queue.specs.declared.Event.{Event}
 use Rattle.queue.specs.Queue.{Scheduled, Queue, timeOf, push}
-use Rattle.queue.specs.Range.{inOrder}
+use Rattle.queue.specs.Range.{word, eventFits, messageRoom, messageFits, inOrder}
 use Rattle.queue.specs.Table.{rest}
 use Rattle.model.specs.State.{State}
 use Rattle.model.specs.Fits.{stateFits, stateTests, queueFits}
 use Rattle.state.specs.FitsBy.{fits-one, fits-test}
-use Rattle.state_queue.specs.Events.{queueRoom, eventInRange, dequeued, pushed, pushedAll}
+use Rattle.state_queue.specs.Events.{queueRoom, eventInRange, dequeued, pushed, plain, pushedAll}
 
 -- ---- a queue before a push
 
@@ -51,7 +53,7 @@ module _ (a : Scheduled) where
       by false k more = let m = more (and-right _ _ k) in and-both _ _ (and-left _ _ m) (and-both _ _ (and-left _ _ k) (and-right _ _ m))
 
 -- two tests that are true together are equal
-same-tests : (t u : Bool) → (t ≡ true → u ≡ true) → (u ≡ true → t ≡ true) → t ≡ u
+pub same-tests : (t u : Bool) → (t ≡ true → u ≡ true) → (u ≡ true → t ≡ true) → t ≡ u
 same-tests true u f g = sym (f refl)
 same-tests false true f g = g refl
 same-tests false false f g = refl
@@ -79,13 +81,6 @@ module _ (s : State) (e : Scheduled) where
       and-both _ _ (ap (λ (n : ℕ). leb n (s .limits .events)) (length-push numbers timeOf e (s .queue)) ∙ and-left _ _ k)
       (and-both _ _ (every-push numbers timeOf _ e (s .queue) (and-right _ _ k) (and-left _ _ (and-right _ _ h))) (sorted-push numbers timeOf e (s .queue) (and-right _ _ (and-right _ _ h))))
 
-  -- one event more, where the queue fitted
-  pub fits-push : queueFits (s .config) (s .limits) (s .queue) ≡ true → stateFits (pushed e s) ≡ ((queueRoom 1 s and eventInRange s e) and stateFits s)
-  unfolding pushed push
-  fits-push h =
-      fits-one s (pushed e s) 3 (queueFits (s .config) (s .limits) q′) (omega arith) h refl
-      ∙ ap (λ (u : Bool). u and stateFits s) (same-tests (queueFits (s .config) (s .limits) q′) (queueRoom 1 s and eventInRange s e) (λ k. and-left _ _ (queue-before k)) (queue-after h))
-
   -- what fits with one event more fits without it
   pub fits-unpushed : stateFits (pushed e s) ≡ true → stateFits s ≡ true
   unfolding pushed push
@@ -93,21 +88,21 @@ module _ (s : State) (e : Scheduled) where
       let t : queueFits (s .config) (s .limits) q′ ≡ true = fits-test (pushed e s) h 3 in
       fits-one (pushed e s) s 3 (queueFits (s .config) (s .limits) (s .queue)) (omega arith) t refl ∙ and-both _ _ (and-right _ _ (queue-before t)) h
 
+  -- one event more, whatever the state
+  pub fits-push : stateFits (pushed e s) ≡ ((queueRoom 1 s and eventInRange s e) and stateFits s)
+  unfolding pushed push
+  fits-push =
+      same-tests (stateFits (pushed e s)) ((queueRoom 1 s and eventInRange s e) and stateFits s)
+      (λ h. and-both _ _ (and-left _ _ (queue-before (fits-test (pushed e s) h 3))) (fits-unpushed h))
+      (λ h.
+      let k : queueFits (s .config) (s .limits) (s .queue) ≡ true = fits-test s (and-right _ _ h) 3 in
+      fits-one s (pushed e s) 3 (queueFits (s .config) (s .limits) q′) (omega arith) k refl ∙ and-both _ _ (queue-after k (and-left _ _ h)) (and-right _ _ h))
+
 -- ---- several events more
 
--- what fits with several events more fits without them
-pub fits-unpushed-all : (es : List Scheduled) (s : State) → stateFits (pushedAll es s) ≡ true → stateFits s ≡ true
-unfolding pushedAll
-fits-unpushed-all [] s h = h
-fits-unpushed-all (e ∷ es) s h = fits-unpushed s e (fits-unpushed-all es (pushed e s) h)
-
-room-none : (s : State) → queueFits (s .config) (s .limits) (s .queue) ≡ true → queueRoom 0 s ≡ true
+room-less : (s : State) (m n : ℕ) → m ≤ n → queueRoom n s ≡ true → queueRoom m s ≡ true
 unfolding queueRoom
-room-none s h = le-leb (length (s .queue) + 0) (s .limits .events) (omega (arith, leb-true (length (s .queue)) (s .limits .events) (and-left _ _ h)))
-
-room-one : (s : State) (n : ℕ) → queueRoom (suc n) s ≡ true → queueRoom 1 s ≡ true
-unfolding queueRoom
-room-one s n h = le-leb (length (s .queue) + 1) (s .limits .events) (omega (arith, leb-true (length (s .queue) + suc n) (s .limits .events) h))
+room-less s m n l h = le-leb (length (s .queue) + m) (s .limits .events) (omega (arith, leb-true (length (s .queue) + n) (s .limits .events) h))
 
 room-pushed : (s : State) (e : Scheduled) (n : ℕ) → queueRoom n (pushed e s) ≡ queueRoom (suc n) s
 unfolding queueRoom pushed push
@@ -117,31 +112,33 @@ range-pushed : (s : State) (e : Scheduled) (es : List Scheduled) → every (even
 unfolding eventInRange pushed
 range-pushed s e es = refl
 
-module _ (s : State) (e : Scheduled) (es : List Scheduled) (h : queueFits (s .config) (s .limits) (s .queue) ≡ true)
-    (i : queueFits (s .config) (s .limits) (pushed e s .queue) ≡ true → stateFits (pushedAll es (pushed e s)) ≡ ((queueRoom (length es) (pushed e s) and every (eventInRange (pushed e s)) es) and stateFits (pushed e s))) where
-  i′ : stateFits (pushed e s) ≡ true → stateFits (pushedAll es (pushed e s)) ≡ ((queueRoom (suc (length es)) s and every (eventInRange s) es) and stateFits (pushed e s))
-  unfolding pushed
-  i′ p = i (fits-test (pushed e s) p 3) ∙ ap₂ (λ (t u : Bool). (t and u) and stateFits (pushed e s)) (room-pushed s e (length es)) (range-pushed s e es)
+fits-none : (s : State) → stateFits s ≡ ((queueRoom 0 s and true) and stateFits s)
+unfolding queueRoom
+fits-none s = same-tests (stateFits s) ((queueRoom 0 s and true) and stateFits s)
+    (λ h. and-both _ _ (and-both _ _ (le-leb (length (s .queue) + 0) (s .limits .events) (omega (arith, leb-true (length (s .queue)) (s .limits .events) (and-left _ _ (fits-test s h 3))))) refl) h) (λ h. and-right _ _ h)
 
-  more-fit : stateFits (pushedAll es (pushed e s)) ≡ ((queueRoom (suc (length es)) s and (eventInRange s e and every (eventInRange s) es)) and stateFits s)
-  more-fit =
-      same-tests (stateFits (pushedAll es (pushed e s))) ((queueRoom (suc (length es)) s and (eventInRange s e and every (eventInRange s) es)) and stateFits s)
-      (λ k.
-      let p : stateFits (pushed e s) ≡ true = fits-unpushed-all es (pushed e s) k in
-      let a = sym (fits-push s e h) ∙ p in
-      let b = and-left _ _ (sym (i′ p) ∙ k) in
-      and-both _ _ (and-both _ _ (and-left _ _ b) (and-both _ _ (and-right _ _ (and-left _ _ a)) (and-right _ _ b))) (and-right _ _ a))
-      (λ k.
-      let a = and-left _ _ k in
-      let p : stateFits (pushed e s) ≡ true = fits-push s e h ∙ and-both _ _ (and-both _ _ (room-one s (length es) (and-left _ _ a)) (and-left _ _ (and-right _ _ a))) (and-right _ _ k) in
-      i′ p ∙ and-both _ _ (and-both _ _ (and-left _ _ a) (and-right _ _ (and-right _ _ a))) p)
+-- several events more, whatever the state
+pub fits-push-all : (es : List Scheduled) (s : State) → stateFits (pushedAll es s) ≡ ((queueRoom (length es) s and every (eventInRange s) es) and stateFits s)
+unfolding pushedAll
+fits-push-all [] s = fits-none s
+fits-push-all (e ∷ es) s =
+    fits-push-all es (pushed e s)
+    ∙ ap₂ (λ (t u : Bool). (t and u) and stateFits (pushed e s)) (room-pushed s e (length es)) (range-pushed s e es) ∙ ap (λ (t : Bool). (queueRoom (suc (length es)) s and every (eventInRange s) es) and t) (fits-push s e)
+    ∙ same-tests ((queueRoom (suc (length es)) s and every (eventInRange s) es) and ((queueRoom 1 s and eventInRange s e) and stateFits s)) ((queueRoom (suc (length es)) s and (eventInRange s e and every (eventInRange s) es)) and stateFits s)
+    (λ h. let a = and-left _ _ h in let b = and-right _ _ h in and-both _ _ (and-both _ _ (and-left _ _ a) (and-both _ _ (and-right _ _ (and-left _ _ b)) (and-right _ _ a))) (and-right _ _ b))
+    (λ h.
+    let a = and-left _ _ h in
+    let r = and-left _ _ a in
+    let b = and-right _ _ a in
+    and-both _ _ (and-both _ _ r (and-right _ _ b)) (and-both _ _ (and-both _ _ (room-less s 1 (suc (length es)) (omega arith) r) (and-left _ _ b)) (and-right _ _ h)))
 
--- several events more, where the queue fitted
-pub fits-push-all : (es : List Scheduled) (s : State) → queueFits (s .config) (s .limits) (s .queue) ≡ true
-    → stateFits (pushedAll es s) ≡ ((queueRoom (length es) s and every (eventInRange s) es) and stateFits s)
-unfolding pushedAll pushed
-fits-push-all [] s h = sym (ap (λ (u : Bool). u and stateFits s) (and-true _ ∙ room-none s h) ∙ true-and _)
-fits-push-all (e ∷ es) s h = more-fit s e es h (fits-push-all es (pushed e s))
+-- an event that delivers no message
+pub plain-range : (s : State) (time : SimTime) (event : Event)
+    → eventInRange s (plain time event) ≡ (word (time .0) and eventFits (s .config .servers) (s .config .clients) (s .limits .«log_indexes») event)
+unfolding eventInRange
+plain-range s time event =
+    let m : messageFits (s .limits .message) event [] ≡ true = and-both _ _ refl (and-both _ _ (le-leb 0 (messageRoom (s .limits .message) event) (omega arith)) refl) in
+    ap (λ (u : Bool). word (time .0) and (eventFits (s .config .servers) (s .config .clients) (s .limits .«log_indexes») event and u)) m ∙ ap (λ (u : Bool). word (time .0) and u) (and-true _)
 
 -- ---- the first event taken
 

@@ -95,7 +95,7 @@ module _ (b : List ℕ) (F : Capacity) where
     unfolding queueLength queueRoom
     push-full e k = record {
       to = λ s r h t.
-          let o : length (s .queue) + 1 ≤ s .limits .events = leb-true (length (s .queue) + 1) (s .limits .events) (and-left _ _ (and-left _ _ (sym (fits-push s e (fits-test s (area-fits (h .area)) 3)) ∙ t))) in
+          let o : length (s .queue) + 1 ≤ s .limits .events = leb-true (length (s .queue) + 1) (s .limits .events) (and-left _ _ (and-left _ _ (sym (fits-push s e) ∙ t))) in
           absurd (omega (arith, o, p .to s (h .area) (h .capacity), ap (λ (G : Capacity). G .limits .events) (h .capacity)));
     }
 
@@ -166,7 +166,7 @@ module _ (b : List ℕ) (F : Capacity) (at w : ℕ) where
     push-put n e ys b₂ c k eb = record {
       to = λ s r h t.
           let en : n ≡ length (s .queue) = c .to s (h .area) (h .capacity) in
-          let good : eventInRange s e ≡ true = and-right _ _ (and-left _ _ (sym (fits-push s e (fits-test s (area-fits (h .area)) 3)) ∙ t)) in
+          let good : eventInRange s e ≡ true = and-right _ _ (and-left _ _ (sym (fits-push s e) ∙ t)) in
           let k₁ : Pushes e (s .limits .message) (length (s .queue)) (lentRow at w b) ys =
           subst (λ (G : Capacity). Pushes e (G .limits .message) (length (s .queue)) (lentRow at w b) ys) (h .capacity) (subst (λ (m : ℕ). Pushes e (F .limits .message) m (lentRow at w b) ys) en k) in
           let held = k₁ .to (s .config .servers) (s .config .clients) (s .limits .«log_indexes») good .to (queueWords (capacityOf s)) (s .queue) (queue-held s (h .area) (h .capacity)) in

@@ -1,3 +1,4 @@
 pub mod Events
 pub mod Fits
 pub mod Laws
+pub mod Sends

@@ -117,3 +117,25 @@ pub fn push_event(area: &mut [u8], f: Capacity, time: SimTime, event: Event, mes
     );
     words::store(area, 83, n + 1);
 }
+
+// One event more that delivers no message, where there is room for it.
+pub fn push_plain(area: &mut [u8], f: Capacity, time: SimTime, event: Event)
+    requires { ⌜ Inside (now area) f ⌝ }
+    ensures { λ _. ⌜ Changes (now (area .entry)) (now (area .exit)) f (pushed (plain time event)) ⌝ }
+{
+    push_event(area, f, time, event, &[]);
+}
+
+// The first event of each client, where there is room for all.
+pub fn push_first_sends(area: &mut [u8], f: Capacity)
+    requires { ⌜ Inside (now area) f ⌝ }
+    ensures { λ _. ⌜ Changes (now (area .entry)) (now (area .exit)) f firstSent ⌝ }
+{
+    let run = state_header::run_of(area, f);
+    let now = run.now;
+    let mut c = 0;
+    while c < f.clients {
+        push_plain(area, f, now, Event::ClientSend { client: c });
+        c += 1;
+    }
+}
