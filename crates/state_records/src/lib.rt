@@ -1,0 +1,73 @@
+// The clients of the state that an area holds, and what its run keeps for the report, read and written in place.
+ghost use mathlib.Core.Path.{_≡_};
+ghost use Prim.Native.Nat.{_≤_, _<_};
+ghost use lib.ListN.{length};
+ghost use Rattle.clients.specs.Clients.{clientOf};
+ghost use Rattle.clients.specs.Confirmations.{confirmationOf};
+ghost use Rattle.state.specs.Changes.{Inside, Changes, Reads};
+ghost use Rattle.state_records.specs.Records.{clientRead, clientSet, replyCount, replyOf, replyAt, replied};
+use checks::violations::Violation;
+use checks_durability::replies::Reply;
+use clients::Client;
+use clients::confirmations::Confirmation;
+use layout::marked::Kind;
+use state::Capacity;
+use state::sizes;
+
+// A reply that may be absent.
+pub enum ReplyOption {
+    None,
+    Some(Reply),
+}
+
+// A confirmation that may be absent.
+pub enum ConfirmationOption {
+    None,
+    Some(Confirmation),
+}
+
+// A violation that may be absent.
+pub enum ViolationOption {
+    None,
+    Some(Violation),
+}
+
+// A payload's kind, of a payload that may be absent.
+pub enum PayloadOption {
+    None,
+    Some(Kind),
+}
+
+// A sum, and whether it has 64 bits; 0 where it has not.
+pub struct Sum {
+    pub fits: bool,
+    pub value: u64,
+}
+
+// ---- clients
+
+// The client at a place.
+pub fn client_of(area: &[u8], f: Capacity, c: usize) -> Client
+    requires { ⌜ Inside (now area) f ⌝ }
+    requires { ⌜ c < f .clients ⌝ }
+    ensures { λ r. ⌜ Reads (now (area .entry)) f (clientOf r) (clientRead c) ⌝ }
+{
+    let n = f.clients as usize;
+    let at = sizes::clients_at(f);
+    let a = 8 * at;
+    let e = 8 * (at + n * 8);
+    clients::read(&area[a..e], n, c)
+}
+
+// Another client at a place.
+pub fn set_client(area: &mut [u8], f: Capacity, c: usize, client: Client)
+    requires { ⌜ Inside (now area) f ⌝ }
+    requires { ⌜ c < f .clients ⌝ }
+    ensures { λ _. ⌜ Changes (now (area .entry)) (now (area .exit)) f (clientSet c (clientOf client)) ⌝ }
+{
+    let n = f.clients as usize;
+    let at = sizes::clients_at(f);
+    let a = 8 * at;
+    let e = 8 * (at + n * 8);
+    clients::write(&mut area[a..e], n, c, client);
+}
