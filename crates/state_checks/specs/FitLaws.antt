@@ -1,0 +1,132 @@
+-- Question 10 of what the checks write: the test of what was changed, and all tests that were before. Assumes nothing.
+use mathlib.Core.Path.{_≡_, refl, sym, ap, ap₂, _∙_}
+use mathlib.Core.Bool.{Bool, true, false}
+use mathlib.Core.List.{List, [], _∷_, _++_}
+use Prim.Native.Nat.{ℕ, zero, suc, _+_, _≤_, _<_}
+use native.Mathlib.Omega.{arith}
+use lib.Dec.{leb, ltb}
+use lib.ListN.{length, getD, set, length-append}
+use borrow.Author.Tests.{lt-ltb, le-ltb, le-leb, lt-leb, ltb-true, ltb-false, leb-true}
+use Rattle.laws.specs.Bools.{pick, cases, _and_, allb, and-left, and-right, and-both, no-and, and-assoc, and-true, true-and, every, every-append}
+use Rattle.units.specs.declared.SimTime.{SimTime}
+use Rattle.queue.specs.Range.{word}
+use Rattle.checks.specs.declared.Check.{Check}
+use Rattle.checks.specs.Checks.{Checker, Violation, maxRecorded, report, reportIf}
+use Rattle.checks.specs.Violations.{violationRow, violations}
+use Rattle.checks.specs.Leaders.{leaders}
+use Rattle.checks.specs.Entries.{seenIn}
+use Rattle.layout.specs.Tables.{Table}
+use Rattle.layout.specs.Applied.{applied}
+use Rattle.model.specs.State.{State}
+use Rattle.model.specs.Fields.{withChecker}
+use Rattle.model.specs.Fits.{stateFits, stateTests, checkerFits, tableFits}
+use Rattle.state.specs.FitsBy.{allb-one}
+use Rattle.state_checks.specs.Checked.{reportedIf}
+
+-- ---- lists of tests
+
+and-swap : (a b c : Bool) → (a and (b and c)) ≡ (b and (a and c))
+unfolding _and_
+and-swap true true c = refl
+and-swap true false c = refl
+and-swap false true c = refl
+and-swap false false c = refl
+
+-- one test that is asked one more
+allb-more : (bs : List Bool) (i : ℕ) (t : Bool) → i < length bs → allb (set bs i (t and getD bs i true)) ≡ (t and allb bs)
+allb-more [] i t k = absurd (omega arith)
+allb-more (b ∷ bs) zero t k = and-assoc t b (allb bs)
+allb-more (b ∷ bs) (suc i) t k = ap (λ (u : Bool). b and u) (allb-more bs i t (omega arith)) ∙ and-swap b t (allb bs)
+
+-- ---- what the checks remember
+
+-- The tests of what the checks of a state remember.
+abbrev pub checkerTests : State → Checker → List Bool
+checkerTests s c =
+    tableFits (leaders (s .config .servers)) (s .limits .history) (c .leaders)
+    ∷ tableFits (applied (s .limits .payload)) (s .limits .«log_indexes») (c .applied)
+    ∷ tableFits (seenIn (s .limits .«log_indexes») (s .limits .payload)) (s .limits .history) (c .entries)
+    ∷ tableFits violations maxRecorded (c .violations)
+    ∷ word (c .total)
+    ∷ []
+
+module _ (s : State) where
+  -- other checks, by their tests
+  pub fits-checker : (c : Checker) (t : Bool) → allb (checkerTests s c) ≡ (t and allb (checkerTests s (s .checker))) → stateFits (withChecker s c) ≡ (t and stateFits s)
+  unfolding stateFits
+  fits-checker c t e = ap (λ (u : Bool). allb (set (stateTests s) 13 u)) e ∙ allb-more (stateTests s) 13 t (omega arith)
+
+  -- one part of the checks is another
+  pub fits-checker-one : (c : Checker) (j : ℕ) (t : Bool) → j < 5 → getD (checkerTests s (s .checker)) j true ≡ true → checkerTests s c ≡ set (checkerTests s (s .checker)) j t → stateFits (withChecker s c) ≡ (t and stateFits s)
+  fits-checker-one c j t k h e = fits-checker c t (ap allb e ∙ allb-one (checkerTests s (s .checker)) j t k h)
+
+-- ---- a violation reported
+
+-- A report in range: the violation while fewer than 32 are kept, and the total with one more.
+abbrev pub reportFits : SimTime → Check → List ℕ → Checker → Bool
+reportFits time check numbers c =
+    pick (ltb (length (c .violations)) maxRecorded) (violationRow .good (record { time = time; check = check; detail = numbers })) true and word (c .total + 1)
+
+-- a row after the last: there is room, and it is in range
+append-fits : {A : Type 0} (t : Table A) (room : ℕ) (xs : List A) (x : A) → every (t .row .good) xs ≡ true → (length xs < room → t .rule (xs ++ x ∷ []) ≡ true) → tableFits t room (xs ++ x ∷ []) ≡ (ltb (length xs) room and t .row .good x)
+append-fits t room xs x h keeps = cases (ltb (length xs) room) yes no
+  where
+    n : length (xs ++ x ∷ []) ≡ length xs + 1
+    n = length-append xs (x ∷ [])
+
+    yes : ltb (length xs) room ≡ true → tableFits t room (xs ++ x ∷ []) ≡ (ltb (length xs) room and t .row .good x)
+    yes e =
+        let l : length xs < room = ltb-true _ _ e in
+        ap (λ (u : Bool). u and every (t .row .good) (xs ++ x ∷ []) and t .rule (xs ++ x ∷ [])) (le-leb (length (xs ++ x ∷ [])) room (omega (arith, n)) ∙ sym e)
+        ∙ ap (λ (u : Bool). ltb (length xs) room and u) (ap₂ (λ (u v : Bool). u and v) (every-append (t .row .good) xs (x ∷ []) ∙ ap₂ (λ (u v : Bool). u and v) h (and-true (t .row .good x)) ∙ true-and _) (keeps l) ∙ and-true _)
+
+    no : ltb (length xs) room ≡ false → tableFits t room (xs ++ x ∷ []) ≡ (ltb (length xs) room and t .row .good x)
+    no e =
+        let l : room ≤ length xs = ltb-false _ _ e in
+        no-and _ _ (lt-leb (length (xs ++ x ∷ [])) room (omega (arith, n))) ∙ sym (no-and _ _ e)
+
+-- what a table in range says
+pub table-every : {A : Type 0} (t : Table A) (room : ℕ) (xs : List A) → tableFits t room xs ≡ true → every (t .row .good) xs ≡ true
+table-every t room xs h = and-left _ _ (and-right _ _ h)
+
+pub table-room : {A : Type 0} (t : Table A) (room : ℕ) (xs : List A) → tableFits t room xs ≡ true → length xs ≤ room
+table-room t room xs h = leb-true _ _ (and-left _ _ h)
+
+pub table-rule : {A : Type 0} (t : Table A) (room : ℕ) (xs : List A) → tableFits t room xs ≡ true → t .rule xs ≡ true
+table-rule t room xs h = and-right _ _ (and-right _ _ h)
+
+module _ (s : State) (time : SimTime) (check : Check) (numbers : List ℕ) (h : tableFits violations maxRecorded (s .checker .violations) ≡ true) (k : word (s .checker .total) ≡ true) where
+  abbrev kept : List Violation
+  kept = s .checker .violations
+
+  abbrev one : Violation
+  one = record { time = time; check = check; detail = numbers }
+
+  -- the violations after a report
+  kept-fits : tableFits violations maxRecorded (report (s .checker) time check numbers .violations) ≡ pick (ltb (length kept) maxRecorded) (violationRow .good one) true
+  unfolding report
+  kept-fits = cases (ltb (length kept) maxRecorded) (λ e. rw e (yes e)) (λ e. rw e h)
+    where
+      yes : ltb (length kept) maxRecorded ≡ true → tableFits violations maxRecorded (kept ++ one ∷ []) ≡ violationRow .good one
+      yes e =
+          append-fits violations maxRecorded kept one (table-every violations maxRecorded kept h) (λ l. le-leb (length (kept ++ one ∷ [])) maxRecorded (omega (arith, length-append kept (one ∷ []))))
+          ∙ ap (λ (u : Bool). u and violationRow .good one) e ∙ true-and _
+
+  tests : checkerTests s (report (s .checker) time check numbers) ≡ set (set (checkerTests s (s .checker)) 3 (pick (ltb (length kept) maxRecorded) (violationRow .good one) true)) 4 (word (s .checker .total + 1))
+  unfolding report
+  tests = ap (λ (u : Bool). set (set (checkerTests s (s .checker)) 3 u) 4 (word (s .checker .total + 1))) kept-fits
+
+  -- a violation reported
+  pub fits-report : stateFits (withChecker s (report (s .checker) time check numbers)) ≡ (reportFits time check numbers (s .checker) and stateFits s)
+  fits-report =
+      let bs : List Bool = checkerTests s (s .checker) in
+      let t : Bool = pick (ltb (length kept) maxRecorded) (violationRow .good one) true in
+      let w : Bool = word (s .checker .total + 1) in
+      fits-checker s (report (s .checker) time check numbers) (t and w)
+      (ap allb tests ∙ allb-one (set bs 3 t) 4 w (omega arith) k ∙ ap (λ (u : Bool). w and u) (allb-one bs 3 t (omega arith) h) ∙ and-swap w t (allb bs) ∙ sym (and-assoc t w (allb bs)))
+
+  -- the same where it is due
+  pub fits-reported : (due : Bool) → stateFits (reportedIf due time check numbers s) ≡ (pick due (reportFits time check numbers (s .checker)) true and stateFits s)
+  unfolding reportedIf
+  fits-reported true = fits-report
+  fits-reported false = sym (true-and (stateFits s))
