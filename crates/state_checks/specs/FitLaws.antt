@@ -8,20 +8,22 @@ use lib.Dec.{leb, ltb}
 use lib.ListN.{length, getD, set, length-append}
 use borrow.Author.Tests.{lt-ltb, le-ltb, le-leb, lt-leb, ltb-true, ltb-false, leb-true}
 use Rattle.laws.specs.Bools.{pick, cases, _and_, allb, and-left, and-right, and-both, no-and, and-assoc, and-true, true-and, every, every-append}
+use Rattle.units.specs.Types.{Payload}
 use Rattle.units.specs.declared.SimTime.{SimTime}
 use Rattle.queue.specs.Range.{word}
 use Rattle.checks.specs.declared.Check.{Check}
-use Rattle.checks.specs.Checks.{Checker, Violation, maxRecorded, report, reportIf}
+use Rattle.checks.specs.Checks.{Checker, Violation, maxRecorded, report, withApplied}
 use Rattle.checks.specs.Violations.{violationRow, violations}
 use Rattle.checks.specs.Leaders.{leaders}
 use Rattle.checks.specs.Entries.{seenIn}
 use Rattle.layout.specs.Tables.{Table}
+use Rattle.layout.specs.Payload.{payload}
 use Rattle.layout.specs.Applied.{applied}
 use Rattle.model.specs.State.{State}
 use Rattle.model.specs.Fields.{withChecker}
 use Rattle.model.specs.Fits.{stateFits, stateTests, checkerFits, tableFits}
 use Rattle.state.specs.FitsBy.{allb-one}
-use Rattle.state_checks.specs.Checked.{reportedIf}
+use Rattle.state_checks.specs.Checked.{reportedIf, appliedIf}
 
 -- ---- lists of tests
 
@@ -130,3 +132,20 @@ module _ (s : State) (time : SimTime) (check : Check) (numbers : List ℕ) (h : 
   unfolding reportedIf
   fits-reported true = fits-report
   fits-reported false = sym (true-and (stateFits s))
+
+-- ---- a payload applied
+
+-- An applied payload in range: there is a place for it, and it is short enough.
+abbrev pub applyFits : Payload → State → Bool
+applyFits x s = ltb (length (s .checker .applied)) (s .limits .«log_indexes») and payload (s .limits .payload) .good x
+
+module _ (s : State) (x : Payload) (h : tableFits (applied (s .limits .payload)) (s .limits .«log_indexes») (s .checker .applied) ≡ true) where
+  pub fits-applied : (due : Bool) → stateFits (appliedIf due x s) ≡ (pick due (applyFits x s) true and stateFits s)
+  unfolding appliedIf
+  fits-applied true =
+      let t : Table Payload = applied (s .limits .payload) in
+      let xs : List Payload = s .checker .applied in
+      let c : Checker = withApplied (s .checker) (xs ++ x ∷ []) in
+      fits-checker-one s c 1 (applyFits x s) (omega arith) h
+      (ap (λ (u : Bool). set (checkerTests s (s .checker)) 1 u) (append-fits t (s .limits .«log_indexes») xs x (table-every t (s .limits .«log_indexes») xs h) (λ l. refl)))
+  fits-applied false = sym (true-and (stateFits s))

@@ -1,3 +1,4 @@
 pub mod Checked
 pub mod FitLaws
 pub mod KeepLaws
+pub mod TableLaws

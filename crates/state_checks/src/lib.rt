@@ -1,13 +1,20 @@
 // What the checks write, over the whole area: a violation kept, an entry seen, a leader of a term, an applied payload.
 ghost use mathlib.Core.Path.{_≡_};
-ghost use Prim.Native.Nat.{_<_};
+ghost use Prim.Native.Nat.{_+_, _*_, _≤_, _<_};
+ghost use lib.ListN.{length};
+ghost use Rattle.units.specs.Types.{payloadOf};
+ghost use Rattle.layout.specs.Tables.{Becomes, append};
+ghost use Rattle.layout.specs.Marked.{wordsFor};
+ghost use Rattle.layout.specs.Applied.{applied};
 ghost use Rattle.checks.specs.Violations.{detailOf};
 ghost use Rattle.state.specs.Changes.{Inside, Changes, Reads};
-ghost use Rattle.state_checks.specs.Checked.{countAt, reportedIf};
+ghost use Rattle.state_checks.specs.Checked.{countAt, reportedIf, appliedIf, Stored};
 use checks::Check;
 use checks::violations;
 use checks::violations::Detail;
+use layout::applied;
 use state::Capacity;
+use state::sizes;
 use units::SimTime;
 
 // Word j of the counts of rows.
@@ -35,4 +42,57 @@ pub fn keep(area: &mut [u8], f: Capacity, due: bool, time: SimTime, check: Check
     let kept = violations::keep(&mut area[2048..4096], kept, true, time, check, detail);
     words::store(area, 89, kept as u64);
     words::store(area, 90, total + 1);
+}
+
+// ---- applied payloads
+
+// One payload more in the w words from word `at` on, rows for l payloads of up to p bytes, and its count.
+fn apply_at(
+    area: &mut [u8],
+    at: usize,
+    w: usize,
+    l: usize,
+    n: usize,
+    p: usize,
+    kind: u64,
+    src: &[u8],
+)
+    requires { ⌜ (at ≤ 60116480) × (w ≤ 60116480) × (8 * (at + w) ≤ length (now area)) × (4096 ≤ length (now area)) ⌝ }
+    requires { ⌜ (w ≡ l * (1 + wordsFor p)) × (n < l) × (p ≤ 256) ⌝ }
+    requires { ⌜ (kind ≤ 1) × (length (now src) ≤ 256 * kind) × (length (now src) ≤ p) ⌝ }
+    ensures { λ _. ⌜ Stored (now (area .entry)) (now (area .exit)) at w 88 (n + 1)
+        (λ u v. Becomes (applied p) n (n + 1) u v (append (payloadOf kind (now (src .entry))))) ⌝ }
+{
+    let a = 8 * at;
+    let e = 8 * (at + w);
+    applied::push(&mut area[a..e], n, p, kind, src);
+    words::store(area, 88, n as u64 + 1);
+}
+
+// One applied payload more, where it is due, of a kind and the bytes of src; a noop has none. Nothing is written where no place is left.
+pub fn apply_payload(area: &mut [u8], f: Capacity, due: bool, kind: u64, src: &[u8])
+    requires { ⌜ Inside (now area) f ⌝ }
+    requires { ⌜ (kind ≤ 1) × (length (now src) ≤ 256 * kind) × (length (now src) ≤ f .limits .payload) ⌝ }
+    ensures { λ _. ⌜ Changes (now (area .entry)) (now (area .exit)) f (appliedIf due (payloadOf kind (now (src .entry)))) ⌝ }
+{
+    if !due {
+        return;
+    }
+    let limits = f.limits;
+    let n = count_of(area, f, 5);
+    if limits.log_indexes <= n {
+        return;
+    }
+    let at = sizes::applied_at(f);
+    let w = sizes::applied_words(f);
+    apply_at(
+        area,
+        at,
+        w,
+        limits.log_indexes as usize,
+        n as usize,
+        limits.payload as usize,
+        kind,
+        src,
+    );
 }

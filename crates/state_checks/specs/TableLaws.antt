@@ -1,0 +1,99 @@
+-- A table of the checks that grew, put back with its count: what the proofs of applied payloads, leaders and entries cite. Assumes nothing.
+use mathlib.Core.Path.{_≡_, refl, sym, ap, ap₂, subst, _∙_}
+use mathlib.Core.Bool.{Bool, true, false, not}
+use mathlib.Core.List.{List, [], _∷_, _++_}
+use Prim.Native.Nat.{ℕ, _+_, _-_, _*_, _^_, _≤_, _<_}
+use native.Mathlib.Omega.{arith}
+use lib.ListN.{length, getD, set, drop, take, length-append}
+use lib.Seq.{sets}
+use borrow.Author.Tests.{not-true, not-false}
+use Rattle.laws.specs.Bools.{pick, and-left, and-right}
+use Rattle.units.specs.Types.{Payload}
+use Rattle.words.specs.Words.{bytes, bytesOf as bytesOfNumber}
+use Rattle.layout.specs.Tables.{Holds, Held, Becomes, append}
+use Rattle.layout.specs.TableLaws.{held-rows}
+use Rattle.layout.specs.Parts.{lentRow, backRow, length-lentRow}
+use Rattle.layout.specs.Rows.{row-end}
+use Rattle.layout.specs.Marked.{wordsFor}
+use Rattle.layout.specs.Applied.{applied}
+use Rattle.checks.specs.Checks.{withApplied}
+use Rattle.checks.specs.Asked.{appendIf}
+use Rattle.model.specs.State.{State}
+use Rattle.model.specs.Fields.{withChecker}
+use Rattle.model.specs.Fits.{stateFits}
+use Rattle.state.specs.declared.Capacity.{Capacity}
+use Rattle.state.specs.Sizes.{appliedAt, appliedWords, wholeWords, Counted}
+use Rattle.state.specs.SizeLaws.{room}
+use Rattle.state.specs.Parts.{countsWords}
+use Rattle.state.specs.Area.{Area, capacityOf, countsOf, appliedCode}
+use Rattle.state.specs.Encode.{contents}
+use Rattle.state.specs.FitsBy.{fits-test}
+use Rattle.state.specs.Changes.{Inside, AreaOf, Changes, Reads}
+use Rattle.state.specs.Tables.{Spans, applied-span, table-lent, table-put}
+use Rattle.state_checks.specs.Checked.{countAt, appliedIf, Stored}
+use Rattle.state_checks.specs.FitLaws.{table-room}
+
+-- ---- the regions
+
+-- a row more has room in the words that are lent
+pub row-room : (b : List ℕ) (at w n m z : ℕ) → n < m → w ≡ m * z → 8 * (at + w) ≤ length b → 8 * (n * z + z) ≤ length (lentRow at w b)
+row-room b at w n m z h e r = omega (arith, row-end n m z h, length-lentRow at w b r)
+
+-- the applied payloads lie in the area
+pub applied-inside : (b : List ℕ) (F : Capacity) (at w : ℕ) → Inside b F → Counted at (appliedAt F) → Counted w (appliedWords F) → 8 * (at + w) ≤ length b
+applied-inside b F at w i p q = omega (arith, room F, i .long, p .is, q .is)
+
+-- ---- a table put back
+
+module _ {b r : List ℕ} {F : Capacity} {s : State} (h : AreaOf b r F s) {i at w : ℕ} (p : Spans (capacityOf s) i at w) where
+  pub rows-put : (s′ : State) (ys b₂ : List ℕ) (k j v : ℕ) → capacityOf s ≡ capacityOf s′ → (i ≡ 6 → ⊥) → k ≡ 83 + j → j < 8 → b₂ ≡ sets (backRow at w b ys) (8 * k) (bytesOfNumber 8 v)
+      → set (set (contents s) i ys) 6 (bytes (set (countsWords (countsOf s)) j v)) ≡ contents s′ → stateFits s′ ≡ true → AreaOf b₂ r F s′
+  rows-put s′ ys b₂ k j v c n ek lj e same t =
+      let g : AreaOf b r (capacityOf s) s = subst (λ (G : Capacity). AreaOf b r G s) (h .capacity) h in
+      subst (λ (G : Capacity). AreaOf b₂ r G s′) (sym (h .capacity)) (subst (λ (l : List ℕ). AreaOf l r (capacityOf s) s′) (sym e) (table-put g p s′ ys c k j v n ek lj same t))
+
+-- ---- applied payloads
+
+pub not-applied : (b : List ℕ) (F : Capacity) (due : Bool) (x : Payload) → not due ≡ true → Changes b b F (appliedIf due x)
+unfolding appliedIf
+not-applied b F due x t = record { to = λ s r h u. subst (λ (d : Bool). AreaOf b r F (withChecker s (appendIf d x (s .checker)))) (sym (not-true due t)) h }
+
+pub applied-stored : (b ys b₂ : List ℕ) (at w n p : ℕ) (x : Payload) → Becomes (applied p) n (n + 1) (lentRow at w b) ys (append x) → b₂ ≡ sets (backRow at w b ys) (8 * 88) (bytesOfNumber 8 (n + 1))
+    → Stored b b₂ at w 88 (n + 1) (λ u v. Becomes (applied p) n (n + 1) u v (append x))
+applied-stored b ys b₂ at w n p x q e = record { rows = ys; put = q; is = e }
+
+module _ (b : List ℕ) (F : Capacity) (due : Bool) (x : Payload) (d : not due ≡ false) (n : ℕ) (p : Reads b F n (countAt 5)) where
+  due-applied : (s : State) → appliedIf true x s ≡ appliedIf due x s
+  due-applied s = ap (λ (t : Bool). appliedIf t x s) (sym (not-false due d))
+
+  -- no place is left
+  pub applied-full : F .limits .«log_indexes» ≤ n → Changes b b F (appliedIf due x)
+  unfolding appliedIf countAt
+  applied-full l = record {
+    to = λ s r h u.
+        let t : stateFits (appliedIf true x s) ≡ true = ap stateFits (due-applied s) ∙ u in
+        let m : length (s .checker .applied ++ x ∷ []) ≤ s .limits .«log_indexes» = table-room (applied (s .limits .payload)) (s .limits .«log_indexes») (s .checker .applied ++ x ∷ []) (and-left _ _ (and-right _ _ (fits-test (appliedIf true x s) t 13))) in
+        let en : n ≡ length (s .checker .applied) = p .to s (h .area) (h .capacity) in
+        absurd (omega (arith, m, en, length-append (s .checker .applied) (x ∷ []), ap (λ (G : Capacity). G .limits .«log_indexes») (h .capacity)));
+  }
+
+  pub applied-put : (b₂ : List ℕ) (at w : ℕ) → Counted at (appliedAt F) → Counted w (appliedWords F) → Stored b b₂ at w 88 (n + 1) (λ u v. Becomes (applied (F .limits .payload)) n (n + 1) u v (append x)) → Changes b b₂ F (appliedIf due x)
+  unfolding appliedIf countAt append
+  applied-put b₂ at w pa pw q = record {
+    to = λ s r h u.
+        let G : Capacity = capacityOf s in
+        let s′ : State = appliedIf true x s in
+        let t : stateFits s′ ≡ true = ap stateFits (due-applied s) ∙ u in
+        let en : n ≡ length (s .checker .applied) = p .to s (h .area) (h .capacity) in
+        let sp : Spans G 15 at w = subst (λ (m : ℕ). Spans G 15 m w) (sym (pa .is ∙ ap appliedAt (h .capacity))) (subst (λ (m : ℕ). Spans G 15 (appliedAt G) m) (sym (pw .is ∙ ap appliedWords (h .capacity))) (applied-span G)) in
+        let q′ : Stored b b₂ at w 88 (n + 1) (λ u v. Becomes (applied (G .limits .payload)) n (n + 1) u v (append x)) =
+        subst (λ (K : Capacity). Stored b b₂ at w 88 (n + 1) (λ u v. Becomes (applied (K .limits .payload)) n (n + 1) u v (append x))) (h .capacity) q in
+        let held : Held (applied (G .limits .payload)) (appliedWords G) n (lentRow at w b) (s .checker .applied) =
+        subst (λ (m : ℕ). Held (applied (G .limits .payload)) (appliedWords G) m (lentRow at w b) (s .checker .applied)) (sym en) (record { holds = table-lent sp (appliedCode G (countsOf s)) b (s .checker .applied) (h .area .laid .applied) }) in
+        let after : Held (applied (G .limits .payload)) (appliedWords G) (n + 1) (q′ .rows) (s′ .checker .applied) = q′ .put .to (appliedWords G) (s .checker .applied) held in
+        let same : set (set (contents s) 15 (q′ .rows)) 6 (bytes (set (countsWords (countsOf s)) 5 (n + 1))) ≡ contents s′ =
+        ap₂ (λ (l : List ℕ) (m : ℕ). set (set (contents s) 15 l) 6 (bytes (set (countsWords (countsOf s)) 5 m))) (after .holds .is) (sym (held-rows after .count)) in
+        subst (λ (y : State). AreaOf b₂ r F y) (due-applied s) (rows-put h sp s′ (q′ .rows) b₂ 88 5 (n + 1) refl (omega arith) refl (omega arith) (q′ .is) same t);
+  }
+
+pub ruleset applying = (not-applied, applied-full, applied-put)
