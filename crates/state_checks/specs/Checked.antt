@@ -1,16 +1,20 @@
 -- What the checks write, as changes of the whole state: what contracts cite. Assumes nothing.
 use mathlib.Core.Path.{_≡_}
-use mathlib.Core.Bool.{Bool}
+use mathlib.Core.Bool.{Bool, not}
 use mathlib.Core.List.{List}
 use Prim.Native.Nat.{ℕ, _*_}
 use lib.ListN.{getD}
 use lib.Seq.{sets}
+use Rattle.laws.specs.Lists.{isSome}
+use Rattle.laws.specs.Order.{numbers, lookup}
 use Rattle.words.specs.Words.{bytesOf}
 use Rattle.units.specs.Types.{Payload}
+use Rattle.units.specs.declared.NodeId.{NodeId}
+use Rattle.units.specs.declared.Term.{Term}
 use Rattle.units.specs.declared.SimTime.{SimTime}
 use Rattle.checks.specs.declared.Check.{Check}
-use Rattle.checks.specs.Checks.{reportIf}
-use Rattle.checks.specs.Asked.{appendIf}
+use Rattle.checks.specs.Checks.{reportIf, leaderKey}
+use Rattle.checks.specs.Asked.{appendIf, insertLeaderIf}
 use Rattle.layout.specs.Parts.{lentRow, backRow}
 use Rattle.model.specs.State.{State}
 use Rattle.model.specs.Fields.{withChecker}
@@ -28,6 +32,14 @@ reportedIf due time check numbers s = withChecker s (reportIf due (s .checker) t
 -- An applied payload after the last, where a test is true.
 unfoldable pub appliedIf : Bool → Payload → State → State
 appliedIf due x s = withChecker s (appendIf due x (s .checker))
+
+-- The leader of a term, where a test is true and the term has none.
+unfoldable pub ledIf : Bool → Term → NodeId → State → State
+ledIf due term server s = withChecker s (insertLeaderIf due (record { term = term; server = server }) (s .checker))
+
+-- Whether a term has no leader.
+unfoldable pub leaderless : Term → State → Bool
+leaderless term s = not (isSome (lookup numbers leaderKey (term .0) (s .checker .leaders)))
 
 -- ---- a table and its count
 

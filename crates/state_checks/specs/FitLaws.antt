@@ -9,10 +9,14 @@ use lib.ListN.{length, getD, set, length-append}
 use borrow.Author.Tests.{lt-ltb, le-ltb, le-leb, lt-leb, ltb-true, ltb-false, leb-true}
 use Rattle.laws.specs.Bools.{pick, cases, _and_, allb, and-left, and-right, and-both, no-and, and-assoc, and-true, true-and, every, every-append}
 use Rattle.units.specs.Types.{Payload}
+use Rattle.laws.specs.Order.{numbers, insertBy}
+use Rattle.units.specs.declared.NodeId.{NodeId}
+use Rattle.units.specs.declared.Term.{Term}
 use Rattle.units.specs.declared.SimTime.{SimTime}
 use Rattle.queue.specs.Range.{word}
 use Rattle.checks.specs.declared.Check.{Check}
-use Rattle.checks.specs.Checks.{Checker, Violation, maxRecorded, report, withApplied}
+use Rattle.checks.specs.declared.TermLeader.{TermLeader}
+use Rattle.checks.specs.Checks.{Checker, Violation, maxRecorded, report, withApplied, withLeaders, leaderKey}
 use Rattle.checks.specs.Violations.{violationRow, violations}
 use Rattle.checks.specs.Leaders.{leaders}
 use Rattle.checks.specs.Entries.{seenIn}
@@ -23,22 +27,8 @@ use Rattle.model.specs.State.{State}
 use Rattle.model.specs.Fields.{withChecker}
 use Rattle.model.specs.Fits.{stateFits, stateTests, checkerFits, tableFits}
 use Rattle.state.specs.FitsBy.{allb-one}
-use Rattle.state_checks.specs.Checked.{reportedIf, appliedIf}
-
--- ---- lists of tests
-
-and-swap : (a b c : Bool) → (a and (b and c)) ≡ (b and (a and c))
-unfolding _and_
-and-swap true true c = refl
-and-swap true false c = refl
-and-swap false true c = refl
-and-swap false false c = refl
-
--- one test that is asked one more
-allb-more : (bs : List Bool) (i : ℕ) (t : Bool) → i < length bs → allb (set bs i (t and getD bs i true)) ≡ (t and allb bs)
-allb-more [] i t k = absurd (omega arith)
-allb-more (b ∷ bs) zero t k = and-assoc t b (allb bs)
-allb-more (b ∷ bs) (suc i) t k = ap (λ (u : Bool). b and u) (allb-more bs i t (omega arith)) ∙ and-swap b t (allb bs)
+use Rattle.state_checks.specs.Checked.{reportedIf, appliedIf, ledIf}
+use Rattle.state_checks.specs.TestLaws.{and-swap, allb-more, table-every, append-fits, insertFits, insert-fits}
 
 -- ---- what the checks remember
 
@@ -68,34 +58,6 @@ module _ (s : State) where
 abbrev pub reportFits : SimTime → Check → List ℕ → Checker → Bool
 reportFits time check numbers c =
     pick (ltb (length (c .violations)) maxRecorded) (violationRow .good (record { time = time; check = check; detail = numbers })) true and word (c .total + 1)
-
--- a row after the last: there is room, and it is in range
-append-fits : {A : Type 0} (t : Table A) (room : ℕ) (xs : List A) (x : A) → every (t .row .good) xs ≡ true → (length xs < room → t .rule (xs ++ x ∷ []) ≡ true) → tableFits t room (xs ++ x ∷ []) ≡ (ltb (length xs) room and t .row .good x)
-append-fits t room xs x h keeps = cases (ltb (length xs) room) yes no
-  where
-    n : length (xs ++ x ∷ []) ≡ length xs + 1
-    n = length-append xs (x ∷ [])
-
-    yes : ltb (length xs) room ≡ true → tableFits t room (xs ++ x ∷ []) ≡ (ltb (length xs) room and t .row .good x)
-    yes e =
-        let l : length xs < room = ltb-true _ _ e in
-        ap (λ (u : Bool). u and every (t .row .good) (xs ++ x ∷ []) and t .rule (xs ++ x ∷ [])) (le-leb (length (xs ++ x ∷ [])) room (omega (arith, n)) ∙ sym e)
-        ∙ ap (λ (u : Bool). ltb (length xs) room and u) (ap₂ (λ (u v : Bool). u and v) (every-append (t .row .good) xs (x ∷ []) ∙ ap₂ (λ (u v : Bool). u and v) h (and-true (t .row .good x)) ∙ true-and _) (keeps l) ∙ and-true _)
-
-    no : ltb (length xs) room ≡ false → tableFits t room (xs ++ x ∷ []) ≡ (ltb (length xs) room and t .row .good x)
-    no e =
-        let l : room ≤ length xs = ltb-false _ _ e in
-        no-and _ _ (lt-leb (length (xs ++ x ∷ [])) room (omega (arith, n))) ∙ sym (no-and _ _ e)
-
--- what a table in range says
-pub table-every : {A : Type 0} (t : Table A) (room : ℕ) (xs : List A) → tableFits t room xs ≡ true → every (t .row .good) xs ≡ true
-table-every t room xs h = and-left _ _ (and-right _ _ h)
-
-pub table-room : {A : Type 0} (t : Table A) (room : ℕ) (xs : List A) → tableFits t room xs ≡ true → length xs ≤ room
-table-room t room xs h = leb-true _ _ (and-left _ _ h)
-
-pub table-rule : {A : Type 0} (t : Table A) (room : ℕ) (xs : List A) → tableFits t room xs ≡ true → t .rule xs ≡ true
-table-rule t room xs h = and-right _ _ (and-right _ _ h)
 
 module _ (s : State) (time : SimTime) (check : Check) (numbers : List ℕ) (h : tableFits violations maxRecorded (s .checker .violations) ≡ true) (k : word (s .checker .total) ≡ true) where
   abbrev kept : List Violation
@@ -149,3 +111,18 @@ module _ (s : State) (x : Payload) (h : tableFits (applied (s .limits .payload))
       fits-checker-one s c 1 (applyFits x s) (omega arith) h
       (ap (λ (u : Bool). set (checkerTests s (s .checker)) 1 u) (append-fits t (s .limits .«log_indexes») xs x (table-every t (s .limits .«log_indexes») xs h) (λ l. refl)))
   fits-applied false = sym (true-and (stateFits s))
+
+-- ---- a leader of a term
+
+-- A leader in range: the term has one; or there is room, and it is one of the servers.
+abbrev pub leadFits : Term → NodeId → State → Bool
+leadFits term server s = insertFits numbers leaderKey (leaders (s .config .servers)) (s .limits .history) (record { term = term; server = server }) (s .checker .leaders)
+
+module _ (s : State) (term : Term) (server : NodeId) (h : tableFits (leaders (s .config .servers)) (s .limits .history) (s .checker .leaders) ≡ true) where
+  pub fits-led : (due : Bool) → stateFits (ledIf due term server s) ≡ (pick due (leadFits term server s) true and stateFits s)
+  unfolding ledIf
+  fits-led true =
+      let l : TermLeader = record { term = term; server = server } in
+      fits-checker-one s (withLeaders (s .checker) (insertBy numbers leaderKey l (s .checker .leaders))) 0 (leadFits term server s) (omega arith) h
+      (ap (λ (u : Bool). set (checkerTests s (s .checker)) 0 u) (insert-fits numbers leaderKey (leaders (s .config .servers)) (s .limits .history) l (s .checker .leaders) (λ y. refl) h))
+  fits-led false = sym (true-and (stateFits s))

@@ -31,7 +31,7 @@ use Rattle.state.specs.FitsBy.{fits-test}
 use Rattle.state.specs.Changes.{Inside, AreaOf, Changes, Reads}
 use Rattle.state.specs.Tables.{Spans, applied-span, table-lent, table-put}
 use Rattle.state_checks.specs.Checked.{countAt, appliedIf, Stored}
-use Rattle.state_checks.specs.FitLaws.{table-room}
+use Rattle.state_checks.specs.TestLaws.{table-room}
 
 -- ---- the regions
 

@@ -7,15 +7,20 @@ ghost use Rattle.layout.specs.Tables.{Becomes, append};
 ghost use Rattle.layout.specs.Marked.{wordsFor};
 ghost use Rattle.layout.specs.Applied.{applied};
 ghost use Rattle.checks.specs.Violations.{detailOf};
+ghost use Rattle.checks.specs.Leaders.{InsertsLeader};
+ghost use Rattle.state.specs.Sizes.{leadersAt};
 ghost use Rattle.state.specs.Changes.{Inside, Changes, Reads};
-ghost use Rattle.state_checks.specs.Checked.{countAt, reportedIf, appliedIf, Stored};
+ghost use Rattle.state_checks.specs.Checked.{countAt, reportedIf, appliedIf, ledIf, leaderless, Stored};
 use checks::Check;
+use checks::leaders;
 use checks::violations;
 use checks::violations::Detail;
 use layout::applied;
 use state::Capacity;
 use state::sizes;
+use units::NodeId;
 use units::SimTime;
+use units::Term;
 
 // Word j of the counts of rows.
 fn count_of(area: &[u8], f: Capacity, j: usize) -> u64
@@ -95,4 +100,54 @@ pub fn apply_payload(area: &mut [u8], f: Capacity, due: bool, kind: u64, src: &[
         kind,
         src,
     );
+}
+
+// ---- leaders
+
+// Whether a term has no leader among the n of the table.
+fn is_leaderless(area: &[u8], f: Capacity, n: usize, term: Term, server: NodeId) -> bool
+    requires { ⌜ Inside (now area) f ⌝ }
+    requires { ⌜ n < f .limits .history ⌝ }
+    requires { ⌜ Reads (now area) f n (countAt 2) ⌝ }
+    ensures { λ r. ⌜ Reads (now (area .entry)) f r (leaderless term) ⌝ }
+{
+    let limits = f.limits;
+    let at = sizes::leaders_at(f);
+    let a = 8 * at;
+    let e = 8 * (at + limits.history as usize * 2);
+    leaders::ask(&area[a..e], n, server, term).is_new()
+}
+
+// One leader more in the table of n, and its count.
+fn insert_leader(area: &mut [u8], f: Capacity, n: usize, term: Term, server: NodeId)
+    requires { ⌜ Inside (now area) f ⌝ }
+    requires { ⌜ n < f .limits .history ⌝ }
+    ensures { λ _. ⌜ Stored (now (area .entry)) (now (area .exit)) (leadersAt f) (f .limits .history * 2) 85 (n + 1)
+        (InsertsLeader term server n) ⌝ }
+{
+    let limits = f.limits;
+    let at = sizes::leaders_at(f);
+    let a = 8 * at;
+    let e = 8 * (at + limits.history as usize * 2);
+    leaders::insert(&mut area[a..e], n, term, server);
+    words::store(area, 85, n as u64 + 1);
+}
+
+// The leader of a term, where it is due and the term has none. Nothing is written where no row is left.
+pub fn lead(area: &mut [u8], f: Capacity, due: bool, term: Term, server: NodeId)
+    requires { ⌜ Inside (now area) f ⌝ }
+    ensures { λ _. ⌜ Changes (now (area .entry)) (now (area .exit)) f (ledIf due term server) ⌝ }
+{
+    if !due {
+        return;
+    }
+    let limits = f.limits;
+    let n = count_of(area, f, 2);
+    if limits.history <= n {
+        return;
+    }
+    if !is_leaderless(area, f, n as usize, term, server) {
+        return;
+    }
+    insert_leader(area, f, n as usize, term, server);
 }
