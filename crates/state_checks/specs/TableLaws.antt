@@ -35,13 +35,14 @@ use Rattle.state_checks.specs.TestLaws.{table-room}
 
 -- ---- the regions
 
--- a row more has room in the words that are lent
-pub row-room : (b : List ℕ) (at w n m z : ℕ) → n < m → w ≡ m * z → 8 * (at + w) ≤ length b → 8 * (n * z + z) ≤ length (lentRow at w b)
-row-room b at w n m z h e r = omega (arith, row-end n m z h, length-lentRow at w b r)
-
 -- the applied payloads lie in the area
 pub applied-inside : (b : List ℕ) (F : Capacity) (at w : ℕ) → Inside b F → Counted at (appliedAt F) → Counted w (appliedWords F) → 8 * (at + w) ≤ length b
 applied-inside b F at w i p q = omega (arith, room F, i .long, p .is, q .is)
+
+-- one more has room among them
+pub applied-room : (b : List ℕ) (F : Capacity) (at w n : ℕ) → Inside b F → n < F .limits .«log_indexes» → Counted at (appliedAt F) → Counted w (appliedWords F)
+    → 8 * (n * (1 + wordsFor (F .limits .payload)) + (1 + wordsFor (F .limits .payload))) ≤ length (lentRow at w b)
+applied-room b F at w n i h p q = omega (arith, row-end n (F .limits .«log_indexes») (1 + wordsFor (F .limits .payload)) h, q .is, length-lentRow at w b (applied-inside b F at w i p q))
 
 -- ---- a table put back
 
@@ -58,9 +59,15 @@ pub not-applied : (b : List ℕ) (F : Capacity) (due : Bool) (x : Payload) → n
 unfolding appliedIf
 not-applied b F due x t = record { to = λ s r h u. subst (λ (d : Bool). AreaOf b r F (withChecker s (appendIf d x (s .checker)))) (sym (not-true due t)) h }
 
-pub applied-stored : (b ys b₂ : List ℕ) (at w n p : ℕ) (x : Payload) → Becomes (applied p) n (n + 1) (lentRow at w b) ys (append x) → b₂ ≡ sets (backRow at w b ys) (8 * 88) (bytesOfNumber 8 (n + 1))
-    → Stored b b₂ at w 88 (n + 1) (λ u v. Becomes (applied p) n (n + 1) u v (append x))
-applied-stored b ys b₂ at w n p x q e = record { rows = ys; put = q; is = e }
+module _ (F : Capacity) (n : ℕ) (x : Payload) where
+  -- What appending a payload makes of the table.
+  abbrev Appended : List ℕ → List ℕ → Type 0
+  Appended u v = Becomes (applied (F .limits .payload)) n (n + 1) u v (append x)
+
+  pub applied-stored : (b ys b₂ : List ℕ) (at w : ℕ) → Inside b F → Counted at (appliedAt F) → Counted w (appliedWords F) → Becomes (applied (F .limits .payload)) n (n + 1) (lentRow at w b) ys (append x)
+      → b₂ ≡ sets (backRow at w b ys) (8 * 88) (bytesOfNumber 8 (n + 1)) → Stored b b₂ (appliedAt F) (appliedWords F) 88 (n + 1) (λ u v. Becomes (applied (F .limits .payload)) n (n + 1) u v (append x))
+  applied-stored b ys b₂ at w i p q g e =
+      subst (λ (a : ℕ). Stored b b₂ a (appliedWords F) 88 (n + 1) Appended) (p .is) (subst (λ (z : ℕ). Stored b b₂ at z 88 (n + 1) Appended) (q .is) (record { rows = ys; put = g; is = e }))
 
 module _ (b : List ℕ) (F : Capacity) (due : Bool) (x : Payload) (d : not due ≡ false) (n : ℕ) (p : Reads b F n (countAt 5)) where
   due-applied : (s : State) → appliedIf true x s ≡ appliedIf due x s
@@ -77,23 +84,21 @@ module _ (b : List ℕ) (F : Capacity) (due : Bool) (x : Payload) (d : not due �
         absurd (omega (arith, m, en, length-append (s .checker .applied) (x ∷ []), ap (λ (G : Capacity). G .limits .«log_indexes») (h .capacity)));
   }
 
-  pub applied-put : (b₂ : List ℕ) (at w : ℕ) → Counted at (appliedAt F) → Counted w (appliedWords F) → Stored b b₂ at w 88 (n + 1) (λ u v. Becomes (applied (F .limits .payload)) n (n + 1) u v (append x)) → Changes b b₂ F (appliedIf due x)
+  pub applied-put : (b₂ : List ℕ) → Stored b b₂ (appliedAt F) (appliedWords F) 88 (n + 1) (Appended F n x) → Changes b b₂ F (appliedIf due x)
   unfolding appliedIf countAt append
-  applied-put b₂ at w pa pw q = record {
+  applied-put b₂ q = record {
     to = λ s r h u.
         let G : Capacity = capacityOf s in
+        let xs : List Payload = s .checker .applied in
         let s′ : State = appliedIf true x s in
-        let t : stateFits s′ ≡ true = ap stateFits (due-applied s) ∙ u in
-        let en : n ≡ length (s .checker .applied) = p .to s (h .area) (h .capacity) in
-        let sp : Spans G 15 at w = subst (λ (m : ℕ). Spans G 15 m w) (sym (pa .is ∙ ap appliedAt (h .capacity))) (subst (λ (m : ℕ). Spans G 15 (appliedAt G) m) (sym (pw .is ∙ ap appliedWords (h .capacity))) (applied-span G)) in
-        let q′ : Stored b b₂ at w 88 (n + 1) (λ u v. Becomes (applied (G .limits .payload)) n (n + 1) u v (append x)) =
-        subst (λ (K : Capacity). Stored b b₂ at w 88 (n + 1) (λ u v. Becomes (applied (K .limits .payload)) n (n + 1) u v (append x))) (h .capacity) q in
-        let held : Held (applied (G .limits .payload)) (appliedWords G) n (lentRow at w b) (s .checker .applied) =
-        subst (λ (m : ℕ). Held (applied (G .limits .payload)) (appliedWords G) m (lentRow at w b) (s .checker .applied)) (sym en) (record { holds = table-lent sp (appliedCode G (countsOf s)) b (s .checker .applied) (h .area .laid .applied) }) in
-        let after : Held (applied (G .limits .payload)) (appliedWords G) (n + 1) (q′ .rows) (s′ .checker .applied) = q′ .put .to (appliedWords G) (s .checker .applied) held in
+        let q′ : Stored b b₂ (appliedAt G) (appliedWords G) 88 (n + 1) (Appended G n x) = subst (λ (K : Capacity). Stored b b₂ (appliedAt K) (appliedWords K) 88 (n + 1) (Appended K n x)) (h .capacity) q in
+        let held : Held (applied (G .limits .payload)) (appliedWords G) n (lentRow (appliedAt G) (appliedWords G) b) xs =
+        subst (λ (m : ℕ). Held (applied (G .limits .payload)) (appliedWords G) m (lentRow (appliedAt G) (appliedWords G) b) xs) (sym (p .to s (h .area) (h .capacity)))
+        (record { holds = table-lent (applied-span G) (appliedCode G (countsOf s)) b xs (h .area .laid .applied) }) in
+        let after : Held (applied (G .limits .payload)) (appliedWords G) (n + 1) (q′ .rows) (s′ .checker .applied) = q′ .put .to (appliedWords G) xs held in
         let same : set (set (contents s) 15 (q′ .rows)) 6 (bytes (set (countsWords (countsOf s)) 5 (n + 1))) ≡ contents s′ =
         ap₂ (λ (l : List ℕ) (m : ℕ). set (set (contents s) 15 l) 6 (bytes (set (countsWords (countsOf s)) 5 m))) (after .holds .is) (sym (held-rows after .count)) in
-        subst (λ (y : State). AreaOf b₂ r F y) (due-applied s) (rows-put h sp s′ (q′ .rows) b₂ 88 5 (n + 1) refl (omega arith) refl (omega arith) (q′ .is) same t);
+        subst (λ (y : State). AreaOf b₂ r F y) (due-applied s) (rows-put h (applied-span G) s′ (q′ .rows) b₂ 88 5 (n + 1) refl (omega arith) refl (omega arith) (q′ .is) same (ap stateFits (due-applied s) ∙ u));
   }
 
 pub ruleset applying = (not-applied, applied-full, applied-put)

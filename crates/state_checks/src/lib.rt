@@ -4,11 +4,10 @@ ghost use Prim.Native.Nat.{_+_, _*_, _≤_, _<_};
 ghost use lib.ListN.{length};
 ghost use Rattle.units.specs.Types.{payloadOf};
 ghost use Rattle.layout.specs.Tables.{Becomes, append};
-ghost use Rattle.layout.specs.Marked.{wordsFor};
 ghost use Rattle.layout.specs.Applied.{applied};
 ghost use Rattle.checks.specs.Violations.{detailOf};
 ghost use Rattle.checks.specs.Leaders.{InsertsLeader};
-ghost use Rattle.state.specs.Sizes.{leadersAt};
+ghost use Rattle.state.specs.Sizes.{leadersAt, appliedAt, appliedWords};
 ghost use Rattle.state.specs.Changes.{Inside, Changes, Reads};
 ghost use Rattle.state_checks.specs.Checked.{countAt, reportedIf, appliedIf, ledIf, leaderless, Stored};
 use checks::Check;
@@ -51,26 +50,20 @@ pub fn keep(area: &mut [u8], f: Capacity, due: bool, time: SimTime, check: Check
 
 // ---- applied payloads
 
-// One payload more in the w words from word `at` on, rows for l payloads of up to p bytes, and its count.
-fn apply_at(
-    area: &mut [u8],
-    at: usize,
-    w: usize,
-    l: usize,
-    n: usize,
-    p: usize,
-    kind: u64,
-    src: &[u8],
-)
-    requires { ⌜ (at ≤ 60116480) × (w ≤ 60116480) × (8 * (at + w) ≤ length (now area)) × (4096 ≤ length (now area)) ⌝ }
-    requires { ⌜ (w ≡ l * (1 + wordsFor p)) × (n < l) × (p ≤ 256) ⌝ }
-    requires { ⌜ (kind ≤ 1) × (length (now src) ≤ 256 * kind) × (length (now src) ≤ p) ⌝ }
-    ensures { λ _. ⌜ Stored (now (area .entry)) (now (area .exit)) at w 88 (n + 1)
-        (λ u v. Becomes (applied p) n (n + 1) u v (append (payloadOf kind (now (src .entry))))) ⌝ }
+// One payload more in the table of n, and its count.
+fn append_payload(area: &mut [u8], f: Capacity, n: usize, kind: u64, src: &[u8])
+    requires { ⌜ Inside (now area) f ⌝ }
+    requires { ⌜ n < f .limits .«log_indexes» ⌝ }
+    requires { ⌜ (kind ≤ 1) × (length (now src) ≤ 256 * kind) × (length (now src) ≤ f .limits .payload) ⌝ }
+    ensures { λ _. ⌜ Stored (now (area .entry)) (now (area .exit)) (appliedAt f) (appliedWords f) 88 (n + 1)
+        (λ u v. Becomes (applied (f .limits .payload)) n (n + 1) u v (append (payloadOf kind (now (src .entry))))) ⌝ }
 {
+    let limits = f.limits;
+    let at = sizes::applied_at(f);
+    let w = sizes::applied_words(f);
     let a = 8 * at;
     let e = 8 * (at + w);
-    applied::push(&mut area[a..e], n, p, kind, src);
+    applied::push(&mut area[a..e], n, limits.payload as usize, kind, src);
     words::store(area, 88, n as u64 + 1);
 }
 
@@ -88,18 +81,7 @@ pub fn apply_payload(area: &mut [u8], f: Capacity, due: bool, kind: u64, src: &[
     if limits.log_indexes <= n {
         return;
     }
-    let at = sizes::applied_at(f);
-    let w = sizes::applied_words(f);
-    apply_at(
-        area,
-        at,
-        w,
-        limits.log_indexes as usize,
-        n as usize,
-        limits.payload as usize,
-        kind,
-        src,
-    );
+    append_payload(area, f, n as usize, kind, src);
 }
 
 // ---- leaders
