@@ -1,0 +1,128 @@
+-- Question 10 of what the checks write: the test of what was changed, and all tests that were before. Assumes nothing.
+use mathlib.Core.Path.{_≡_, refl, sym, ap, ap₂, _∙_}
+use mathlib.Core.Bool.{Bool, true, false}
+use mathlib.Core.List.{List, [], _∷_, _++_}
+use Prim.Native.Nat.{ℕ, zero, suc, _+_, _≤_, _<_}
+use native.Mathlib.Omega.{arith}
+use lib.Dec.{leb, ltb}
+use lib.ListN.{length, getD, set, length-append}
+use borrow.Author.Tests.{lt-ltb, le-ltb, le-leb, lt-leb, ltb-true, ltb-false, leb-true}
+use Rattle.laws.specs.Bools.{pick, cases, _and_, allb, and-left, and-right, and-both, no-and, and-assoc, and-true, true-and, every, every-append}
+use Rattle.units.specs.Types.{Payload}
+use Rattle.laws.specs.Order.{numbers, insertBy}
+use Rattle.units.specs.declared.NodeId.{NodeId}
+use Rattle.units.specs.declared.Term.{Term}
+use Rattle.units.specs.declared.SimTime.{SimTime}
+use Rattle.queue.specs.Range.{word}
+use Rattle.checks.specs.declared.Check.{Check}
+use Rattle.checks.specs.declared.TermLeader.{TermLeader}
+use Rattle.checks.specs.Checks.{Checker, Violation, maxRecorded, report, withApplied, withLeaders, leaderKey}
+use Rattle.checks.specs.Violations.{violationRow, violations}
+use Rattle.checks.specs.Leaders.{leaders}
+use Rattle.checks.specs.Entries.{seenIn}
+use Rattle.layout.specs.Tables.{Table}
+use Rattle.layout.specs.Payload.{payload}
+use Rattle.layout.specs.Applied.{applied}
+use Rattle.model.specs.State.{State}
+use Rattle.model.specs.Fields.{withChecker}
+use Rattle.model.specs.Fits.{stateFits, stateTests, checkerFits, tableFits}
+use Rattle.state.specs.FitsBy.{allb-one}
+use Rattle.state_checks.specs.Checked.{reportedIf, appliedIf, ledIf}
+use Rattle.state_checks.specs.TestLaws.{and-swap, allb-more, table-every, append-fits, insertFits, insert-fits}
+
+-- ---- what the checks remember
+
+-- The tests of what the checks of a state remember.
+abbrev pub checkerTests : State → Checker → List Bool
+checkerTests s c =
+    tableFits (leaders (s .config .servers)) (s .limits .history) (c .leaders)
+    ∷ tableFits (applied (s .limits .payload)) (s .limits .«log_indexes») (c .applied)
+    ∷ tableFits (seenIn (s .limits .«log_indexes») (s .limits .payload)) (s .limits .history) (c .entries)
+    ∷ tableFits violations maxRecorded (c .violations)
+    ∷ word (c .total)
+    ∷ []
+
+module _ (s : State) where
+  -- other checks, by their tests
+  pub fits-checker : (c : Checker) (t : Bool) → allb (checkerTests s c) ≡ (t and allb (checkerTests s (s .checker))) → stateFits (withChecker s c) ≡ (t and stateFits s)
+  unfolding stateFits
+  fits-checker c t e = ap (λ (u : Bool). allb (set (stateTests s) 13 u)) e ∙ allb-more (stateTests s) 13 t (omega arith)
+
+  -- one part of the checks is another
+  pub fits-checker-one : (c : Checker) (j : ℕ) (t : Bool) → j < 5 → getD (checkerTests s (s .checker)) j true ≡ true → checkerTests s c ≡ set (checkerTests s (s .checker)) j t → stateFits (withChecker s c) ≡ (t and stateFits s)
+  fits-checker-one c j t k h e = fits-checker c t (ap allb e ∙ allb-one (checkerTests s (s .checker)) j t k h)
+
+-- ---- a violation reported
+
+-- A report in range: the violation while fewer than 32 are kept, and the total with one more.
+abbrev pub reportFits : SimTime → Check → List ℕ → Checker → Bool
+reportFits time check numbers c =
+    pick (ltb (length (c .violations)) maxRecorded) (violationRow .good (record { time = time; check = check; detail = numbers })) true and word (c .total + 1)
+
+module _ (s : State) (time : SimTime) (check : Check) (numbers : List ℕ) (h : tableFits violations maxRecorded (s .checker .violations) ≡ true) (k : word (s .checker .total) ≡ true) where
+  abbrev kept : List Violation
+  kept = s .checker .violations
+
+  abbrev one : Violation
+  one = record { time = time; check = check; detail = numbers }
+
+  -- the violations after a report
+  kept-fits : tableFits violations maxRecorded (report (s .checker) time check numbers .violations) ≡ pick (ltb (length kept) maxRecorded) (violationRow .good one) true
+  unfolding report
+  kept-fits = cases (ltb (length kept) maxRecorded) (λ e. rw e (yes e)) (λ e. rw e h)
+    where
+      yes : ltb (length kept) maxRecorded ≡ true → tableFits violations maxRecorded (kept ++ one ∷ []) ≡ violationRow .good one
+      yes e =
+          append-fits violations maxRecorded kept one (table-every violations maxRecorded kept h) (λ l. le-leb (length (kept ++ one ∷ [])) maxRecorded (omega (arith, length-append kept (one ∷ []))))
+          ∙ ap (λ (u : Bool). u and violationRow .good one) e ∙ true-and _
+
+  tests : checkerTests s (report (s .checker) time check numbers) ≡ set (set (checkerTests s (s .checker)) 3 (pick (ltb (length kept) maxRecorded) (violationRow .good one) true)) 4 (word (s .checker .total + 1))
+  unfolding report
+  tests = ap (λ (u : Bool). set (set (checkerTests s (s .checker)) 3 u) 4 (word (s .checker .total + 1))) kept-fits
+
+  -- a violation reported
+  pub fits-report : stateFits (withChecker s (report (s .checker) time check numbers)) ≡ (reportFits time check numbers (s .checker) and stateFits s)
+  fits-report =
+      let bs : List Bool = checkerTests s (s .checker) in
+      let t : Bool = pick (ltb (length kept) maxRecorded) (violationRow .good one) true in
+      let w : Bool = word (s .checker .total + 1) in
+      fits-checker s (report (s .checker) time check numbers) (t and w)
+      (ap allb tests ∙ allb-one (set bs 3 t) 4 w (omega arith) k ∙ ap (λ (u : Bool). w and u) (allb-one bs 3 t (omega arith) h) ∙ and-swap w t (allb bs) ∙ sym (and-assoc t w (allb bs)))
+
+  -- the same where it is due
+  pub fits-reported : (due : Bool) → stateFits (reportedIf due time check numbers s) ≡ (pick due (reportFits time check numbers (s .checker)) true and stateFits s)
+  unfolding reportedIf
+  fits-reported true = fits-report
+  fits-reported false = sym (true-and (stateFits s))
+
+-- ---- a payload applied
+
+-- An applied payload in range: there is a place for it, and it is short enough.
+abbrev pub applyFits : Payload → State → Bool
+applyFits x s = ltb (length (s .checker .applied)) (s .limits .«log_indexes») and payload (s .limits .payload) .good x
+
+module _ (s : State) (x : Payload) (h : tableFits (applied (s .limits .payload)) (s .limits .«log_indexes») (s .checker .applied) ≡ true) where
+  pub fits-applied : (due : Bool) → stateFits (appliedIf due x s) ≡ (pick due (applyFits x s) true and stateFits s)
+  unfolding appliedIf
+  fits-applied true =
+      let t : Table Payload = applied (s .limits .payload) in
+      let xs : List Payload = s .checker .applied in
+      let c : Checker = withApplied (s .checker) (xs ++ x ∷ []) in
+      fits-checker-one s c 1 (applyFits x s) (omega arith) h
+      (ap (λ (u : Bool). set (checkerTests s (s .checker)) 1 u) (append-fits t (s .limits .«log_indexes») xs x (table-every t (s .limits .«log_indexes») xs h) (λ l. refl)))
+  fits-applied false = sym (true-and (stateFits s))
+
+-- ---- a leader of a term
+
+-- A leader in range: the term has one; or there is room, and it is one of the servers.
+abbrev pub leadFits : Term → NodeId → State → Bool
+leadFits term server s = insertFits numbers leaderKey (leaders (s .config .servers)) (s .limits .history) (record { term = term; server = server }) (s .checker .leaders)
+
+module _ (s : State) (term : Term) (server : NodeId) (h : tableFits (leaders (s .config .servers)) (s .limits .history) (s .checker .leaders) ≡ true) where
+  pub fits-led : (due : Bool) → stateFits (ledIf due term server s) ≡ (pick due (leadFits term server s) true and stateFits s)
+  unfolding ledIf
+  fits-led true =
+      let l : TermLeader = record { term = term; server = server } in
+      fits-checker-one s (withLeaders (s .checker) (insertBy numbers leaderKey l (s .checker .leaders))) 0 (leadFits term server s) (omega arith) h
+      (ap (λ (u : Bool). set (checkerTests s (s .checker)) 0 u) (insert-fits numbers leaderKey (leaders (s .config .servers)) (s .limits .history) l (s .checker .leaders) (λ y. refl) h))
+  fits-led false = sym (true-and (stateFits s))

@@ -1,0 +1,6 @@
+pub mod Checked
+pub mod TestLaws
+pub mod FitLaws
+pub mod KeepLaws
+pub mod TableLaws
+pub mod LeaderLaws

@@ -1,0 +1,135 @@
+// What the checks write, over the whole area: a violation kept, an entry seen, a leader of a term, an applied payload.
+ghost use mathlib.Core.Path.{_≡_};
+ghost use Prim.Native.Nat.{_+_, _*_, _≤_, _<_};
+ghost use lib.ListN.{length};
+ghost use Rattle.units.specs.Types.{payloadOf};
+ghost use Rattle.layout.specs.Tables.{Becomes, append};
+ghost use Rattle.layout.specs.Applied.{applied};
+ghost use Rattle.checks.specs.Violations.{detailOf};
+ghost use Rattle.checks.specs.Leaders.{InsertsLeader};
+ghost use Rattle.state.specs.Sizes.{leadersAt, appliedAt, appliedWords};
+ghost use Rattle.state.specs.Changes.{Inside, Changes, Reads};
+ghost use Rattle.state_checks.specs.Checked.{countAt, reportedIf, appliedIf, ledIf, leaderless, Stored};
+use checks::Check;
+use checks::leaders;
+use checks::violations;
+use checks::violations::Detail;
+use layout::applied;
+use state::Capacity;
+use state::sizes;
+use units::NodeId;
+use units::SimTime;
+use units::Term;
+
+// Word j of the counts of rows.
+fn count_of(area: &[u8], f: Capacity, j: usize) -> u64
+    requires { ⌜ Inside (now area) f ⌝ }
+    requires { ⌜ j < 8 ⌝ }
+    ensures { λ r. ⌜ Reads (now (area .entry)) f r (countAt j) ⌝ }
+{
+    words::load(&area[664..728], j)
+}
+
+// Counts a violation that is due, and keeps it while fewer than 32 are kept.
+pub fn keep(area: &mut [u8], f: Capacity, due: bool, time: SimTime, check: Check, detail: Detail)
+    requires { ⌜ Inside (now area) f ⌝ }
+    ensures { λ _. ⌜ Changes (now (area .entry)) (now (area .exit)) f (reportedIf due time check (detailOf detail)) ⌝ }
+{
+    if !due {
+        return;
+    }
+    let kept = count_of(area, f, 6) as usize;
+    let total = count_of(area, f, 7);
+    if total == 18446744073709551615 {
+        return;
+    }
+    let kept = violations::keep(&mut area[2048..4096], kept, true, time, check, detail);
+    words::store(area, 89, kept as u64);
+    words::store(area, 90, total + 1);
+}
+
+// ---- applied payloads
+
+// One payload more in the table of n, and its count.
+fn append_payload(area: &mut [u8], f: Capacity, n: usize, kind: u64, src: &[u8])
+    requires { ⌜ Inside (now area) f ⌝ }
+    requires { ⌜ n < f .limits .«log_indexes» ⌝ }
+    requires { ⌜ (kind ≤ 1) × (length (now src) ≤ 256 * kind) × (length (now src) ≤ f .limits .payload) ⌝ }
+    ensures { λ _. ⌜ Stored (now (area .entry)) (now (area .exit)) (appliedAt f) (appliedWords f) 88 (n + 1)
+        (λ u v. Becomes (applied (f .limits .payload)) n (n + 1) u v (append (payloadOf kind (now (src .entry))))) ⌝ }
+{
+    let limits = f.limits;
+    let at = sizes::applied_at(f);
+    let w = sizes::applied_words(f);
+    let a = 8 * at;
+    let e = 8 * (at + w);
+    applied::push(&mut area[a..e], n, limits.payload as usize, kind, src);
+    words::store(area, 88, n as u64 + 1);
+}
+
+// One applied payload more, where it is due, of a kind and the bytes of src; a noop has none. Nothing is written where no place is left.
+pub fn apply_payload(area: &mut [u8], f: Capacity, due: bool, kind: u64, src: &[u8])
+    requires { ⌜ Inside (now area) f ⌝ }
+    requires { ⌜ (kind ≤ 1) × (length (now src) ≤ 256 * kind) × (length (now src) ≤ f .limits .payload) ⌝ }
+    ensures { λ _. ⌜ Changes (now (area .entry)) (now (area .exit)) f (appliedIf due (payloadOf kind (now (src .entry)))) ⌝ }
+{
+    if !due {
+        return;
+    }
+    let limits = f.limits;
+    let n = count_of(area, f, 5);
+    if limits.log_indexes <= n {
+        return;
+    }
+    append_payload(area, f, n as usize, kind, src);
+}
+
+// ---- leaders
+
+// Whether a term has no leader among the n of the table.
+fn is_leaderless(area: &[u8], f: Capacity, n: usize, term: Term, server: NodeId) -> bool
+    requires { ⌜ Inside (now area) f ⌝ }
+    requires { ⌜ n < f .limits .history ⌝ }
+    requires { ⌜ Reads (now area) f n (countAt 2) ⌝ }
+    ensures { λ r. ⌜ Reads (now (area .entry)) f r (leaderless term) ⌝ }
+{
+    let limits = f.limits;
+    let at = sizes::leaders_at(f);
+    let a = 8 * at;
+    let e = 8 * (at + limits.history as usize * 2);
+    leaders::ask(&area[a..e], n, server, term).is_new()
+}
+
+// One leader more in the table of n, and its count.
+fn insert_leader(area: &mut [u8], f: Capacity, n: usize, term: Term, server: NodeId)
+    requires { ⌜ Inside (now area) f ⌝ }
+    requires { ⌜ n < f .limits .history ⌝ }
+    ensures { λ _. ⌜ Stored (now (area .entry)) (now (area .exit)) (leadersAt f) (f .limits .history * 2) 85 (n + 1)
+        (InsertsLeader term server n) ⌝ }
+{
+    let limits = f.limits;
+    let at = sizes::leaders_at(f);
+    let a = 8 * at;
+    let e = 8 * (at + limits.history as usize * 2);
+    leaders::insert(&mut area[a..e], n, term, server);
+    words::store(area, 85, n as u64 + 1);
+}
+
+// The leader of a term, where it is due and the term has none. Nothing is written where no row is left.
+pub fn lead(area: &mut [u8], f: Capacity, due: bool, term: Term, server: NodeId)
+    requires { ⌜ Inside (now area) f ⌝ }
+    ensures { λ _. ⌜ Changes (now (area .entry)) (now (area .exit)) f (ledIf due term server) ⌝ }
+{
+    if !due {
+        return;
+    }
+    let limits = f.limits;
+    let n = count_of(area, f, 2);
+    if limits.history <= n {
+        return;
+    }
+    if !is_leaderless(area, f, n as usize, term, server) {
+        return;
+    }
+    insert_leader(area, f, n as usize, term, server);
+}
