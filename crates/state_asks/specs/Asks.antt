@@ -3,6 +3,8 @@ use mathlib.Core.Path.{_≡_}
 use mathlib.Core.List.{List}
 use Prim.Native.Nat.{ℕ, _+_, _*_, _≤_}
 use lib.ListN.{length}
+use mir.Syntax.{w64}
+use mir.Val.{Fits}
 use Rattle.laws.specs.Bools.{pick}
 use Rattle.units.specs.Types.{Payload}
 use Rattle.units.specs.declared.LogIndex.{LogIndex}
@@ -50,6 +52,6 @@ pub record AsksApply (b : List ℕ) (F : Capacity) (k : ℕ) (index : LogIndex) 
   pub does : (s : State) → Area b s → F ≡ capacityOf s
       → afterApply k index x s ≡ applyActs r index (serverAt s k .nextApply) (s .checker) (s .now) (idOf k) x
 
--- The same whatever payload the lent words hold.
+-- The same whatever payload the lent words hold, at an index of 64 bits.
 pub record AsksRow (b : List ℕ) (F : Capacity) (k : ℕ) (index : LogIndex) (content : List ℕ) (r : ApplyAsked) : Type 0 where
-  pub to : (x : Payload) → Holds (payload (F .limits .payload)) content x → AsksApply b F k index x r
+  pub to : (x : Payload) → Holds (payload (F .limits .payload)) content x → Fits w64 (index .0) → AsksApply b F k index x r
