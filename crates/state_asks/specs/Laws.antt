@@ -1,0 +1,59 @@
+-- What the proofs of numbers.rt cite. Assumes nothing.
+use mathlib.Core.Path.{_≡_, refl, sym, ap, subst, _∙_}
+use mathlib.Core.List.{List}
+use Prim.Native.Nat.{ℕ, _+_, _-_, _*_, _≤_, _<_}
+use native.Mathlib.Omega.{arith}
+use lib.ListN.{length, getD, take, drop}
+use Rattle.words.specs.Words.{W}
+use Rattle.layout.specs.Contents.{holds-W}
+use Rattle.layout.specs.Parts.{lentRow}
+use Rattle.layout.specs.Rows.{row-start}
+use Rattle.model.specs.State.{State}
+use Rattle.state.specs.declared.Capacity.{Capacity}
+use Rattle.state.specs.Sizes.{blockWords, seenWords, appliedWords, seenAt, leadersAt, repliesAt, appliedAt, wholeWords, Counted, BlockAt}
+use Rattle.state.specs.SizeLaws.{room}
+use Rattle.state.specs.Area.{Area, capacityOf}
+use Rattle.state.specs.Changes.{Inside, Reads}
+use Rattle.state_asks.specs.Asks.{Rows, Begins, nextApplyOf}
+use Rattle.state_asks.specs.Lent.{state-lent}
+
+-- ---- rows_of
+
+pub rows-all : (n room w : ℕ) → n ≤ room → Rows n room w n
+rows-all n room w h = record { is = λ _. refl; few = h; bytes = omega (arith, row-start n room w h) }
+
+pub rows-room : (n room w : ℕ) → room < n → Rows n room w room
+rows-room n room w h = record { is = λ q. absurd (omega arith); few = omega arith; bytes = omega arith }
+
+-- ---- where regions begin
+
+module _ (b : List ℕ) (F : Capacity) (i : Inside b F) (r : ℕ) where
+  fits : 8 * wholeWords F ≤ length b
+  fits = omega (arith, room F, i .long)
+
+  pub block-begins : (k : ℕ) → k < F .servers → BlockAt F k r → Begins b r (512 + k * blockWords F) (blockWords F)
+  block-begins k j p = record { is = p .is; ends = omega (arith, fits, p .ends) }
+
+  pub seen-begins : Counted r (seenAt F) → Begins b r (seenAt F) (seenWords F)
+  seen-begins p = record { is = p .is; ends = omega (arith, fits, p .is) }
+
+  pub leaders-begin : Counted r (leadersAt F) → Begins b r (leadersAt F) (F .limits .history * 2)
+  leaders-begin p = record { is = p .is; ends = omega (arith, fits, p .is) }
+
+  pub replies-begin : Counted r (repliesAt F) → Begins b r (repliesAt F) (F .limits .history * 5)
+  replies-begin p = record { is = p .is; ends = omega (arith, fits, p .is) }
+
+  pub applied-begins : Counted r (appliedAt F) → Begins b r (appliedAt F) (appliedWords F)
+  applied-begins p = record { is = p .is; ends = omega (arith, fits, p .is) }
+
+-- ---- next_apply_of
+
+pub next-apply-read : (b : List ℕ) (F : Capacity) (k at r : ℕ) → k < F .servers → Begins b at (512 + k * blockWords F) (blockWords F) → r ≡ getD (W (take (8 * (at + 8 + 14) - 8 * (at + 8)) (drop (8 * (at + 8)) b))) 10 0
+    → Reads b F r (nextApplyOf k)
+unfolding nextApplyOf
+next-apply-read b F k at r i p e = record {
+  to = λ s h ef.
+      let j : k < capacityOf s .servers = subst (λ (G : Capacity). k < G .servers) ef i in
+      let q : at ≡ 512 + k * blockWords (capacityOf s) = subst (λ (G : Capacity). at ≡ 512 + k * blockWords G) ef (p .is) in
+      e ∙ ap (λ (ws : List ℕ). getD ws 10 0) (holds-W (state-lent h k j at q));
+}

@@ -1,0 +1,5 @@
+pub mod Asks
+pub mod Lent
+pub mod Rows
+pub mod Laws
+pub mod ApplyLaws
