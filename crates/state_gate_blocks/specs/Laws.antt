@@ -33,6 +33,7 @@ use Rattle.state.specs.Server.{serverCode}
 use Rattle.state.specs.declared.StatusOption.{StatusOption}
 use Rattle.state.specs.declared.StatusOption.the-variants as status
 use Rattle.state.specs.Parts.{nodeFlag, nodeNumber, nodeIn, termFlag, termNumber, termIn, boolNumber, boolIn, roleIn, statusIn, statusFlag, statusRole, statusTerm, statusLeader, statusCommit, statusWords, serverStateIn, storageStateCode, storageStateIn, storageStateWords, serverStateCode}
+use Rattle.state_gate_blocks.specs.Tests.{eqb-sym, same, tabled-ok}
 use Rattle.state_gate_blocks.specs.Blocks.{flagged, statusTold, storageStateOk, serverStateOk, fixedOk, serverOk, serversOk}
 
 -- ---- a flag and its number
@@ -44,15 +45,6 @@ flag-none f n e = sym (ap (λ (t : Bool). pick t (eqb n 0) (eqb f 1)) (eq-eqb f 
 pub flag-some : (f n : ℕ) → (f ≡ 0 → ⊥) → eqb f 1 ≡ flagged f n
 unfolding flagged
 flag-some f n e = sym (ap (λ (t : Bool). pick t (eqb n 0) (eqb f 1)) (ne-eqb f 0 e))
-
-eqb-sym : (m n : ℕ) → eqb m n ≡ eqb n m
-eqb-sym zero zero = refl
-eqb-sym zero (suc n) = ne-eqb zero (suc n) (omega arith) ∙ sym (ne-eqb (suc n) zero (omega arith))
-eqb-sym (suc m) zero = ne-eqb (suc m) zero (omega arith) ∙ sym (ne-eqb zero (suc m) (omega arith))
-eqb-sym (suc m) (suc n) = eqb·suc-suc m n ∙ eqb-sym m n ∙ sym (eqb·suc-suc n m)
-
-same : (n : ℕ) → eqb n n ≡ true
-same n = eq-eqb n n refl
 
 -- the words of a vote or a leader are those that say it
 node-told : (f n : ℕ) → (eqb (nodeFlag (nodeIn f n)) f and eqb (nodeNumber (nodeIn f n)) n) ≡ flagged f n
@@ -136,14 +128,6 @@ fixed-told F b r q u B h er eq eu =
     ∙ ap₂ (λ (x y : Bool). x and y) er (ap₂ (λ (x y : Bool). x and y) e (eu ∙ ap (λ (l : List ℕ). allz (take 42 l)) (sym (drop-drop 14 8 (W b)))))
 
 -- ---- a block
-
--- a table's region, tested by its own module
-pub tabled-ok : {T : Type 0} (t : Table T) (N n : ℕ) (b : List ℕ) (r : Bool) → Bytes b → length b ≡ 8 * N → Decides r (Tabled t n b) → r ≡ content t N n .ok (W b)
-tabled-ok t N n b r B l d =
-    ok-decides (content t N n) b B l r (record {
-      yes = λ e. let k = d .yes e in record { value = k .value; held = subst (λ (m : ℕ). Held t m n b (k .value)) (let q : k .words ≡ N = omega (arith, held-length (k .held)) in q) (k .held) .holds };
-      no = λ e c. d .no e (record { words = N; value = c .value; held = record { holds = c .held } });
-    })
 
 -- a table in a part of bytes, tested by its own module
 table-part : {T : Type 0} (t : Table T) (N n : ℕ) (b : List ℕ) (a e : ℕ) (r : Bool) → Bytes b → e ≡ a + N → 8 * e ≤ length b → Decides r (Tabled t n (take (8 * e - 8 * a) (drop (8 * a) b))) → r ≡ content t N n .ok (drop a (W b))
