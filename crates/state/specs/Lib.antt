@@ -19,3 +19,4 @@ pub mod Tables
 pub mod Lens
 pub mod Call
 pub mod Exits
+pub mod Branches
