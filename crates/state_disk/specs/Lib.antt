@@ -1,0 +1,2 @@
+pub mod Disks
+pub mod Laws
