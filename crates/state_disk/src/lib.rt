@@ -150,7 +150,8 @@ pub fn write_put(
     src: &[u8],
 ) -> u64
     requires { ⌜ Inside (now area) f ⌝ }
-    requires { ⌜ (k < f .servers) × (1 ≤ index .0) × (index .0 ≤ f .limits .«log_indexes») ⌝ }
+    requires { ⌜ k < f .servers ⌝ }
+    requires { ⌜ (1 ≤ index .0) × (index .0 ≤ f .limits .«log_indexes») ⌝ }
     requires { ⌜ (kind ≤ 1) × (length (now src) ≤ 256 * kind) × (length (now src) ≤ f .limits .payload) ⌝ }
     ensures { λ r. ⌜ WritesAt (now (area .entry)) (now (area .exit)) f k (writePut index (record { term = term; payload = payloadOf kind (now (src .entry)) })) r ⌝ }
 {
@@ -262,7 +263,8 @@ pub fn crash(area: &mut [u8], f: Capacity, k: usize)
 // What stands at an index of a server's log; the bytes of a command go to the front of the buffer.
 pub fn read_entry(area: &[u8], f: Capacity, k: usize, index: LogIndex, buffer: &mut [u8]) -> Place
     requires { ⌜ Inside (now area) f ⌝ }
-    requires { ⌜ (k < f .servers) × (f .limits .payload ≤ length (now buffer)) ⌝ }
+    requires { ⌜ k < f .servers ⌝ }
+    requires { ⌜ f .limits .payload ≤ length (now buffer) ⌝ }
     ensures { λ r. ⌜ ReadsEntryAt (now (area .entry)) f k index r (now (buffer .entry)) (now (buffer .exit)) ⌝ }
 {
     let d = disk_in(area, f, k);

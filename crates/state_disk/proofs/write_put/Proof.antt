@@ -1,4 +1,4 @@
--- Made by tools/uniform from proofs.txt, not by hand: 637bfe99944826a7
+-- Made by tools/uniform from proofs.txt, not by hand: b00a940303db39a2
 use Rattle.state.specs.Exits.{inside-after}
 use Rattle.state_disk.specs.Laws.{put-written}
 use borrow.Author.Needs.{needs}
@@ -15,6 +15,6 @@ write-put-spec =
     (λ c. search (put-written, inside-after, needs))  -- part-put-start
     (λ c. search (put-written, inside-after, needs))  -- part-put-end
     (λ c κs. search (put-written, inside-after, needs))  -- put-requires
-    (λ c κs. search (put-written, inside-after, needs))  -- finish-requires
+    (λ c. search (c .before .before .before .before .before .before .before .before .before .before .before .before .pre, inside-after, needs))  -- finish-requires
     (λ c. search (put-written, inside-after, needs))  -- same-length
-    (λ c. search (put-written, inside-after, needs)))  -- returns
+    (λ c. search (c .before .before .before .before .before .before .before .before .before .before .before .before .before .before .before .pre, put-written, needs)))  -- returns
