@@ -1,14 +1,13 @@
 -- What the proofs of lib.rt cite. Assumes nothing.
 use mathlib.Core.Path.{_≡_, refl, sym, ap, ap₂, subst, _∙_}
-use mathlib.Core.Bool.{Bool, true, false}
+use mathlib.Core.Bool.{Bool, true}
 use mathlib.Core.List.{List, [], _∷_, _++_}
 use Prim.Native.Nat.{ℕ, _+_, _-_, _*_, _^_, _≤_, _<_}
 use native.Mathlib.Omega.{arith}
-use lib.Dec.{leb, ltb, eqb}
+use lib.Dec.{ltb, eqb}
 use lib.ListN.{length, getD, set, take, drop, take-append-drop, length-append}
-use lib.Seq.{sets}
 use borrow.Author.Tests.{le-leb, leb-true, eq-eqb}
-use Rattle.laws.specs.Bools.{_and_, pick, cases, every, every-append, every-both, allb-in, and-left, and-right, and-both, and-true, true-and}
+use Rattle.laws.specs.Bools.{_and_, pick, cases, every, every-append, every-get, every-both, allb-in, and-left, and-right, and-both, and-true}
 use Rattle.laws.specs.Decides.{false-true}
 use Rattle.units.specs.Types.{payloadOf}
 use Rattle.units.specs.declared.LogIndex.{LogIndex}
@@ -20,13 +19,12 @@ use Rattle.config.specs.declared.Limits.{Limits}
 use Rattle.words.specs.Words.{W, bytes}
 use Rattle.words.specs.Lift.{length-bytes}
 use Rattle.words.specs.Sets.{part-part, length-part}
-use Rattle.layout.specs.Code.{Code}
-use Rattle.layout.specs.Tables.{Holds, Held, Gives, rowsIn}
+use Rattle.layout.specs.Tables.{Holds, Held, rowsIn}
 use Rattle.layout.specs.TableLaws.{held-rows, held-length, rows-are}
 use Rattle.layout.specs.Contents.{holds-parse}
 use Rattle.layout.specs.Marked.{wordsFor}
 use Rattle.layout.specs.Rows.{row-start}
-use Rattle.log.specs.Log.{Log, count, lastIndex, gaps, entryAt}
+use Rattle.log.specs.Log.{Log, count, lastIndex, gaps}
 use Rattle.log.specs.Places.{place, places, ReadsEntry}
 use Rattle.log.specs.declared.Place.{Place}
 use Rattle.storage.specs.declared.HardState.{HardState}
@@ -34,18 +32,18 @@ use Rattle.storage.specs.declared.StorageState.{StorageState}
 use Rattle.storage.specs.declared.Synced.{Synced}
 use Rattle.storage.specs.declared.write.Written.{Written}
 use Rattle.storage.specs.declared.write.Written.the-variants.{Done, Full, Past64Bits}
-use Rattle.storage.specs.Storage.{Disk, Write, writeHardState, writePut, writeTruncate, Storage, applyWrite, write, sync, crash, unsynced, unsyncedBytes}
-use Rattle.storage.specs.Waiting.{waiting, waitingIn, writeCode, putWithin, voteNumber}
+use Rattle.storage.specs.Storage.{Disk, Write, writeHardState, writePut, writeTruncate, Storage, applyWrite, write, sync, crash}
+use Rattle.storage.specs.Waiting.{waiting, writeCode, putWithin, voteNumber}
 use Rattle.storage.specs.Stores.{diskBytes, Parts, Stores, Syncs, Crashes}
 use Rattle.storage.specs.Replay.{Sums}
 use Rattle.storage.specs.Writes.{writtenNumber, storageRoom, Writes}
-use Rattle.storage.specs.PartLaws.{lent, back, current-lent, waiting-lent}
+use Rattle.storage.specs.PartLaws.{lent, current-lent, waiting-lent}
 use Rattle.model.specs.State.{State, Server, newServer, serverAt}
 use Rattle.model.specs.Fields.{withStorage}
 use Rattle.model.specs.Simulation.{onServer, writeAt}
-use Rattle.model.specs.Fits.{stateFits, serverFits, serverTests, storageFits, diskFits, hardStateFits, nodeFits}
+use Rattle.model.specs.Fits.{stateFits, serverFits, serverTests, storageFits, hardStateFits, nodeFits}
 use Rattle.state.specs.declared.Capacity.{Capacity}
-use Rattle.state.specs.Sizes.{logWords, waitingWords, blockWords, bytesOf, BlockAt, Counted}
+use Rattle.state.specs.Sizes.{logWords, waitingWords, bytesOf, BlockAt, Counted}
 use Rattle.state.specs.SizeLaws.{room}
 use Rattle.state.specs.Parts.{storageStateIn, storageStateWords, storageStateCode}
 use Rattle.state.specs.Server.{storageOfServer}
@@ -53,9 +51,8 @@ use Rattle.state.specs.Area.{Area, capacityOf}
 use Rattle.state.specs.Fitting.{area-fits}
 use Rattle.state.specs.FitsBy.{fits-test, server-count, server-fits-at, fits-server-one}
 use Rattle.state.specs.Changes.{Inside, AreaOf, Changes, Reads}
-use Rattle.state.specs.Lens.{diskContent, ServerCut, serverContents, ServerHeld, server-cut, server-at-held, part-lent, part-put, cut-server, server-in-range, fits-on-server}
+use Rattle.state.specs.Lens.{diskContent, ServerCut, serverContents, server-cut, server-at-held, part-lent, part-put, cut-server, fits-on-server}
 use Rattle.state_disk.specs.declared.DiskPlace.{DiskPlace}
-use Rattle.state_disk.specs.declared.SyncTold.{SyncTold}
 use Rattle.state_disk.specs.Disks.{DiskIn, storageAt, StorageIn, StoresAt, written, writeAnswer, Finishes, WritesAt, unsyncedAt, syncedAt, SyncsAt, crashedAt, logAt, ReadsEntryAt, logNumbersAt}
 
 -- ---- where it lies
@@ -201,6 +198,15 @@ module _ (config : SimConfig) (limits : Limits) where
   current-fits d (writePut index e) t g = t
   current-fits d (writeTruncate from) t g = t
 
+module _ (s : State) (k : ℕ) (n : length (s .servers) ≡ s .config .servers) (i : k < s .config .servers) (h : every (serverFits (s .config) (s .limits)) (s .servers) ≡ true) where
+  -- another storage: its tests, and all tests that were before
+  pub fits-storage : (op : Storage → Storage) → stateFits (onServer s k (λ v. withStorage v (op (v .storage)))) ≡ (storageFits (s .config) (s .limits) (op (serverAt s k .storage)) and stateFits s)
+  fits-storage op =
+      fits-on-server s k (λ v. withStorage v (op (v .storage))) n i h
+      ∙ ap (λ (t : Bool). t and stateFits s)
+      (fits-server-one (s .config) (s .limits) (serverAt s k) (withStorage (serverAt s k) (op (serverAt s k .storage))) 1 (storageFits (s .config) (s .limits) (op (serverAt s k .storage))) (omega arith)
+      (every-get (serverFits (s .config) (s .limits)) (s .servers) k (newServer 0) (rw n i) h) refl)
+
 -- ---- writes
 
 -- by what a disk answers of a write
@@ -236,11 +242,8 @@ module _ (b b₂ ys : List ℕ) (F : Capacity) (k : ℕ) (d : DiskPlace) (v : St
     fits-is : stateFits (writeAt s k w) ≡ storageFits (s .config) (s .limits) (write y w)
     unfolding writeAt
     fits-is =
-        fits-on-server s k (λ v. withStorage v (write (v .storage) w)) (server-count s (area-fits (h .area))) below (fits-test s (area-fits (h .area)) 5)
-        ∙ ap₂ (λ (m n : Bool). m and n)
-        (fits-server-one (s .config) (s .limits) (serverAt s k) (withStorage (serverAt s k) (write y w)) 1 (storageFits (s .config) (s .limits) (write y w)) (omega arith) (server-fits-at s (area-fits (h .area)) k below) refl)
-        (area-fits (h .area))
-        ∙ and-true (storageFits (s .config) (s .limits) (write y w))
+        fits-storage s k (server-count s (area-fits (h .area))) below (fits-test s (area-fits (h .area)) 5) (λ x. write x w)
+        ∙ ap (λ (t : Bool). storageFits (s .config) (s .limits) (write y w) and t) (area-fits (h .area)) ∙ and-true (storageFits (s .config) (s .limits) (write y w))
 
     -- it was made: the storage with it fits
     made-fits : (v′ : StorageState) → Stores (F .limits .payload) (F .limits .«log_indexes») (F .limits .writes) v′ ys (write y w) → storageRoom (F .limits .writes) (write y w) ≡ true → storageFits (s .config) (s .limits) (write y w) ≡ true

@@ -1,5 +1,4 @@
 // The storage of one server of the state that an area holds, by the server's place from 0 on: writes, sync, crash, and reads of its log.
-ghost use mathlib.Core.Path.{_≡_};
 ghost use Prim.Native.Nat.{_+_, _*_, _≤_, _<_};
 ghost use lib.ListN.{length};
 ghost use Rattle.units.specs.Types.{payloadOf};
