@@ -37,7 +37,7 @@ use Rattle.storage.specs.Waiting.{waiting, writeCode, putWithin, voteNumber}
 use Rattle.storage.specs.Stores.{diskBytes, Parts, Stores, Syncs, Crashes}
 use Rattle.storage.specs.Replay.{Sums}
 use Rattle.storage.specs.Writes.{writtenNumber, storageRoom, Writes}
-use Rattle.storage.specs.PartLaws.{lent, current-lent, waiting-lent}
+use Rattle.storage.specs.PartLaws.{lent, back, current-lent, waiting-lent}
 use Rattle.model.specs.State.{State, Server, newServer, serverAt}
 use Rattle.model.specs.Fields.{withStorage}
 use Rattle.model.specs.Simulation.{onServer, writeAt}
@@ -51,9 +51,23 @@ use Rattle.state.specs.Area.{Area, capacityOf}
 use Rattle.state.specs.Fitting.{area-fits}
 use Rattle.state.specs.FitsBy.{fits-test, server-count, server-fits-at, fits-server-one}
 use Rattle.state.specs.Changes.{Inside, AreaOf, Changes, Reads}
-use Rattle.state.specs.Lens.{diskContent, ServerCut, serverContents, server-cut, server-at-held, part-lent, part-put, cut-server, fits-on-server}
+use Rattle.state.specs.Lens.{diskContent, area-of, put-same, ServerCut, serverContents, server-cut, server-at-held, part-lent, part-put, cut-server, fits-on-server}
 use Rattle.state_disk.specs.declared.DiskPlace.{DiskPlace}
 use Rattle.state_disk.specs.Disks.{DiskIn, storageAt, StorageIn, StoresAt, written, writeAnswer, Finishes, WritesAt, unsyncedAt, syncedAt, SyncsAt, crashedAt, logAt, ReadsEntryAt, logNumbersAt}
+
+-- ---- by the counts of an area
+
+abbrev StoresIn : Capacity → StorageState → List ℕ → Storage → Type 0
+StoresIn F = Stores (F .limits .payload) (F .limits .«log_indexes») (F .limits .writes)
+
+abbrev WritesIn : Capacity → StorageState → Write → Written → List ℕ → List ℕ → Type 0
+WritesIn F = Writes (F .limits .payload) (F .limits .«log_indexes») (F .limits .writes)
+
+abbrev SyncsIn : Capacity → StorageState → Synced → List ℕ → List ℕ → Type 0
+SyncsIn F = Syncs (F .limits .payload) (F .limits .«log_indexes») (F .limits .writes)
+
+abbrev CrashesIn : Capacity → StorageState → StorageState → List ℕ → List ℕ → Type 0
+CrashesIn F = Crashes (F .limits .payload) (F .limits .«log_indexes») (F .limits .writes)
 
 -- ---- where it lies
 
@@ -68,27 +82,23 @@ disk-in b F k at logs waiting i h el ew = record {
 
 -- ---- the fixed part
 
--- an area as it stands
-whole : {b : List ℕ} {F : Capacity} {s : State} → Area b s → F ≡ capacityOf s → AreaOf b (drop (bytesOf F) b) F s
-whole h e = record { capacity = e; area = h; rest = refl }
-
 module _ (b : List ℕ) (F : Capacity) (k : ℕ) (d : DiskPlace) (i : k < F .servers) (p : DiskIn b F k d) where
-  pub storage-read : (r : StorageState) → r ≡ storageStateIn (W (take (d .block + 64 - d .block) (drop (d .block) b))) → Reads b F r (storageAt k)
+  pub storage-read : (r : StorageState) → r ≡ storageStateIn (W (lent (d .block) (d .block + 64) b)) → Reads b F r (storageAt k)
   unfolding storageAt
   storage-read r q = record {
     to = λ s h e.
-        let c = server-cut (whole h e) k i in
-        let x = server-at-held (whole h e) k i .storage in
-        let y : Holds storageStateCode (take (d .block + 64 - d .block) (drop (d .block) b)) (storageOfServer (serverAt s k)) =
+        let c = server-cut (area-of h e) k i in
+        let x = server-at-held (area-of h e) k i .storage in
+        let y : Holds storageStateCode (lent (d .block) (d .block + 64) b) (storageOfServer (serverAt s k)) =
         record { good = x .good; is = part-lent c 0 (omega arith) (d .block) (d .block + 64) (omega (arith, p .block)) refl } in
         q ∙ holds-parse y;
   }
 
   pub storage-stored : (ys : List ℕ) (v : StorageState) → ys ≡ bytes (storageStateWords v)
-      → StoresAt b (take (d .block) b ++ (ys ++ drop (d .block + 64 - d .block) (drop (d .block) b))) F k v
+      → StoresAt b (back (d .block) (d .block + 64) b ys) F k v
   storage-stored ys v q = record {
     to = λ r s xs c.
-        subst (λ (z : List ℕ). ServerCut (take (d .block) b ++ (ys ++ drop (d .block + 64 - d .block) (drop (d .block) b))) r F s k (set xs 0 z)) q
+        subst (λ (z : List ℕ). ServerCut (back (d .block) (d .block + 64) b ys) r F s k (set xs 0 z)) q
         (part-put c 0 (omega arith) (d .block) (d .block + 64) (omega (arith, p .block)) refl ys (ap length q ∙ length-bytes (storageStateWords v)));
   }
 
@@ -113,21 +123,16 @@ module _ (b r : List ℕ) (F : Capacity) (s : State) (k : ℕ) (d : DiskPlace) (
   abbrev x : Storage
   x = serverAt s k .storage
 
-  disk-is : take (d .to - d .from) (drop (d .from) b) ≡ diskContent F x
+  disk-is : lent (d .from) (d .to) b ≡ diskContent F x
   disk-is = part-lent (server-cut h k i) 3 (omega arith) (d .from) (d .to) (omega (arith, p .from, p .block)) (p .to)
 
-  pub disk-stores : (v : StorageState) → v ≡ storageOfServer (serverAt s k) → Stores (F .limits .payload) (F .limits .«log_indexes») (F .limits .writes) v (take (d .to - d .from) (drop (d .from) b)) x
+  pub disk-stores : (v : StorageState) → v ≡ storageOfServer (serverAt s k) → StoresIn F v (lent (d .from) (d .to) b) x
   disk-stores v e =
-      ap-both v (take (d .to - d .from) (drop (d .from) b)) (sym e) (sym disk-is) (server-at-held h k i .disk)
-    where
-      ap-both : (v : StorageState) (l : List ℕ) → storageOfServer (serverAt s k) ≡ v → diskContent F x ≡ l → Stores (F .limits .payload) (F .limits .«log_indexes») (F .limits .writes) (storageOfServer (serverAt s k)) (diskContent F x) x
-          → Stores (F .limits .payload) (F .limits .«log_indexes») (F .limits .writes) v l x
-      ap-both v l f g y =
-          subst (λ (u : StorageState). Stores (F .limits .payload) (F .limits .«log_indexes») (F .limits .writes) u l x) f
-          (subst (λ (m : List ℕ). Stores (F .limits .payload) (F .limits .«log_indexes») (F .limits .writes) (storageOfServer (serverAt s k)) m x) g y)
+      subst (λ (u : StorageState). StoresIn F u (lent (d .from) (d .to) b) x) (sym e)
+      (subst (λ (l : List ℕ). StoresIn F (storageOfServer (serverAt s k)) l x) (sym disk-is) (server-at-held h k i .disk))
 
 -- what a disk's bytes are that store x, and its fixed part
-stores-content : (F : Capacity) (v : StorageState) (l : List ℕ) (x : Storage) → Stores (F .limits .payload) (F .limits .«log_indexes») (F .limits .writes) v l x → l ≡ diskContent F x
+stores-content : (F : Capacity) (v : StorageState) (l : List ℕ) (x : Storage) → StoresIn F v l x → l ≡ diskContent F x
 stores-content F v l x y =
     let q = y .parts in
     q .side ∙ ap₂ (λ (u w : List ℕ). u ++ w) (q .current .holds .is) (ap₂ (λ (u w : List ℕ). u ++ w) (q .durable .holds .is) (q .writes .holds .is))
@@ -140,9 +145,9 @@ stores-state : (P L N : ℕ) (v : StorageState) (l : List ℕ) (u : Server) → 
 stores-state P L N v l u y = same-state (y .current) (y .durable) (sym (held-rows (y .parts .writes) .count)) (y .discarded)
 
 -- the disk and its fixed part put back: the bytes hold the state with that storage
-module _ (b b₂ ys : List ℕ) (F : Capacity) (k : ℕ) (d : DiskPlace) (i : k < F .servers) (p : DiskIn b F k d) (v : StorageState) (w : StoresAt (take (d .from) b ++ (ys ++ drop (d .to - d .from) (drop (d .from) b))) b₂ F k v) where
+module _ (b b₂ ys : List ℕ) (F : Capacity) (k : ℕ) (d : DiskPlace) (i : k < F .servers) (p : DiskIn b F k d) (v : StorageState) (w : StoresAt (back (d .from) (d .to) b ys) b₂ F k v) where
   disk-back : (op : Storage → Storage) (s : State) (r : List ℕ) → AreaOf b r F s
-      → Stores (F .limits .payload) (F .limits .«log_indexes») (F .limits .writes) v ys (op (serverAt s k .storage))
+      → StoresIn F v ys (op (serverAt s k .storage))
       → stateFits (onServer s k (λ v. withStorage v (op (v .storage)))) ≡ true → AreaOf b₂ r F (onServer s k (λ v. withStorage v (op (v .storage))))
   disk-back op s r h y t =
       let u : Server = serverAt s k in
@@ -218,17 +223,14 @@ by-written {A} o z f = by o refl z
     by Full e z = absurd (omega arith)
     by Past64Bits e z = absurd (omega arith)
 
-put-same : (a n : ℕ) (b : List ℕ) → take a b ++ (take n (drop a b) ++ drop n (drop a b)) ≡ b
-put-same a n b = ap (λ (l : List ℕ). take a b ++ l) (take-append-drop n (drop a b)) ∙ take-append-drop a b
-
 module _ (b b₂ ys : List ℕ) (F : Capacity) (k : ℕ) (d : DiskPlace) (v : StorageState) (w : Write) (o : Written) (c : ℕ) (i : k < F .servers) (g : putWithin (F .limits .«log_indexes») w ≡ true) (p : DiskIn b F k d)
-    (q : Reads b F v (storageAt k)) (e : Writes (F .limits .payload) (F .limits .«log_indexes») (F .limits .writes) v w o (take (d .to - d .from) (drop (d .from) b)) ys)
-    (f : Finishes (take (d .from) b ++ (ys ++ drop (d .to - d .from) (drop (d .from) b))) b₂ F k o c) where
+    (q : Reads b F v (storageAt k)) (e : WritesIn F v w o (lent (d .from) (d .to) b) ys)
+    (f : Finishes (back (d .from) (d .to) b ys) b₂ F k o c) where
   module _ (s : State) (r : List ℕ) (h : AreaOf b r F s) where
     abbrev y : Storage
     y = serverAt s k .storage
 
-    stores : Stores (F .limits .payload) (F .limits .«log_indexes») (F .limits .writes) v (take (d .to - d .from) (drop (d .from) b)) y
+    stores : StoresIn F v (lent (d .from) (d .to) b) y
     unfolding storageAt
     stores = disk-stores b r F s k d i p h v (q .to s (h .area) (h .capacity))
 
@@ -246,7 +248,7 @@ module _ (b b₂ ys : List ℕ) (F : Capacity) (k : ℕ) (d : DiskPlace) (v : St
         ∙ ap (λ (t : Bool). storageFits (s .config) (s .limits) (write y w) and t) (area-fits (h .area)) ∙ and-true (storageFits (s .config) (s .limits) (write y w))
 
     -- it was made: the storage with it fits
-    made-fits : (v′ : StorageState) → Stores (F .limits .payload) (F .limits .«log_indexes») (F .limits .writes) v′ ys (write y w) → storageRoom (F .limits .writes) (write y w) ≡ true → storageFits (s .config) (s .limits) (write y w) ≡ true
+    made-fits : (v′ : StorageState) → StoresIn F v′ ys (write y w) → storageRoom (F .limits .writes) (write y w) ≡ true → storageFits (s .config) (s .limits) (write y w) ≡ true
     unfolding write
     made-fits v′ z t =
         let old = fitted 1 in
@@ -273,7 +275,7 @@ module _ (b b₂ ys : List ℕ) (F : Capacity) (k : ℕ) (d : DiskPlace) (v : St
   disk-written = record {
     code = record {
       to = λ s h ef.
-          let a = whole h ef in
+          let a = area-of h ef in
           f .code ∙ e .number (serverAt s k .storage) (stores s (drop (bytesOf F) b) a) ∙ ap (λ (n : Bool). pick n 0 10) (sym (room-is s (drop (bytesOf F) b) a));
     };
     changes = record {
@@ -283,7 +285,7 @@ module _ (b b₂ ys : List ℕ) (F : Capacity) (k : ℕ) (d : DiskPlace) (v : St
     };
     kept = λ t.
         let n : writtenNumber o ≡ 10 = sym (f .code) ∙ t in
-        f .kept n ∙ ap (λ (l : List ℕ). take (d .from) b ++ (l ++ drop (d .to - d .from) (drop (d .from) b))) (e .kept n) ∙ put-same (d .from) (d .to - d .from) b;
+        f .kept n ∙ ap (back (d .from) (d .to) b) (e .kept n) ∙ put-same (d .from) (d .to - d .from) b;
   }
 
 -- the end of a write
@@ -312,47 +314,47 @@ module _ (b : List ℕ) (F : Capacity) (k : ℕ) (r : Written) where
 
 module _ (b b₂ ys : List ℕ) (F : Capacity) (k : ℕ) (d : DiskPlace) (v : StorageState) (o : Written) (c : ℕ) (i : k < F .servers) where
   abbrev region : List ℕ
-  region = take (d .to - d .from) (drop (d .from) b)
+  region = lent (d .from) (d .to) b
 
   abbrev after : List ℕ
-  after = take (d .from) b ++ (ys ++ drop (d .to - d .from) (drop (d .from) b))
+  after = back (d .from) (d .to) b ys
 
-  pub hard-state-written : (h : HardState) → DiskIn b F k d → Reads b F v (storageAt k) → Writes (F .limits .payload) (F .limits .«log_indexes») (F .limits .writes) v (writeHardState h) o region ys → Finishes after b₂ F k o c
+  pub hard-state-written : (h : HardState) → DiskIn b F k d → Reads b F v (storageAt k) → WritesIn F v (writeHardState h) o region ys → Finishes after b₂ F k o c
       → WritesAt b b₂ F k (writeHardState h) c
   hard-state-written h p q e f = disk-written b b₂ ys F k d v (writeHardState h) o c i refl p q e f
 
   pub put-written : (index : LogIndex) (t : Term) (kind : ℕ) (src : List ℕ) → 1 ≤ index .0 → index .0 ≤ F .limits .«log_indexes» → DiskIn b F k d → Reads b F v (storageAt k)
-      → Writes (F .limits .payload) (F .limits .«log_indexes») (F .limits .writes) v (writePut index (record { term = t; payload = payloadOf kind src })) o region ys → Finishes after b₂ F k o c
+      → WritesIn F v (writePut index (record { term = t; payload = payloadOf kind src })) o region ys → Finishes after b₂ F k o c
       → WritesAt b b₂ F k (writePut index (record { term = t; payload = payloadOf kind src })) c
   put-written index t kind src low high p q e f =
       disk-written b b₂ ys F k d v (writePut index (record { term = t; payload = payloadOf kind src })) o c i (and-both _ _ (le-leb 1 (index .0) low) (le-leb (index .0) (F .limits .«log_indexes») high)) p q e f
 
-  pub truncate-written : (index : LogIndex) → DiskIn b F k d → Reads b F v (storageAt k) → Writes (F .limits .payload) (F .limits .«log_indexes») (F .limits .writes) v (writeTruncate index) o region ys → Finishes after b₂ F k o c
+  pub truncate-written : (index : LogIndex) → DiskIn b F k d → Reads b F v (storageAt k) → WritesIn F v (writeTruncate index) o region ys → Finishes after b₂ F k o c
       → WritesAt b b₂ F k (writeTruncate index) c
   truncate-written index p q e f = disk-written b b₂ ys F k d v (writeTruncate index) o c i refl p q e f
 
 -- ---- sync and crash
 
 module _ (b ys b₂ : List ℕ) (F : Capacity) (k : ℕ) (d : DiskPlace) (v : StorageState) (i : k < F .servers) (p : DiskIn b F k d) (q : StorageIn b F k v) where
-  held : (s : State) (r : List ℕ) (h : AreaOf b r F s) → Stores (F .limits .payload) (F .limits .«log_indexes») (F .limits .writes) v (take (d .to - d .from) (drop (d .from) b)) (serverAt s k .storage)
+  held : (s : State) (r : List ℕ) (h : AreaOf b r F s) → StoresIn F v (lent (d .from) (d .to) b) (serverAt s k .storage)
   unfolding storageAt
   held s r h = disk-stores b r F s k d i p h v (q .state .to s (h .area) (h .capacity))
 
-  pub synced-at : (t : Synced) → Syncs (F .limits .payload) (F .limits .«log_indexes») (F .limits .writes) v t (take (d .to - d .from) (drop (d .from) b)) ys
-      → StoresAt (take (d .from) b ++ (ys ++ drop (d .to - d .from) (drop (d .from) b))) b₂ F k (t .state)
+  pub synced-at : (t : Synced) → SyncsIn F v t (lent (d .from) (d .to) b) ys
+      → StoresAt (back (d .from) (d .to) b ys) b₂ F k (t .state)
       → SyncsAt b b₂ F k (record { wrote = t .wrote; bytes = t .bytes })
   unfolding syncedAt unsyncedAt
   synced-at t e w = record {
     changes = record { to = λ s r h u. disk-back b b₂ ys F k d i p (t .state) w sync s r h (e .to (serverAt s k .storage) (held s r h)) u };
     told = record {
       to = λ s h ef.
-          let a = held s (drop (bytesOf F) b) (whole h ef) in
+          let a = held s (drop (bytesOf F) b) (area-of h ef) in
           ap₂ (λ (n : Bool) (m : ℕ). record { wrote = n; bytes = m }) (e .wrote (serverAt s k .storage) a) (e .bytes (serverAt s k .storage) a);
     };
   }
 
-  pub crashed-at : (v′ : StorageState) → Crashes (F .limits .payload) (F .limits .«log_indexes») (F .limits .writes) v v′ (take (d .to - d .from) (drop (d .from) b)) ys
-      → StoresAt (take (d .from) b ++ (ys ++ drop (d .to - d .from) (drop (d .from) b))) b₂ F k v′
+  pub crashed-at : (v′ : StorageState) → CrashesIn F v v′ (lent (d .from) (d .to) b) ys
+      → StoresAt (back (d .from) (d .to) b ys) b₂ F k v′
       → Changes b b₂ F (crashedAt k)
   unfolding crashedAt
   crashed-at v′ e w = record { to = λ s r h u. disk-back b b₂ ys F k d i p v′ w crash s r h (e .to (serverAt s k .storage) (held s r h)) u }
@@ -361,7 +363,7 @@ module _ (b ys b₂ : List ℕ) (F : Capacity) (k : ℕ) (d : DiskPlace) (v : St
 
 -- the rows of m waiting writes lie in the region that is lent
 pub waiting-room : (b : List ℕ) (F : Capacity) (k logs : ℕ) (d : DiskPlace) (v : StorageState) → DiskIn b F k d → StorageIn b F k v → Counted logs (logWords F)
-    → 8 * (v .waiting * (3 + wordsFor (F .limits .payload))) ≤ length (take (d .to - (d .from + 16 * logs)) (drop (d .from + 16 * logs) b))
+    → 8 * (v .waiting * (3 + wordsFor (F .limits .payload))) ≤ length (lent (d .from + 16 * logs) (d .to) b)
 waiting-room b F k logs d v p q e =
     let n : ℕ = d .to - (d .from + 16 * logs) in
     let l : length (take n (drop (d .from + 16 * logs) b)) ≡ n = length-part b (d .from + 16 * logs) n (omega (arith, p .to, p .ends, e .is)) in
@@ -369,47 +371,47 @@ waiting-room b F k logs d v p q e =
 
 module _ (b : List ℕ) (F : Capacity) (k logs : ℕ) (d : DiskPlace) (i : k < F .servers) (p : DiskIn b F k d) (el : Counted logs (logWords F)) where
   parts : (s : State) (r : List ℕ) (h : AreaOf b r F s)
-      → Parts (F .limits .payload) (F .limits .«log_indexes») (F .limits .writes) (length (serverAt s k .storage .waiting)) (take (d .to - d .from) (drop (d .from) b)) (serverAt s k .storage .current .log)
+      → Parts (F .limits .payload) (F .limits .«log_indexes») (F .limits .writes) (length (serverAt s k .storage .waiting)) (lent (d .from) (d .to) b) (serverAt s k .storage .current .log)
       (serverAt s k .storage .durable .log) (serverAt s k .storage .waiting)
   parts s r h = disk-stores b r F s k d i p h (storageOfServer (serverAt s k)) refl .parts
 
-  pub unsynced-read : (v : StorageState) (r : ℕ) → StorageIn b F k v → Sums (F .limits .payload) (v .waiting) r (take (d .to - (d .from + 16 * logs)) (drop (d .from + 16 * logs) b))
+  pub unsynced-read : (v : StorageState) (r : ℕ) → StorageIn b F k v → Sums (F .limits .payload) (v .waiting) r (lent (d .from + 16 * logs) (d .to) b)
       → Reads b F (record { wrote = ltb 0 (v .waiting); bytes = r }) (unsyncedAt k)
   unfolding unsyncedAt storageAt
   unsynced-read v r q g = record {
     to = λ s h e.
         let x : Storage = serverAt s k .storage in
         let m : v .waiting ≡ length (x .waiting) = ap (λ (u : StorageState). u .waiting) (q .state .to s h e) in
-        let z = parts s (drop (bytesOf F) b) (whole h e) in
-        let n : ℕ = length (take (d .to - d .from) (drop (d .from) b)) in
+        let z = parts s (drop (bytesOf F) b) (area-of h e) in
+        let n : ℕ = length (lent (d .from) (d .to) b) in
         let ln : n ≡ d .to - d .from = length-part b (d .from) (d .to - d .from) (omega (arith, p .to, p .ends)) in
         let en : d .to - (d .from + 16 * logs) ≡ n - 16 * logs = omega (arith, ln) in
-        let at : take (d .to - (d .from + 16 * logs)) (drop (d .from + 16 * logs) b) ≡ lent (16 * logs) n (take (d .to - d .from) (drop (d .from) b)) =
+        let at : lent (d .from + 16 * logs) (d .to) b ≡ lent (16 * logs) n (lent (d .from) (d .to) b) =
         ap (λ (j : ℕ). take j (drop (d .from + 16 * logs) b)) en ∙ sym (part-part b (d .from) (d .to - d .from) (16 * logs) (n - 16 * logs) (omega (arith, ln, p .to, el .is))) in
-        let y : Held (waiting (F .limits .payload)) (waitingWords F) (v .waiting) (take (d .to - (d .from + 16 * logs)) (drop (d .from + 16 * logs) b)) (x .waiting) =
-        subst (λ (j : ℕ). Held (waiting (F .limits .payload)) (waitingWords F) j (take (d .to - (d .from + 16 * logs)) (drop (d .from + 16 * logs) b)) (x .waiting)) (sym m)
+        let y : Held (waiting (F .limits .payload)) (waitingWords F) (v .waiting) (lent (d .from + 16 * logs) (d .to) b) (x .waiting) =
+        subst (λ (j : ℕ). Held (waiting (F .limits .payload)) (waitingWords F) j (lent (d .from + 16 * logs) (d .to) b) (x .waiting)) (sym m)
         (subst (λ (l : List ℕ). Held (waiting (F .limits .payload)) (waitingWords F) (length (x .waiting)) l (x .waiting)) (sym at) (waiting-lent z logs (el .is) n refl)) in
         ap₂ (λ (a c : ℕ). record { wrote = ltb 0 a; bytes = c }) m (g .is .to (waitingWords F) (x .waiting) y);
   }
 
   -- the current log as it is lent
-  log-there : (s : State) → Area b s → F ≡ capacityOf s → Held (places (F .limits .payload)) (logWords F) (F .limits .«log_indexes») (take (d .from + 8 * logs - d .from) (drop (d .from) b)) (logAt k s)
+  log-there : (s : State) → Area b s → F ≡ capacityOf s → Held (places (F .limits .payload)) (logWords F) (F .limits .«log_indexes») (lent (d .from) (d .from + 8 * logs) b) (logAt k s)
   unfolding logAt
   log-there s h e =
       let ln : d .from + 8 * logs - d .from ≡ 8 * logs - 0 = omega arith in
       let o : d .from ≡ d .from + 0 = omega arith in
-      let at : take (d .from + 8 * logs - d .from) (drop (d .from) b) ≡ lent 0 (8 * logs) (take (d .to - d .from) (drop (d .from) b)) =
+      let at : lent (d .from) (d .from + 8 * logs) b ≡ lent 0 (8 * logs) (lent (d .from) (d .to) b) =
       ap₂ (λ (j a : ℕ). take j (drop a b)) ln o ∙ sym (part-part b (d .from) (d .to - d .from) 0 (8 * logs - 0) (omega (arith, p .to, el .is))) in
-      subst (λ (l : List ℕ). Held (places (F .limits .payload)) (logWords F) (F .limits .«log_indexes») l (serverAt s k .storage .current .log)) (sym at) (current-lent (parts s (drop (bytesOf F) b) (whole h e)) logs (el .is))
+      subst (λ (l : List ℕ). Held (places (F .limits .payload)) (logWords F) (F .limits .«log_indexes») l (serverAt s k .storage .current .log)) (sym at) (current-lent (parts s (drop (bytesOf F) b) (area-of h e)) logs (el .is))
 
-  pub entry-read : (index : LogIndex) (r : Place) (z z′ : List ℕ) → ReadsEntry (F .limits .payload) (F .limits .«log_indexes») (index .0) r (take (d .from + 8 * logs - d .from) (drop (d .from) b)) z z′ → ReadsEntryAt b F k index r z z′
+  pub entry-read : (index : LogIndex) (r : Place) (z z′ : List ℕ) → ReadsEntry (F .limits .payload) (F .limits .«log_indexes») (index .0) r (lent (d .from) (d .from + 8 * logs) b) z z′ → ReadsEntryAt b F k index r z z′
   entry-read index r z z′ q = record {
     place = record { to = λ s h e. q .place (logWords F) (logAt k s) (log-there s h e) };
     copied = λ s h e. q .copied (logWords F) (logAt k s) (log-there s h e);
   }
 
-  pub numbers-read : (last : LogIndex) (n : ℕ) → last .0 ≡ lastIndex (rowsIn (place (F .limits .payload)) (F .limits .«log_indexes») (take (d .from + 8 * logs - d .from) (drop (d .from) b)))
-      → n ≡ count (rowsIn (place (F .limits .payload)) (F .limits .«log_indexes») (take (d .from + 8 * logs - d .from) (drop (d .from) b)))
+  pub numbers-read : (last : LogIndex) (n : ℕ) → last .0 ≡ lastIndex (rowsIn (place (F .limits .payload)) (F .limits .«log_indexes») (lent (d .from) (d .from + 8 * logs) b))
+      → n ≡ count (rowsIn (place (F .limits .payload)) (F .limits .«log_indexes») (lent (d .from) (d .from + 8 * logs) b))
       → Reads b F (record { count = n; last = last; gaps = last .0 - n }) (logNumbersAt k)
   unfolding logNumbersAt gaps
   numbers-read last n el en = record {
