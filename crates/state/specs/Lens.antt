@@ -161,6 +161,11 @@ modify-twice f g (suc k) (x ∷ xs) = ap (λ (l : List _). x ∷ l) (modify-twic
 pub server-twice : (s : State) (k : ℕ) (f g : Server → Server) → onServer (onServer s k f) k g ≡ onServer s k (λ v. g (f v))
 server-twice s k f g = ap (withServers s) (modify-twice f g k (s .servers))
 
+-- two changes that make the same of the server at k
+pub server-same : (s : State) (k : ℕ) (f g : Server → Server) → f (serverAt s k) ≡ g (serverAt s k) → onServer s k f ≡ onServer s k g
+server-same s k f g e =
+    ap (withServers s) (modify-set f (newServer 0) k (s .servers) ∙ ap (set (s .servers) k) e ∙ sym (modify-set g (newServer 0) k (s .servers)))
+
 module _ (s : State) (k : ℕ) (f : Server → Server) where
   -- the server after its change
   pub server-after : k < length (s .servers) → serverAt (onServer s k f) k ≡ f (serverAt s k)

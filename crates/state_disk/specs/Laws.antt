@@ -5,7 +5,7 @@ use mathlib.Core.List.{List, [], _∷_, _++_}
 use Prim.Native.Nat.{ℕ, _+_, _-_, _*_, _^_, _≤_, _<_}
 use native.Mathlib.Omega.{arith}
 use lib.Dec.{ltb, eqb}
-use lib.ListN.{length, getD, set, take, drop, take-append-drop, length-append}
+use lib.ListN.{length, getD, set, take, drop, length-append}
 use borrow.Author.Tests.{le-leb, leb-true, eq-eqb}
 use Rattle.laws.specs.Bools.{_and_, pick, cases, every, every-append, every-get, every-both, allb-in, and-left, and-right, and-both, and-true}
 use Rattle.laws.specs.Decides.{false-true}

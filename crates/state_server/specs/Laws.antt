@@ -96,12 +96,12 @@ module _ (b : List ℕ) (F : Capacity) (k at : ℕ) (i : k < F .servers) (p : Bl
 -- ---- the fixed part, written
 
 -- the words of a server's state, but for the count
-pub state-stored : (b ys b₂ b₃ : List ℕ) (x : ServerState) (g f n : ℕ) → length b ≡ 112 → g ≡ boolNumber (x .«crash_on_next_input») → ys ≡ bytes (statusWords (x .status))
+pub state-stored : (b ys b₂ b₃ : List ℕ) (x : ServerState) (g f n : ℕ) → g ≡ boolNumber (x .«crash_on_next_input») → ys ≡ bytes (statusWords (x .status))
     → b₂ ≡ sets (take 0 b ++ (ys ++ drop (48 - 0) (drop 0 b))) (8 * 6) (bytes (x .incarnation ∷ x .election ∷ x .heartbeat ∷ g ∷ x .«next_apply» ∷ []))
     → f ≡ termFlag (x .leading) → n ≡ termNumber (x .leading)
     → b₃ ≡ sets b₂ (8 * 12) (bytes (f ∷ n ∷ []))
     → StoresState b b₃ x
-state-stored b ys b₂ b₃ x g f n l eg ey e₂ ef en e₃ = record {
+state-stored b ys b₂ b₃ x g f n eg ey e₂ ef en e₃ = record {
   to = λ y q.
       let old : List ℕ = y .incarnation ∷ y .election ∷ y .heartbeat ∷ boolNumber (y .«crash_on_next_input») ∷ y .«next_apply» ∷ y .pending ∷ termFlag (y .leading) ∷ termNumber (y .leading) ∷ [] in
       let rest : drop 48 b ≡ bytes old = ap (drop 48) (q ∙ bytes-append (statusWords (y .status)) old) ∙ drop-at (bytes (statusWords (y .status))) (bytes old) 48 (length-bytes (statusWords (y .status))) in
@@ -299,7 +299,4 @@ choosing-done b F best k c l = record {
       ap (λ (vs : List Server). leaderFrom best (reportedFrom k vs)) (sym (drop-of-length-le (s .servers) {i = k} j)) ∙ c .left s h e;
 }
 
-pub choosing-below : (b : List ℕ) (F : Capacity) (k : ℕ) → Inside b F → k < F .servers → k < 8
-choosing-below b F k i l = omega (arith, i .within .limits .servers)
-
-pub ruleset choosing = (choosing-start, choosing-turn, choosing-done, choosing-below)
+pub ruleset choosing = (choosing-start, choosing-turn, choosing-done)
