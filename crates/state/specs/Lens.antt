@@ -26,6 +26,7 @@ use Rattle.log.specs.Places.{places}
 use Rattle.storage.specs.Storage.{Storage}
 use Rattle.storage.specs.Waiting.{waiting, waitingIn, putWithin}
 use Rattle.storage.specs.Stores.{diskBytes, Stores}
+use Rattle.storage.specs.PartLaws.{lent, back}
 use Rattle.model.specs.State.{State, Server, newServer, serverAt}
 use Rattle.model.specs.Fields.{withServers}
 use Rattle.model.specs.Simulation.{onServer}
@@ -35,7 +36,7 @@ use Rattle.state.specs.Sizes.{logWords, waitingWords, pendingWords, bloc
 use Rattle.state.specs.SizeLaws.{room}
 use Rattle.state.specs.Parts.{storageStateCode, storageStateWords, serverStateCode, serverStateWords}
 use Rattle.state.specs.Server.{serverCode, serverGood, storageOfServer, stateOfServer}
-use Rattle.state.specs.Area.{capacityOf, servers, serversCode}
+use Rattle.state.specs.Area.{Area, capacityOf, servers, serversCode}
 use Rattle.state.specs.Encode.{contents}
 use Rattle.state.specs.ServerFits.{server-good}
 use Rattle.state.specs.Fitting.{laid-limits, area-fits}
@@ -160,6 +161,11 @@ modify-twice f g (suc k) (x ∷ xs) = ap (λ (l : List _). x ∷ l) (modify-twic
 pub server-twice : (s : State) (k : ℕ) (f g : Server → Server) → onServer (onServer s k f) k g ≡ onServer s k (λ v. g (f v))
 server-twice s k f g = ap (withServers s) (modify-twice f g k (s .servers))
 
+-- two changes that make the same of the server at k
+pub server-same : (s : State) (k : ℕ) (f g : Server → Server) → f (serverAt s k) ≡ g (serverAt s k) → onServer s k f ≡ onServer s k g
+server-same s k f g e =
+    ap (withServers s) (modify-set f (newServer 0) k (s .servers) ∙ ap (set (s .servers) k) e ∙ sym (modify-set g (newServer 0) k (s .servers)))
+
 module _ (s : State) (k : ℕ) (f : Server → Server) where
   -- the server after its change
   pub server-after : k < length (s .servers) → serverAt (onServer s k f) k ≡ f (serverAt s k)
@@ -206,8 +212,8 @@ module _ {b r : List ℕ} {s : State} (h : AreaOf b r (capacityOf s) s) (k : ℕ
       let o : 8 * (512 + k * Z) ≡ 4096 + 8 * (k * Z) = omega arith in
       ap (λ (j : ℕ). take (8 * Z) (drop j b)) o ∙ sym (part-part b 4096 (8 * (s .config .servers * Z)) (8 * (k * Z)) (8 * Z) (omega (arith, inside)))
 
-  lent : Holds (serverCode F) (take (8 * Z) (drop (8 * (512 + k * Z)) b)) (serverAt s k)
-  lent = let q = row-held held k (newServer 0) i in record { good = q .good; is = here ∙ q .is }
+  block-lent : Holds (serverCode F) (take (8 * Z) (drop (8 * (512 + k * Z)) b)) (serverAt s k)
+  block-lent = let q = row-held held k (newServer 0) i in record { good = q .good; is = here ∙ q .is }
 
   module _ (ys : List ℕ) (v : Server) (y : Holds (serverCode F) ys v) where
     abbrev after : List ℕ
@@ -227,8 +233,8 @@ module _ {b r : List ℕ} {s : State} (h : AreaOf b r (capacityOf s) s) (k : ℕ
         let o : 8 * (512 + k * Z) ≡ 4096 + 8 * (k * Z) = omega arith in
         ap (λ (j : ℕ). put j (8 * Z) b ys) o ∙ put-put 4096 (8 * (s .config .servers * Z)) (8 * (k * Z)) (8 * Z) b ys (omega (arith, within)) (omega (arith, inside))
 
-    back : stateFits (withServers s (set (s .servers) k v)) ≡ true → AreaOf (put (8 * (512 + k * Z)) (8 * Z) b ys) r F (withServers s (set (s .servers) k v))
-    back t =
+    block-back : stateFits (withServers s (set (s .servers) k v)) ≡ true → AreaOf (put (8 * (512 + k * Z)) (8 * Z) b ys) r F (withServers s (set (s .servers) k v))
+    block-back t =
         subst (λ (l : List ℕ). AreaOf l r F (withServers s (set (s .servers) k v))) (sym same)
         (one-put h (withServers s (set (s .servers) k v)) 9 after (omega arith) refl (ap (λ (l : List ℕ). set (contents s) 9 l) (rows .holds .is)) t)
 
@@ -237,7 +243,7 @@ module _ {b r : List ℕ} {F : Capacity} {s : State} (h : AreaOf b r F s) (k : �
   pub server-lent : Holds (serverCode F) (take (8 * blockWords F) (drop (8 * (512 + k * blockWords F)) b)) (serverAt s k)
   server-lent =
       subst (λ (G : Capacity). k < G .servers → drop (bytesOf G) b ≡ r → Holds (serverCode G) (take (8 * blockWords G) (drop (8 * (512 + k * blockWords G)) b)) (serverAt s k)) (sym (h .capacity))
-      (λ j e. lent (record { capacity = refl; area = h .area; rest = e }) k j) i (h .rest)
+      (λ j e. block-lent (record { capacity = refl; area = h .area; rest = e }) k j) i (h .rest)
 
   -- the block put back as that of a server v
   pub server-put : (ys : List ℕ) (v : Server) → Holds (serverCode F) ys v → stateFits (withServers s (set (s .servers) k v)) ≡ true
@@ -245,11 +251,15 @@ module _ {b r : List ℕ} {F : Capacity} {s : State} (h : AreaOf b r F s) (k : �
   server-put ys v y t =
       subst
       (λ (G : Capacity). k < G .servers → drop (bytesOf G) b ≡ r → Holds (serverCode G) ys v → AreaOf (put (8 * (512 + k * blockWords G)) (8 * blockWords G) b ys) r G (withServers s (set (s .servers) k v)))
-      (sym (h .capacity)) (λ j e q. back (record { capacity = refl; area = h .area; rest = e }) k j ys v q t) i (h .rest) y
+      (sym (h .capacity)) (λ j e q. block-back (record { capacity = refl; area = h .area; rest = e }) k j ys v q t) i (h .rest) y
 
   -- the server at k has a content
   pub server-at-held : ServerHeld F (serverAt s k)
   server-at-held = server-held F (serverAt s k) (server-lent .good)
+
+-- an area as it stands
+pub area-of : {b : List ℕ} {F : Capacity} {s : State} → Area b s → F ≡ capacityOf s → AreaOf b (drop (bytesOf F) b) F s
+area-of h e = record { capacity = e; area = h; rest = refl }
 
 -- ---- regions of the block, one after another
 
@@ -279,7 +289,8 @@ up-to [] j h = absurd (omega arith)
 up-to (n ∷ ns) zero h = omega arith
 up-to (n ∷ ns) (suc j) h = omega (arith, up-to ns j (omega arith))
 
-put-same : (a n : ℕ) (b : List ℕ) → put a n b (take n (drop a b)) ≡ b
+-- what was lent put back as it was
+pub put-same : (a n : ℕ) (b : List ℕ) → put a n b (take n (drop a b)) ≡ b
 put-same a n b = ap (λ (l : List ℕ). take a b ++ l) (take-append-drop n (drop a b)) ∙ take-append-drop a b
 
 -- an area, with the block of the server at k cut
@@ -323,13 +334,13 @@ module _ {b r : List ℕ} {F : Capacity} {s : State} {k : ℕ} {xs : List (List 
     wide = omega arith
 
     -- region i as it is lent
-    pub part-lent : take (e - a) (drop a b) ≡ getD xs i []
+    pub part-lent : lent a e b ≡ getD xs i []
     part-lent =
         ap₂ (λ (u w : ℕ). take u (drop w b)) wide ea ∙ sym (part-part b A N o m ends) ∙ ap (λ (l : List ℕ). take m (drop o (take N (drop A l)))) (c .side)
         ∙ ap (λ (l : List ℕ). take m (drop o l)) (put-there A N (c .before) (c .block) fits (c .long)) ∙ region (blockParts F) (c .block) i j ∙ ap (λ (l : List (List ℕ)). getD l i []) (c .cuts)
 
     -- region i put back
-    pub part-put : (ys : List ℕ) → length ys ≡ getD (blockParts F) i 0 → ServerCut (take a b ++ (ys ++ drop (e - a) (drop a b))) r F s k (set xs i ys)
+    pub part-put : (ys : List ℕ) → length ys ≡ getD (blockParts F) i 0 → ServerCut (back a e b ys) r F s k (set xs i ys)
     part-put ys l = record {
       before = c .before;
       area = c .area;

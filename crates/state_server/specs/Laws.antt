@@ -24,6 +24,7 @@ use Rattle.layout.specs.Contents.{holds-parse, holds-W}
 use Rattle.layout.specs.Keys.{keyRow, keys, insertingNumber, keysAfter, Inserts, Removes}
 use Rattle.layout.specs.declared.keys.Inserting.{Inserting}
 use Rattle.layout.specs.declared.keys.Inserting.the-variants.{Inserted, Full}
+use Rattle.storage.specs.PartLaws.{lent, back}
 use Rattle.leader.specs.Leader.{better, leader, leaderFrom}
 use Rattle.leader.specs.declared.LeaderOption.{LeaderOption}
 use Rattle.leader.specs.declared.LeaderOption.the-variants as led
@@ -45,7 +46,7 @@ use Rattle.state.specs.Area.{Area, capacityOf}
 use Rattle.state.specs.Fitting.{area-fits}
 use Rattle.state.specs.FitsBy.{server-count}
 use Rattle.state.specs.Changes.{Inside, AreaOf, Changes, Reads}
-use Rattle.state.specs.Lens.{ServerCut, serverContents, server-cut, server-at-held, part-lent, part-put, cut-server, server-in-range, pendingContent}
+use Rattle.state.specs.Lens.{area-of, ServerCut, serverContents, server-cut, server-at-held, part-lent, part-put, cut-server, server-in-range, pendingContent}
 use Rattle.state_server.specs.Servers.{BlockIn, serverStateAt, statusAt, withCount, withState, serverStateSet, StoresState, PendingIn, pendingAt, PendingCount, Counts, pendingHas, pendingRoom, registered, forgotten, pendingCleared, afterServer}
 
 -- ---- places
@@ -59,52 +60,48 @@ module _ (b : List ℕ) (F : Capacity) (k at : ℕ) (i : Inside b F) (h : BlockA
 
 -- ---- the fixed part, read
 
--- an area as it stands
-whole : {b : List ℕ} {F : Capacity} {s : State} → Area b s → F ≡ capacityOf s → AreaOf b (drop (bytesOf F) b) F s
-whole h e = record { capacity = e; area = h; rest = refl }
-
 module _ (b : List ℕ) (F : Capacity) (k at : ℕ) (i : k < F .servers) (p : BlockIn b F k at) where
   -- the region of a server's state holds it
-  state-there : (s : State) → Area b s → F ≡ capacityOf s → Holds (serverStateCode (F .limits .«log_indexes»)) (take (8 * at + 176 - (8 * at + 64)) (drop (8 * at + 64) b)) (stateOfServer (serverAt s k))
+  state-there : (s : State) → Area b s → F ≡ capacityOf s → Holds (serverStateCode (F .limits .«log_indexes»)) (lent (8 * at + 64) (8 * at + 176) b) (stateOfServer (serverAt s k))
   state-there s h e =
-      let c = server-cut (whole h e) k i in
-      let q = server-at-held (whole h e) k i .state in
+      let c = server-cut (area-of h e) k i in
+      let q = server-at-held (area-of h e) k i .state in
       record { good = q .good; is = part-lent c 1 (omega arith) (8 * at + 64) (8 * at + 176) (omega (arith, p .is)) (omega arith) }
 
-  pub state-read : (r : ServerState) → r ≡ serverStateIn (W (take (8 * at + 176 - (8 * at + 64)) (drop (8 * at + 64) b))) → Reads b F r (serverStateAt k)
+  pub state-read : (r : ServerState) → r ≡ serverStateIn (W (lent (8 * at + 64) (8 * at + 176) b)) → Reads b F r (serverStateAt k)
   unfolding serverStateAt
   state-read r q = record { to = λ s h e. q ∙ holds-parse (state-there s h e) }
 
-  pub status-read : (r : StatusOption) → r ≡ serverStateIn (W (take (8 * at + 176 - (8 * at + 64)) (drop (8 * at + 64) b))) .status → Reads b F r (statusAt k)
+  pub status-read : (r : StatusOption) → r ≡ serverStateIn (W (lent (8 * at + 64) (8 * at + 176) b)) .status → Reads b F r (statusAt k)
   unfolding statusAt
   status-read r q = record { to = λ s h e. q ∙ ap (λ (x : ServerState). x .status) (holds-parse (state-there s h e)) }
 
-  count-word : (n : ℕ) → n ≡ getD (W (take (8 * at + 176 - (8 * at + 64)) (drop (8 * at + 64) b))) 11 0 → Reads b F n (pendingAt k)
+  count-word : (n : ℕ) → n ≡ getD (W (lent (8 * at + 64) (8 * at + 176) b)) 11 0 → Reads b F n (pendingAt k)
   unfolding pendingAt
   count-word n q = record { to = λ s h e. q ∙ ap (λ (ws : List ℕ). getD ws 11 0) (holds-W (state-there s h e)) }
 
-  pub count-read : (n : ℕ) → n ≡ getD (W (take (8 * at + 176 - (8 * at + 64)) (drop (8 * at + 64) b))) 11 0 → n ≤ F .limits .history → PendingCount b F k n
+  pub count-read : (n : ℕ) → n ≡ getD (W (lent (8 * at + 64) (8 * at + 176) b)) 11 0 → n ≤ F .limits .history → PendingCount b F k n
   count-read n q l = record { count = count-word n q; most = l }
 
   -- a count past H is no area's
-  pub count-past : (n : ℕ) → n ≡ getD (W (take (8 * at + 176 - (8 * at + 64)) (drop (8 * at + 64) b))) 11 0 → F .limits .history < n → PendingCount b F k 0
+  pub count-past : (n : ℕ) → n ≡ getD (W (lent (8 * at + 64) (8 * at + 176) b)) 11 0 → F .limits .history < n → PendingCount b F k 0
   unfolding pendingAt
   count-past n q l = record { count = record { to = λ s h e. absurd (past s h e) }; most = omega arith }
     where
       past : (s : State) → Area b s → F ≡ capacityOf s → ⊥
       past s h e =
-          let f = held-rows (server-at-held (whole h e) k i .pending) in
+          let f = held-rows (server-at-held (area-of h e) k i .pending) in
           omega (arith, count-word n q .to s h e, f .room)
 
 -- ---- the fixed part, written
 
 -- the words of a server's state, but for the count
-pub state-stored : (b ys b₂ b₃ : List ℕ) (x : ServerState) (g f n : ℕ) → length b ≡ 112 → g ≡ boolNumber (x .«crash_on_next_input») → ys ≡ bytes (statusWords (x .status))
+pub state-stored : (b ys b₂ b₃ : List ℕ) (x : ServerState) (g f n : ℕ) → g ≡ boolNumber (x .«crash_on_next_input») → ys ≡ bytes (statusWords (x .status))
     → b₂ ≡ sets (take 0 b ++ (ys ++ drop (48 - 0) (drop 0 b))) (8 * 6) (bytes (x .incarnation ∷ x .election ∷ x .heartbeat ∷ g ∷ x .«next_apply» ∷ []))
     → f ≡ termFlag (x .leading) → n ≡ termNumber (x .leading)
     → b₃ ≡ sets b₂ (8 * 12) (bytes (f ∷ n ∷ []))
     → StoresState b b₃ x
-state-stored b ys b₂ b₃ x g f n l eg ey e₂ ef en e₃ = record {
+state-stored b ys b₂ b₃ x g f n eg ey e₂ ef en e₃ = record {
   to = λ y q.
       let old : List ℕ = y .incarnation ∷ y .election ∷ y .heartbeat ∷ boolNumber (y .«crash_on_next_input») ∷ y .«next_apply» ∷ y .pending ∷ termFlag (y .leading) ∷ termNumber (y .leading) ∷ [] in
       let rest : drop 48 b ≡ bytes old = ap (drop 48) (q ∙ bytes-append (statusWords (y .status)) old) ∙ drop-at (bytes (statusWords (y .status))) (bytes old) 48 (length-bytes (statusWords (y .status))) in
@@ -123,8 +120,8 @@ state-with x v =
     (status-here (x .status)) (term-here (x .leading))
 
 module _ (b ys : List ℕ) (F : Capacity) (k at : ℕ) (i : k < F .servers) (p : BlockIn b F k at) where
-  pub state-put : (x : ServerState) → StoresState (take (8 * at + 176 - (8 * at + 64)) (drop (8 * at + 64) b)) ys x
-      → Changes b (take (8 * at + 64) b ++ (ys ++ drop (8 * at + 176 - (8 * at + 64)) (drop (8 * at + 64) b))) F (serverStateSet k x)
+  pub state-put : (x : ServerState) → StoresState (lent (8 * at + 64) (8 * at + 176) b) ys x
+      → Changes b (back (8 * at + 64) (8 * at + 176) b ys) F (serverStateSet k x)
   unfolding serverStateSet
   state-put x q = record {
     to = λ s r h t.
@@ -137,13 +134,13 @@ module _ (b ys : List ℕ) (F : Capacity) (k at : ℕ) (i : k < F .servers) (p :
         (withState x) (ap (λ (y : List ℕ). set (serverContents F v) 1 y) d) t;
   }
 
-  pub count-stored : (n : ℕ) → ys ≡ sets (take (8 * at + 176 - (8 * at + 64)) (drop (8 * at + 64) b)) (8 * 11) (bytesOfNumber 8 n)
-      → Counts b (take (8 * at + 64) b ++ (ys ++ drop (8 * at + 176 - (8 * at + 64)) (drop (8 * at + 64) b))) F k n
+  pub count-stored : (n : ℕ) → ys ≡ sets (lent (8 * at + 64) (8 * at + 176) b) (8 * 11) (bytesOfNumber 8 n)
+      → Counts b (back (8 * at + 64) (8 * at + 176) b ys) F k n
   count-stored n q = record {
     to = λ r s xs x c e.
         let d : ys ≡ bytes (serverStateWords (withCount x n)) =
         q ∙ ap₂ (λ (u w : List ℕ). sets u (8 * 11) w) (part-lent c 1 (omega arith) (8 * at + 64) (8 * at + 176) (omega (arith, p .is)) (omega arith) ∙ e) (sym (bytes-one n)) ∙ sets-whole (serverStateWords x) (n ∷ []) 11 (omega arith) in
-        subst (λ (z : List ℕ). ServerCut (take (8 * at + 64) b ++ (ys ++ drop (8 * at + 176 - (8 * at + 64)) (drop (8 * at + 64) b))) r F s k (set xs 1 z)) d
+        subst (λ (z : List ℕ). ServerCut (back (8 * at + 64) (8 * at + 176) b ys) r F s k (set xs 1 z)) d
         (part-put c 1 (omega arith) (8 * at + 64) (8 * at + 176) (omega (arith, p .is)) (omega arith) ys (ap length d ∙ length-bytes (serverStateWords (withCount x n))));
   }
 
@@ -151,21 +148,21 @@ module _ (b ys : List ℕ) (F : Capacity) (k at : ℕ) (i : k < F .servers) (p :
 
 module _ (b : List ℕ) (F : Capacity) (k n a : ℕ) (i : k < F .servers) (c : PendingCount b F k n) (p : PendingIn b F k a) where
   -- n rows are there
-  abbrev lent : List ℕ
-  lent = take (a + 16 * F .limits .history - a) (drop a b)
+  abbrev rows : List ℕ
+  rows = lent a (a + 16 * F .limits .history) b
 
-  lent-is : (s : State) (r : List ℕ) → AreaOf b r F s → lent ≡ pendingContent F (serverAt s k .pending)
-  lent-is s r h = part-lent (server-cut h k i) 4 (omega arith) a (a + 16 * F .limits .history) (p .is) (omega arith)
+  rows-is : (s : State) (r : List ℕ) → AreaOf b r F s → rows ≡ pendingContent F (serverAt s k .pending)
+  rows-is s r h = part-lent (server-cut h k i) 4 (omega arith) a (a + 16 * F .limits .history) (p .is) (omega arith)
 
-  keys-there : (s : State) (r : List ℕ) → AreaOf b r F s → Held (keys (F .clients)) (pendingWords F) n lent (serverAt s k .pending)
+  keys-there : (s : State) (r : List ℕ) → AreaOf b r F s → Held (keys (F .clients)) (pendingWords F) n rows (serverAt s k .pending)
   unfolding pendingAt
   keys-there s r h =
-      subst (λ (m : ℕ). Held (keys (F .clients)) (pendingWords F) m lent (serverAt s k .pending)) (sym (c .count .to s (h .area) (h .capacity)))
-      (subst (λ (l : List ℕ). Held (keys (F .clients)) (pendingWords F) (length (serverAt s k .pending)) l (serverAt s k .pending)) (sym (lent-is s r h)) (server-at-held h k i .pending))
+      subst (λ (m : ℕ). Held (keys (F .clients)) (pendingWords F) m rows (serverAt s k .pending)) (sym (c .count .to s (h .area) (h .capacity)))
+      (subst (λ (l : List ℕ). Held (keys (F .clients)) (pendingWords F) (length (serverAt s k .pending)) l (serverAt s k .pending)) (sym (rows-is s r h)) (server-at-held h k i .pending))
 
-  pub has-read : (key : ClientKey) (r : Bool) → r ≡ isSome (lookup pairs keyOf (keyOf key) (rowsIn keyRow n lent)) → Reads b F r (pendingHas k key)
+  pub has-read : (key : ClientKey) (r : Bool) → r ≡ isSome (lookup pairs keyOf (keyOf key) (rowsIn keyRow n rows)) → Reads b F r (pendingHas k key)
   unfolding pendingHas rowsIn
-  has-read key r q = record { to = λ s h e. q ∙ ap (λ (x : List ClientKey). isSome (lookup pairs keyOf (keyOf key) x)) (rows-are (keys-there s (drop (bytesOf F) b) (whole h e))) }
+  has-read key r q = record { to = λ s h e. q ∙ ap (λ (x : List ClientKey). isSome (lookup pairs keyOf (keyOf key) x)) (rows-are (keys-there s (drop (bytesOf F) b) (area-of h e))) }
 
 pub room-read : (b : List ℕ) (F : Capacity) (k n : ℕ) (key : ClientKey) (known : Bool) → PendingCount b F k n → Reads b F known (pendingHas k key) → Reads b F (known || ltb n (F .limits .history)) (pendingRoom k key)
 unfolding pendingHas pendingRoom pendingAt
@@ -200,7 +197,7 @@ insert-tested p key (c ∷ x) h = by (pairs .before (keyOf c) (keyOf key)) refl 
 module _ (b ys : List ℕ) (F : Capacity) (k n a : ℕ) (i : k < F .servers) (c : PendingCount b F k n) (p : PendingIn b F k a) where
   -- other keys, and then their count
   changed : (b₂ : List ℕ) (m : ℕ) (op : List ClientKey → List ClientKey) (s : State) (r : List ℕ) → AreaOf b r F s
-      → Held (keys (F .clients)) (pendingWords F) m ys (op (serverAt s k .pending)) → Counts (take a b ++ (ys ++ drop (a + 16 * F .limits .history - a) (drop a b))) b₂ F k m
+      → Held (keys (F .clients)) (pendingWords F) m ys (op (serverAt s k .pending)) → Counts (back a (a + 16 * F .limits .history) b ys) b₂ F k m
       → stateFits (onServer s k (λ v. withPending v (op (v .pending)))) ≡ true → AreaOf b₂ r F (onServer s k (λ v. withPending v (op (v .pending))))
   changed b₂ m op s r h y w t =
       let v : Server = serverAt s k in
@@ -215,8 +212,8 @@ module _ (b ys : List ℕ) (F : Capacity) (k n a : ℕ) (i : k < F .servers) (c 
       let j : k < length (s .servers) = omega (arith, server-count s (area-fits (h .area)), ap (λ (G : Capacity). G .servers) (h .capacity)) in
       allb-in (serverTests (s .config) (s .limits) (withPending (serverAt s k) (insertBy pairs keyOf key (serverAt s k .pending)))) (server-in-range s k (λ v. withPending v (insertBy pairs keyOf key (v .pending))) j t) 7
 
-  module _ (key : ClientKey) (q : Inserting) (e : Inserts key n (F .limits .history) q (lent b F k n a i c p) ys) where
-    pub registered-done : (b₂ : List ℕ) (m : ℕ) → q ≡ Inserted m → Counts (take a b ++ (ys ++ drop (a + 16 * F .limits .history - a) (drop a b))) b₂ F k m → Changes b b₂ F (registered k key)
+  module _ (key : ClientKey) (q : Inserting) (e : Inserts key n (F .limits .history) q (rows b F k n a i c p) ys) where
+    pub registered-done : (b₂ : List ℕ) (m : ℕ) → q ≡ Inserted m → Counts (back a (a + 16 * F .limits .history) b ys) b₂ F k m → Changes b b₂ F (registered k key)
     unfolding registered
     registered-done b₂ m o w = record {
       to = λ s r h t.
@@ -228,7 +225,7 @@ module _ (b ys : List ℕ) (F : Capacity) (k n a : ℕ) (i : k < F .servers) (c 
           (subst (λ (m′ : ℕ). Held (keys (F .clients)) (pendingWords F) m′ ys (insertBy pairs keyOf key (serverAt s k .pending))) (ap (keysAfter n) o) y) w t;
     }
 
-    pub registered-full : q ≡ Full → Changes b (take a b ++ (ys ++ drop (a + 16 * F .limits .history - a) (drop a b))) F (registered k key)
+    pub registered-full : q ≡ Full → Changes b (back a (a + 16 * F .limits .history) b ys) F (registered k key)
     registered-full o = record {
       to = λ s r h t.
           let x : List ClientKey = serverAt s k .pending in
@@ -239,20 +236,20 @@ module _ (b ys : List ℕ) (F : Capacity) (k n a : ℕ) (i : k < F .servers) (c 
           absurd (omega arith);
     }
 
-  pub forgotten-done : (key : ClientKey) (m : ℕ) (b₂ : List ℕ) → Removes key n m (lent b F k n a i c p) ys → Counts (take a b ++ (ys ++ drop (a + 16 * F .limits .history - a) (drop a b))) b₂ F k m
+  pub forgotten-done : (key : ClientKey) (m : ℕ) (b₂ : List ℕ) → Removes key n m (rows b F k n a i c p) ys → Counts (back a (a + 16 * F .limits .history) b ys) b₂ F k m
       → Changes b b₂ F (forgotten k key)
   unfolding forgotten
   forgotten-done key m b₂ e w = record {
     to = λ s r h t. changed b₂ m (removeBy pairs keyOf (keyOf key)) s r h (e .to (F .clients) .to (pendingWords F) (serverAt s k .pending) (keys-there b F k n a i c p s r h)) w t;
   }
 
-  pub cleared-done : (b₂ : List ℕ) → ys ≡ sets (lent b F k n a i c p) 0 (replicate (16 * n - 0) 0) → Counts (take a b ++ (ys ++ drop (a + 16 * F .limits .history - a) (drop a b))) b₂ F k 0
+  pub cleared-done : (b₂ : List ℕ) → ys ≡ sets (rows b F k n a i c p) 0 (replicate (16 * n - 0) 0) → Counts (back a (a + 16 * F .limits .history) b ys) b₂ F k 0
       → Changes b b₂ F (pendingCleared k)
   unfolding pendingCleared chain
   cleared-done b₂ e w = record {
     to = λ s r h t.
         let o : 16 * n - 0 ≡ 8 * (n * 2) = omega arith in
-        changed b₂ 0 (λ x. []) s r h (clear-held (keys-there b F k n a i c p s r h) ys refl (e ∙ ap (λ (m : ℕ). sets (lent b F k n a i c p) 0 (replicate m 0)) o)) w t;
+        changed b₂ 0 (λ x. []) s r h (clear-held (keys-there b F k n a i c p s r h) ys refl (e ∙ ap (λ (m : ℕ). sets (rows b F k n a i c p) 0 (replicate m 0)) o)) w t;
   }
 
 -- ---- the leader
@@ -302,7 +299,4 @@ choosing-done b F best k c l = record {
       ap (λ (vs : List Server). leaderFrom best (reportedFrom k vs)) (sym (drop-of-length-le (s .servers) {i = k} j)) ∙ c .left s h e;
 }
 
-pub choosing-below : (b : List ℕ) (F : Capacity) (k : ℕ) → Inside b F → k < F .servers → k < 8
-choosing-below b F k i l = omega (arith, i .within .limits .servers)
-
-pub ruleset choosing = (choosing-start, choosing-turn, choosing-done, choosing-below)
+pub ruleset choosing = (choosing-start, choosing-turn, choosing-done)

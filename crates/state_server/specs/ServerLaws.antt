@@ -6,13 +6,12 @@ use mathlib.Core.Option.{Option}
 use Prim.Native.Nat.{ℕ, _<_}
 use native.Mathlib.Omega.{arith}
 use lib.Dec.{leb}
-use lib.ListN.{length, getD, set}
+use lib.ListN.{length, getD}
 use borrow.Author.Tests.{le-leb, leb-true}
 use Rattle.laws.specs.Bools.{_and_, every, cases, allb-in, and-left, and-right, and-both, and-true, true-and, every-get}
 use Rattle.laws.specs.Decides.{false-true}
 use Rattle.laws.specs.Order.{pairs, insertBy, removeBy, chain}
 use Rattle.laws.specs.OrderLaws.{every-insert, every-remove, remove-most}
-use Rattle.metrics.specs.Laws.{modify-set}
 use Rattle.units.specs.declared.Term.{Term}
 use Rattle.client.specs.Key.{keyOf}
 use Rattle.client.specs.declared.ClientKey.{ClientKey}
@@ -21,12 +20,12 @@ use Rattle.layout.specs.Keys.{keys}
 use Rattle.layout.specs.Sorted.{rising-insert, rising-remove}
 use Rattle.storage.specs.Storage.{Storage}
 use Rattle.model.specs.State.{State, Server, newServer, serverAt}
-use Rattle.model.specs.Fields.{withServers, withPending}
+use Rattle.model.specs.Fields.{withPending}
 use Rattle.model.specs.Simulation.{onServer}
 use Rattle.model.specs.Fits.{stateFits, serverFits, serverTests, tableFits}
 use Rattle.state.specs.Server.{stateOfServer, statusOption, optionStatus, termOption′, optionTerm, status-there, term-there}
 use Rattle.state.specs.FitsBy.{fits-server-one}
-use Rattle.state.specs.Lens.{fits-on-server}
+use Rattle.state.specs.Lens.{server-same, fits-on-server}
 use Rattle.state_server.specs.Servers.{withState, serverStateSet, stateInRange, pendingRoom, keyInRange, registered, forgotten, pendingCleared}
 use Rattle.state_server.specs.Laws.{insert-tested}
 
@@ -55,10 +54,7 @@ state-of-other u v d k =
 pub server-state-set : (s : State) (k : ℕ) (g : Server → Server) → g (serverAt s k) .storage ≡ serverAt s k .storage → g (serverAt s k) .pending ≡ serverAt s k .pending
     → serverStateSet k (stateOfServer (g (serverAt s k))) s ≡ onServer s k g
 unfolding serverStateSet
-server-state-set s k g d e =
-    let v : Server = serverAt s k in
-    ap (withServers s)
-    (modify-set (withState (stateOfServer (g v))) (newServer 0) k (s .servers) ∙ ap (set (s .servers) k) (state-of-other (g v) v d e) ∙ sym (modify-set g (newServer 0) k (s .servers)))
+server-state-set s k g d e = server-same s k (withState (stateOfServer (g (serverAt s k)))) g (state-of-other (g (serverAt s k)) (serverAt s k) d e)
 
 -- ---- question 10
 

@@ -22,7 +22,7 @@ use units::NodeId;
 // ---- the fixed part
 
 // The word at which the block of a server begins.
-pub fn block_in(area: &[u8], f: Capacity, k: usize) -> usize
+fn block_in(area: &[u8], f: Capacity, k: usize) -> usize
     requires { ⌜ Inside (now area) f ⌝ }
     requires { ⌜ k < f .servers ⌝ }
     ensures { λ r. ⌜ BlockIn (now (area .entry)) f k r ⌝ }

@@ -1,0 +1,20 @@
+-- Made by tools/uniform from proofs.txt, not by hand: db702371c4cee5c2
+use Rattle.state_disk.specs.Laws.{entry-read}
+use borrow.Author.Needs.{needs}
+use Rattle.state_disk.proofs.read_entry.Statement.{statement}
+use Rattle.state_disk.proofs.read_entry.Tie as tie
+
+pub read-entry-spec : {M : Type 1} → statement M
+read-entry-spec =
+    tie.close
+    (tie.spec
+    (λ c κs. search (entry-read, needs))  -- disk-in-requires
+    (λ c κs. search (entry-read, needs))  -- log-words-requires
+    (λ c. search (entry-read, needs))  -- mul-to
+    (λ c. search (entry-read, needs))  -- add-to
+    (λ c. search (entry-read, needs))  -- sub-read-entry
+    (λ c. search (entry-read, needs))  -- part-read-entry-start
+    (λ c. search (entry-read, needs))  -- part-read-entry-end
+    (λ c κs. search (entry-read, needs))  -- read-entry-requires
+    (λ c. search (entry-read, needs))  -- same-length
+    (λ c. search (entry-read, needs)))  -- returns

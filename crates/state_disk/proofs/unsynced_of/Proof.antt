@@ -1,0 +1,20 @@
+-- Made by tools/uniform from proofs.txt, not by hand: 6987e957503fbe35
+use Rattle.state_disk.specs.Laws.{waiting-room, unsynced-read}
+use borrow.Author.Needs.{needs}
+use Rattle.state_disk.proofs.unsynced_of.Statement.{statement}
+use Rattle.state_disk.proofs.unsynced_of.Tie as tie
+
+pub unsynced-of-spec : {M : Type 1} → statement M
+unsynced-of-spec =
+    tie.close
+    (tie.spec
+    (λ c κs. search (waiting-room, unsynced-read, needs))  -- disk-in-requires
+    (λ c κs. search (waiting-room, unsynced-read, needs))  -- storage-in-requires
+    (λ c κs. search (waiting-room, unsynced-read, needs))  -- log-words-requires
+    (λ c. search (waiting-room, unsynced-read, needs))  -- mul-from
+    (λ c. search (waiting-room, unsynced-read, needs))  -- add-from
+    (λ c. search (waiting-room, unsynced-read, needs))  -- sub-unsynced-bytes
+    (λ c. search (waiting-room, unsynced-read, needs))  -- part-unsynced-bytes-start
+    (λ c. search (waiting-room, unsynced-read, needs))  -- part-unsynced-bytes-end
+    (λ c κs. search (waiting-room, unsynced-read, needs))  -- unsynced-bytes-requires
+    (λ c. search (waiting-room, unsynced-read, needs)))  -- returns

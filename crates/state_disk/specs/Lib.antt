@@ -1,0 +1,3 @@
+pub mod Disks
+pub mod Laws
+pub mod DiskLaws
