@@ -1,3 +1,5 @@
 pub mod Records
 pub mod Fits
-pub mod Laws
+pub mod Lent
+pub mod ClientRows
+pub mod ReplyRows

@@ -7,6 +7,8 @@ ghost use Rattle.clients.specs.Confirmations.{confirmationOf};
 ghost use Rattle.state.specs.Changes.{Inside, Changes, Reads};
 ghost use Rattle.state_records.specs.Records.{clientRead, clientSet, replyCount, replyOf, replyAt, replied};
 use checks::violations::Violation;
+use checks_durability::replies;
+use checks_durability::replies::Appending;
 use checks_durability::replies::Reply;
 use clients::Client;
 use clients::confirmations::Confirmation;
@@ -70,4 +72,51 @@ pub fn set_client(area: &mut [u8], f: Capacity, c: usize, client: Client)
     let a = 8 * at;
     let e = 8 * (at + n * 8);
     clients::write(&mut area[a..e], n, c, client);
+}
+
+// ---- replies
+
+// How many replies are kept.
+pub fn reply_count(area: &[u8], f: Capacity) -> u64
+    requires { ⌜ Inside (now area) f ⌝ }
+    ensures { λ r. ⌜ Reads (now (area .entry)) f r replyCount ⌝ }
+{
+    words::load(&area[664..728], 3)
+}
+
+// The reply at a place, or none.
+pub fn reply_of(area: &[u8], f: Capacity, i: usize) -> ReplyOption
+    requires { ⌜ Inside (now area) f ⌝ }
+    ensures { λ r. ⌜ Reads (now (area .entry)) f (replyOf r) (replyAt i) ⌝ }
+{
+    let limits = f.limits;
+    let n = reply_count(area, f) as usize;
+    let most = limits.history as usize;
+    if most < n {
+        return ReplyOption::None;
+    }
+    if n <= i {
+        return ReplyOption::None;
+    }
+    let at = sizes::replies_at(f);
+    let a = 8 * at;
+    let e = 8 * (at + most * 5);
+    ReplyOption::Some(replies::read(&area[a..e], n, i))
+}
+
+// One reply more, where there is room for it.
+pub fn append_reply(area: &mut [u8], f: Capacity, reply: Reply)
+    requires { ⌜ Inside (now area) f ⌝ }
+    ensures { λ _. ⌜ Changes (now (area .entry)) (now (area .exit)) f (replied reply) ⌝ }
+{
+    let limits = f.limits;
+    let n = reply_count(area, f) as usize;
+    let most = limits.history as usize;
+    let at = sizes::replies_at(f);
+    let a = 8 * at;
+    let e = 8 * (at + most * 5);
+    match replies::append(&mut area[a..e], n, most, reply) {
+        Appending::Appended(m) => words::store(area, 86, m as u64),
+        Appending::Full => {}
+    }
 }

@@ -1,52 +1,34 @@
--- What the proofs of lib.rt cite. Assumes nothing.
-use mathlib.Core.Path.{_≡_, refl, sym, ap, ap₂, subst, _∙_}
-use mathlib.Core.Bool.{Bool, true, false}
-use mathlib.Core.List.{List, [], _∷_, _++_}
-use mathlib.Core.Option.{Option, none, some}
-use Prim.Native.Nat.{ℕ, zero, suc, _+_, _-_, _*_, _≤_, _<_}
+-- What the proofs of client_of and set_client cite. Assumes nothing.
+use mathlib.Core.Path.{_≡_, refl, sym, ap, subst, _∙_}
+use mathlib.Core.Bool.{true}
+use mathlib.Core.List.{List}
+use mathlib.Core.Option.{some}
+use Prim.Native.Nat.{ℕ, _+_, _*_, _≤_, _<_}
 use native.Mathlib.Omega.{arith}
-use lib.Dec.{leb}
-use lib.ListN.{length, getD, set, drop, take}
-use lib.Seq.{sets}
-use borrow.Author.Tests.{leb-true, eqb-true, ltb-true}
-use Rattle.laws.specs.Bools.{_and_, and-left, and-right, every-get}
-use Rattle.laws.specs.Lists.{at}
-use Rattle.laws.specs.ListLaws.{at-there, at-none}
-use Rattle.words.specs.Words.{W, bytes, bytesOf as bytesOfNumber}
-use Rattle.layout.specs.Code.{Code}
-use Rattle.layout.specs.Tables.{Holds, Held, append}
-use Rattle.layout.specs.Contents.{holds-W}
+use lib.ListN.{length, set}
+use borrow.Author.Tests.{eqb-true, ltb-true}
+use Rattle.laws.specs.Bools.{_and_, and-left}
+use Rattle.laws.specs.ListLaws.{at-there}
+use Rattle.words.specs.Words.{bytes}
+use Rattle.layout.specs.Tables.{Held}
 use Rattle.layout.specs.Parts.{lentRow, backRow, length-lentRow}
-use Rattle.layout.specs.Cuts.{cut, region}
 use Rattle.clients.specs.declared.Client.{Client as ClientRow}
 use Rattle.clients.specs.Clients.{clients, clientOf, ReadsClient, WritesClient}
 use Rattle.clients.specs.ClientLaws.{noClient}
 use Rattle.model.specs.State.{State, Client}
 use Rattle.model.specs.Fits.{stateFits, clientStateFits}
 use Rattle.state.specs.declared.Capacity.{Capacity}
-use Rattle.state.specs.Sizes.{sizes, clientsAt, Counted}
+use Rattle.state.specs.Sizes.{clientsAt, Counted}
 use Rattle.state.specs.SizeLaws.{room}
-use Rattle.state.specs.Parts.{countsWords}
-use Rattle.state.specs.Area.{Area, capacityOf, countsOf, clientsCode}
+use Rattle.state.specs.Area.{Area, capacityOf, clientsCode}
 use Rattle.state.specs.Encode.{contents}
 use Rattle.state.specs.Fitting.{area-fits}
 use Rattle.state.specs.FitsBy.{fits-test}
-use Rattle.state.specs.Changes.{Inside, AreaOf, Changes, Reads}
-use Rattle.state.specs.Tables.{Spans, clients-span, table-lent, table-back}
+use Rattle.state.specs.Changes.{Inside, Changes, Reads}
+use Rattle.state.specs.Tables.{clients-span, table-back}
 use Rattle.state_records.specs.Records.{clientRead, clientSet}
 use Rattle.state_records.specs.Fits.{clients-set, fits-client}
-
--- ---- a table as it is lent
-
--- a table that begins where another number says
-spans-at : {F : Capacity} {i at at′ w : ℕ} → at ≡ at′ → Spans F i at′ w → Spans F i at w
-spans-at {F} {i} {at} {at′} {w} e p = subst (λ (a : ℕ). Spans F i a w) (sym e) p
-
--- what region i of a state's area holds is held as it is lent
-lent-holds : {F : Capacity} {i at w : ℕ} → Spans F i at w → {A : Type 0} (c : Code A) (b : List ℕ) (s : State) (x : A) → F ≡ capacityOf s → Holds c (getD (cut (sizes (capacityOf s)) b) i []) x → Holds c (lentRow at w b) x
-lent-holds {F} {i} p c b s x e h = table-lent p c b x (subst (λ (G : Capacity). Holds c (getD (cut (sizes G) b) i []) x) (sym e) h)
-
--- ---- clients
+use Rattle.state_records.specs.Lent.{spans-at, lent-holds}
 
 module _ (b : List ℕ) (F : Capacity) (at : ℕ) where
   pub clients-end : Inside b F → Counted at (clientsAt F) → 8 * (at + F .clients * 8) ≤ length b
