@@ -3,3 +3,4 @@ pub mod Fits
 pub mod Lent
 pub mod ClientRows
 pub mod ReplyRows
+pub mod ConfirmationRows

@@ -5,12 +5,13 @@ ghost use lib.ListN.{length};
 ghost use Rattle.clients.specs.Clients.{clientOf};
 ghost use Rattle.clients.specs.Confirmations.{confirmationOf};
 ghost use Rattle.state.specs.Changes.{Inside, Changes, Reads};
-ghost use Rattle.state_records.specs.Records.{clientRead, clientSet, replyCount, replyOf, replyAt, replied};
+ghost use Rattle.state_records.specs.Records.{clientRead, clientSet, replyCount, replyOf, replyAt, replied, confirmationCount, confirmationRead, confirmationAt, confirmed};
 use checks::violations::Violation;
 use checks_durability::replies;
 use checks_durability::replies::Appending;
 use checks_durability::replies::Reply;
 use clients::Client;
+use clients::confirmations;
 use clients::confirmations::Confirmation;
 use layout::marked::Kind;
 use state::Capacity;
@@ -117,6 +118,53 @@ pub fn append_reply(area: &mut [u8], f: Capacity, reply: Reply)
     let e = 8 * (at + most * 5);
     match replies::append(&mut area[a..e], n, most, reply) {
         Appending::Appended(m) => words::store(area, 86, m as u64),
+        Appending::Full => {}
+    }
+}
+
+// ---- confirmations
+
+// How many confirmations are kept.
+pub fn confirmation_count(area: &[u8], f: Capacity) -> u64
+    requires { ⌜ Inside (now area) f ⌝ }
+    ensures { λ r. ⌜ Reads (now (area .entry)) f r confirmationCount ⌝ }
+{
+    words::load(&area[664..728], 4)
+}
+
+// The confirmation at a place, or none.
+pub fn confirmation_of(area: &[u8], f: Capacity, i: usize) -> ConfirmationOption
+    requires { ⌜ Inside (now area) f ⌝ }
+    ensures { λ r. ⌜ Reads (now (area .entry)) f (confirmationRead r) (confirmationAt i) ⌝ }
+{
+    let limits = f.limits;
+    let n = confirmation_count(area, f) as usize;
+    let most = limits.history as usize;
+    if most < n {
+        return ConfirmationOption::None;
+    }
+    if n <= i {
+        return ConfirmationOption::None;
+    }
+    let at = sizes::confirmations_at(f);
+    let a = 8 * at;
+    let e = 8 * (at + most * 3);
+    ConfirmationOption::Some(confirmations::read(&area[a..e], n, i))
+}
+
+// One confirmation more, where there is room for it.
+pub fn append_confirmation(area: &mut [u8], f: Capacity, confirmation: Confirmation)
+    requires { ⌜ Inside (now area) f ⌝ }
+    ensures { λ _. ⌜ Changes (now (area .entry)) (now (area .exit)) f (confirmed (confirmationOf confirmation)) ⌝ }
+{
+    let limits = f.limits;
+    let n = confirmation_count(area, f) as usize;
+    let most = limits.history as usize;
+    let at = sizes::confirmations_at(f);
+    let a = 8 * at;
+    let e = 8 * (at + most * 3);
+    match confirmations::append(&mut area[a..e], n, most, confirmation) {
+        Appending::Appended(m) => words::store(area, 87, m as u64),
         Appending::Full => {}
     }
 }
