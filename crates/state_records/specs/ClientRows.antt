@@ -28,7 +28,7 @@ use Rattle.state.specs.Changes.{Inside, Changes, Reads}
 use Rattle.state.specs.Tables.{clients-span, table-back}
 use Rattle.state_records.specs.Records.{clientRead, clientSet}
 use Rattle.state_records.specs.Fits.{clients-set, fits-client}
-use Rattle.state_records.specs.Lent.{spans-at, lent-holds}
+use Rattle.state_records.specs.Lent.{spans-is, lent-holds}
 
 module _ (b : List ℕ) (F : Capacity) (at : ℕ) where
   pub clients-end : Inside b F → Counted at (clientsAt F) → 8 * (at + F .clients * 8) ≤ length b
@@ -40,7 +40,7 @@ module _ (b : List ℕ) (F : Capacity) (at : ℕ) where
   module _ (p : Counted at (clientsAt F)) where
     clients-held : (s : State) → Area b s → F ≡ capacityOf s → Held (clients (s .config .servers)) (s .config .clients * 8) (F .clients) (lentRow at (F .clients * 8) b) (s .clients)
     clients-held s h ef = subst (λ (G : Capacity). Held (clients (s .config .servers)) (s .config .clients * 8) (G .clients) (lentRow at (F .clients * 8) b) (s .clients)) (sym ef)
-        (record { holds = lent-holds (spans-at (p .is) (clients-span F)) (clientsCode (capacityOf s)) b s (s .clients) ef (h .laid .clients) })
+        (record { holds = lent-holds (spans-is (p .is) refl (clients-span F)) (clientsCode (capacityOf s)) b s (s .clients) ef (h .laid .clients) })
 
     -- so many clients
     clients-are : (s : State) → Area b s → F ≡ capacityOf s → length (s .clients) ≡ F .clients
@@ -65,5 +65,5 @@ module _ (b : List ℕ) (F : Capacity) (at : ℕ) where
           let fit : clientStateFits (s .config) (s .limits) (clientOf v) and stateFits s ≡ true =
           sym (fits-client s c (clientOf v) (eqb-true _ _ (fits-test s (area-fits (h .area)) 9)) (subst (λ (G : Capacity). c < G .clients) (h .capacity) k) (fits-test s (area-fits (h .area)) 10)) ∙ t in
           let held = g .to (s .config .servers) (s .config .clients * 8) (s .clients) (ltb-true _ _ (and-left _ _ (and-left _ _ fit))) (clients-held s (h .area) (h .capacity)) in
-          table-back h (spans-at (p .is) (clients-span F)) s′ ys refl (ap (λ (y : List ℕ). set (contents s) 16 y) (held .holds .is ∙ ap (λ (l : List Client). bytes (clientsCode (capacityOf s) .enc l)) (sym e))) t;
+          table-back h (spans-is (p .is) refl (clients-span F)) s′ ys refl (ap (λ (y : List ℕ). set (contents s) 16 y) (held .holds .is ∙ ap (λ (l : List Client). bytes (clientsCode (capacityOf s) .enc l)) (sym e))) t;
     }

@@ -32,7 +32,7 @@ use Rattle.state.specs.Tables.{Spans, confirmations-span, table-put}
 use Rattle.state_records.specs.declared.ConfirmationOption.the-variants as confirmation
 use Rattle.state_records.specs.Records.{confirmationCount, confirmationRead, confirmationAt, confirmed}
 use Rattle.state_records.specs.Fits.{fits-confirmed}
-use Rattle.state_records.specs.Lent.{spans-at, lent-holds, counted, history-is, no-room}
+use Rattle.state_records.specs.Lent.{spans-is, lent-holds, counted, history-is, no-room}
 
 module _ (b : List ℕ) (F : Capacity) (at : ℕ) where
   pub confirmations-end : Inside b F → Counted at (confirmationsAt F) → 8 * (at + F .limits .history * 3) ≤ length b
@@ -64,7 +64,7 @@ module _ (b : List ℕ) (F : Capacity) where
 
     module _ (at : ℕ) (p : Counted at (confirmationsAt F)) where
       confirmations-spans : Spans F 14 at (F .limits .history * 3)
-      confirmations-spans = spans-at (p .is) (confirmations-span F)
+      confirmations-spans = spans-is (p .is) refl (confirmations-span F)
 
       confirmations-held : (s : State) → Area b s → F ≡ capacityOf s → Held confirmations (s .limits .history * 3) n (lentRow at (F .limits .history * 3) b) (s .confirmations)
       unfolding confirmationCount

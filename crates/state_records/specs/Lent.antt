@@ -21,9 +21,9 @@ use Rattle.state.specs.Parts.{countsWords}
 use Rattle.state.specs.Area.{Area, capacityOf, countsOf}
 use Rattle.state.specs.Tables.{Spans, table-lent}
 
--- a table that begins where another number says
-pub spans-at : {F : Capacity} {i at at′ w : ℕ} → at ≡ at′ → Spans F i at′ w → Spans F i at w
-spans-at {F} {i} {at} {at′} {w} e p = subst (λ (a : ℕ). Spans F i a w) (sym e) p
+-- a table of as many words from a word on, by other numbers
+pub spans-is : {F : Capacity} {i at at′ w w′ : ℕ} → at ≡ at′ → w ≡ w′ → Spans F i at′ w′ → Spans F i at w
+spans-is {F} {i} {at} {at′} {w} {w′} e f p = subst (λ (a : ℕ). Spans F i a w) (sym e) (subst (Spans F i at′) (sym f) p)
 
 -- what region i of a state's area holds is held as it is lent
 pub lent-holds : {F : Capacity} {i at w : ℕ} → Spans F i at w → {A : Type 0} (c : Code A) (b : List ℕ) (s : State) (x : A) → F ≡ capacityOf s → Holds c (getD (cut (sizes (capacityOf s)) b) i []) x → Holds c (lentRow at w b) x

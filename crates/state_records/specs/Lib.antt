@@ -4,3 +4,4 @@ pub mod Lent
 pub mod ClientRows
 pub mod ReplyRows
 pub mod ConfirmationRows
+pub mod ReadRows

@@ -10,7 +10,9 @@ use lib.Seq.{sets}
 use Rattle.laws.specs.Bools.{pick}
 use Rattle.laws.specs.Lists.{at}
 use Rattle.units.specs.Types.{Payload}
-use Rattle.layout.specs.Payload.{bodyOf}
+use Rattle.layout.specs.Tables.{Holds, Held}
+use Rattle.layout.specs.Payload.{payload, bodyOf}
+use Rattle.layout.specs.Applied.{applied}
 use Rattle.layout.specs.MarkedCalls.{kindOf}
 use Rattle.checks.specs.Checks.{Violation}
 use Rattle.checks.specs.Violations.{given}
@@ -30,7 +32,7 @@ use Rattle.state_records.specs.declared.ConfirmationOption.the-variants 
 use Rattle.state_records.specs.declared.ViolationOption.{ViolationOption}
 use Rattle.state_records.specs.declared.ViolationOption.the-variants as violation
 use Rattle.state_records.specs.declared.PayloadOption.{PayloadOption}
-use Rattle.state_records.specs.declared.PayloadOption.the-variants as payload
+use Rattle.state_records.specs.declared.PayloadOption.the-variants as option
 use Rattle.state_records.specs.declared.Sum.{Sum}
 
 -- ---- clients
@@ -94,13 +96,20 @@ violationAt i s = violationGiven (at (s .checker .violations) i)
 
 -- A payload's kind with the length of a command, or none.
 unfoldable pub payloadKind : Option Payload → PayloadOption
-payloadKind none = payload.None
-payloadKind (some x) = payload.Some (kindOf x)
+payloadKind none = option.None
+payloadKind (some x) = option.Some (kindOf x)
 
 -- The bytes of a command; a noop has none.
 unfoldable pub payloadBytes : Option Payload → List ℕ
 payloadBytes none = []
 payloadBytes (some x) = bodyOf x
+
+-- How many payloads were applied, and how many violations are kept.
+unfoldable pub appliedCount : State → ℕ
+appliedCount s = length (s .checker .applied)
+
+unfoldable pub violationCount : State → ℕ
+violationCount s = length (s .checker .violations)
 
 -- What the payload first applied at an index is, or none.
 unfoldable pub appliedKind : ℕ → State → PayloadOption
@@ -109,6 +118,16 @@ appliedKind index s = payloadKind (appliedAt (s .checker .applied) index)
 -- A buffer with the bytes of that payload at its front.
 unfoldable pub appliedInto : List ℕ → ℕ → State → List ℕ
 appliedInto d index s = sets d 0 (payloadBytes (appliedAt (s .checker .applied) index))
+
+-- A row of a payload of up to p bytes is read: whatever payload its bytes hold, r is its kind, and the buffer d has become d′.
+pub record ReadsRow (p : ℕ) (r : PayloadOption) (s d d′ : List ℕ) : Type 0 where
+  pub kind : (x : Payload) → Holds (payload p) s x → r ≡ payloadKind (some x)
+  pub copied : (x : Payload) → Holds (payload p) s x → d′ ≡ sets d 0 (payloadBytes (some x))
+
+-- Place i of a table of n payloads is read, and there is none past its end.
+pub record ReadsPlace (p n i : ℕ) (r : PayloadOption) (s d d′ : List ℕ) : Type 0 where
+  pub kind : (N : ℕ) (xs : List Payload) → Held (applied p) N n s xs → r ≡ payloadKind (at xs i)
+  pub copied : (N : ℕ) (xs : List Payload) → Held (applied p) N n s xs → d′ ≡ sets d 0 (payloadBytes (at xs i))
 
 -- The payload first applied at an index is read: its kind is r, and the buffer d has become d′.
 pub record ReadsApplied (b : List ℕ) (F : Capacity) (index : ℕ) (r : PayloadOption) (d d′ : List ℕ) : Type 0 where

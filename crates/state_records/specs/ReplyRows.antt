@@ -31,7 +31,7 @@ use Rattle.state.specs.Tables.{Spans, replies-span, table-put}
 use Rattle.state_records.specs.declared.ReplyOption.the-variants as reply
 use Rattle.state_records.specs.Records.{replyCount, replyOf, replyAt, replied}
 use Rattle.state_records.specs.Fits.{fits-replied}
-use Rattle.state_records.specs.Lent.{spans-at, lent-holds, counted, history-is, no-room}
+use Rattle.state_records.specs.Lent.{spans-is, lent-holds, counted, history-is, no-room}
 
 module _ (b : List ℕ) (F : Capacity) (at : ℕ) where
   pub replies-end : Inside b F → Counted at (repliesAt F) → 8 * (at + F .limits .history * 5) ≤ length b
@@ -63,7 +63,7 @@ module _ (b : List ℕ) (F : Capacity) where
 
     module _ (at : ℕ) (p : Counted at (repliesAt F)) where
       replies-spans : Spans F 13 at (F .limits .history * 5)
-      replies-spans = spans-at (p .is) (replies-span F)
+      replies-spans = spans-is (p .is) refl (replies-span F)
 
       replies-held : (s : State) → Area b s → F ≡ capacityOf s → Held (replies (s .limits .«log_indexes») (s .config .clients)) (s .limits .history * 5) n (lentRow at (F .limits .history * 5) b) (s .replies)
       unfolding replyCount

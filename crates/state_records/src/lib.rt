@@ -1,11 +1,13 @@
 // The clients of the state that an area holds, and what its run keeps for the report, read and written in place.
 ghost use mathlib.Core.Path.{_≡_};
-ghost use Prim.Native.Nat.{_≤_, _<_};
+ghost use Prim.Native.Nat.{_+_, _*_, _≤_, _<_};
 ghost use lib.ListN.{length};
+ghost use Rattle.layout.specs.Marked.{wordsFor};
 ghost use Rattle.clients.specs.Clients.{clientOf};
 ghost use Rattle.clients.specs.Confirmations.{confirmationOf};
 ghost use Rattle.state.specs.Changes.{Inside, Changes, Reads};
-ghost use Rattle.state_records.specs.Records.{clientRead, clientSet, replyCount, replyOf, replyAt, replied, confirmationCount, confirmationRead, confirmationAt, confirmed};
+ghost use Rattle.state_records.specs.Records.{clientRead, clientSet, replyCount, replyOf, replyAt, replied, confirmationCount, confirmationRead, confirmationAt, confirmed, violationCount, violationAt, appliedCount, ReadsRow, ReadsPlace, ReadsApplied};
+use checks::violations;
 use checks::violations::Violation;
 use checks_durability::replies;
 use checks_durability::replies::Appending;
@@ -13,9 +15,12 @@ use checks_durability::replies::Reply;
 use clients::Client;
 use clients::confirmations;
 use clients::confirmations::Confirmation;
+use layout::marked;
 use layout::marked::Kind;
+use layout::rows;
 use state::Capacity;
 use state::sizes;
+use units::LogIndex;
 
 // A reply that may be absent.
 pub enum ReplyOption {
@@ -167,4 +172,88 @@ pub fn append_confirmation(area: &mut [u8], f: Capacity, confirmation: Confirmat
         Appending::Appended(m) => words::store(area, 87, m as u64),
         Appending::Full => {}
     }
+}
+
+// ---- violations
+
+// How many violations are kept.
+fn violation_count(area: &[u8], f: Capacity) -> u64
+    requires { ⌜ Inside (now area) f ⌝ }
+    ensures { λ r. ⌜ Reads (now (area .entry)) f r violationCount ⌝ }
+{
+    words::load(&area[664..728], 6)
+}
+
+// The violation at a place of those that are kept, or none.
+pub fn violation_of(area: &[u8], f: Capacity, i: usize) -> ViolationOption
+    requires { ⌜ Inside (now area) f ⌝ }
+    ensures { λ r. ⌜ Reads (now (area .entry)) f r (violationAt i) ⌝ }
+{
+    let n = violation_count(area, f) as usize;
+    if 32 < n {
+        return ViolationOption::None;
+    }
+    if n <= i {
+        return ViolationOption::None;
+    }
+    ViolationOption::Some(violations::read(&area[2048..4096], n, i))
+}
+
+// ---- applied payloads
+
+// How many payloads were applied.
+fn applied_count(area: &[u8], f: Capacity) -> u64
+    requires { ⌜ Inside (now area) f ⌝ }
+    ensures { λ r. ⌜ Reads (now (area .entry)) f r appliedCount ⌝ }
+{
+    words::load(&area[664..728], 5)
+}
+
+// The kind of the payload in a row, whose bytes go to the front of a buffer.
+fn read_row(s: &[u8], p: usize, buffer: &mut [u8]) -> PayloadOption
+    requires { ⌜ (length (now s) ≡ 8 * (1 + wordsFor p)) × (p ≤ length (now buffer)) ⌝ }
+    ensures { λ r. ⌜ ReadsRow p r (now (s .entry)) (now (buffer .entry)) (now (buffer .exit)) ⌝ }
+{
+    let mark = words::load(s, 0) as usize;
+    if 2 + p < mark {
+        return PayloadOption::None;
+    }
+    PayloadOption::Some(marked::read_payload(s, buffer))
+}
+
+// The kind of the payload at a place of n, or none; its bytes go to the front of a buffer.
+fn read_place(s: &[u8], n: usize, p: usize, i: usize, buffer: &mut [u8]) -> PayloadOption
+    requires { ⌜ (p ≤ 256) × (8 * (n * (1 + wordsFor p)) ≤ length (now s)) × (p ≤ length (now buffer)) ⌝ }
+    ensures { λ r. ⌜ ReadsPlace p n i r (now (s .entry)) (now (buffer .entry)) (now (buffer .exit)) ⌝ }
+{
+    if n <= i {
+        return PayloadOption::None;
+    }
+    let w = 1 + (p + 7) / 8;
+    let at = rows::start_of(i, n, w);
+    let a = 8 * at;
+    let e = 8 * (at + w);
+    read_row(&s[a..e], p, buffer)
+}
+
+// The kind of the payload first applied at an index, or none; the bytes of a command go to the front of a buffer.
+pub fn read_applied(area: &[u8], f: Capacity, index: LogIndex, buffer: &mut [u8]) -> PayloadOption
+    requires { ⌜ Inside (now area) f ⌝ }
+    requires { ⌜ f .limits .payload ≤ length (now buffer) ⌝ }
+    ensures { λ r. ⌜ ReadsApplied (now (area .entry)) f (index .0) r (now (buffer .entry)) (now (buffer .exit)) ⌝ }
+{
+    let limits = f.limits;
+    let i = index.0 as usize;
+    let n = applied_count(area, f) as usize;
+    if i < 1 {
+        return PayloadOption::None;
+    }
+    if (limits.log_indexes as usize) < n {
+        return PayloadOption::None;
+    }
+    let at = sizes::applied_at(f);
+    let w = sizes::applied_words(f);
+    let a = 8 * at;
+    let e = 8 * (at + w);
+    read_place(&area[a..e], n, limits.payload as usize, i - 1, buffer)
 }
