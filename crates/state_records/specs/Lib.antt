@@ -5,3 +5,4 @@ pub mod ClientRows
 pub mod ReplyRows
 pub mod ConfirmationRows
 pub mod ReadRows
+pub mod DiscardedLaws

@@ -3,9 +3,9 @@ use mathlib.Core.Path.{_≡_}
 use mathlib.Core.Bool.{Bool}
 use mathlib.Core.List.{List, [], _∷_, _++_}
 use mathlib.Core.Option.{Option, none, some}
-use Prim.Native.Nat.{ℕ, _^_}
+use Prim.Native.Nat.{ℕ, _+_, _^_, _≤_, _<_}
 use lib.Dec.{ltb}
-use lib.ListN.{length}
+use lib.ListN.{length, drop}
 use lib.Seq.{sets}
 use Rattle.laws.specs.Bools.{pick}
 use Rattle.laws.specs.Lists.{at}
@@ -19,11 +19,12 @@ use Rattle.checks.specs.Violations.{given}
 use Rattle.checks_durability.specs.declared.replies.Reply.{Reply}
 use Rattle.clients.specs.Clients.{Client}
 use Rattle.clients.specs.Confirmations.{Confirmation, confirmationOf}
-use Rattle.model.specs.State.{State, clientAt}
+use Rattle.model.specs.State.{State, serverAt, clientAt}
 use Rattle.model.specs.Fields.{withReplies, withConfirmations}
 use Rattle.model.specs.Simulation.{onClient}
 use Rattle.model.specs.Reads.{appliedAt, discardedBy}
 use Rattle.state.specs.declared.Capacity.{Capacity}
+use Rattle.state.specs.Area.{Area, capacityOf}
 use Rattle.state.specs.Changes.{Reads}
 use Rattle.state_records.specs.declared.ReplyOption.{ReplyOption}
 use Rattle.state_records.specs.declared.ReplyOption.the-variants as reply
@@ -134,6 +135,10 @@ pub record ReadsApplied (b : List ℕ) (F : Capacity) (index : ℕ) (r : Payload
   pub kind : Reads b F r (appliedKind index)
   pub copied : Reads b F d′ (appliedInto d index)
 
+-- The entries that the server at a place has discarded.
+unfoldable pub discardedAt : ℕ → State → ℕ
+discardedAt k s = serverAt s k .storage .discarded
+
 -- Whether a number has 64 bits, and the number where it has.
 unfoldable pub sumOf : ℕ → Sum
 sumOf n = record { fits = ltb n (2 ^ 64); value = pick (ltb n (2 ^ 64)) n 0 }
@@ -141,3 +146,9 @@ sumOf n = record { fits = ltb n (2 ^ 64); value = pick (ltb n (2 ^ 64)) n 0 }
 -- The entries that all servers have discarded.
 unfoldable pub discardedSum : State → Sum
 discardedSum s = sumOf (discardedBy (s .servers))
+
+-- The entries of k servers were added up: with those of the others they are the entries of all.
+pub record Adding (b : List ℕ) (F : Capacity) (value k : ℕ) : Type 0 where
+  pub few : k ≤ F .servers
+  pub small : value < 2 ^ 64
+  pub to : (s : State) → Area b s → F ≡ capacityOf s → value + discardedBy (drop k (s .servers)) ≡ discardedBy (s .servers)

@@ -6,7 +6,7 @@ ghost use Rattle.layout.specs.Marked.{wordsFor};
 ghost use Rattle.clients.specs.Clients.{clientOf};
 ghost use Rattle.clients.specs.Confirmations.{confirmationOf};
 ghost use Rattle.state.specs.Changes.{Inside, Changes, Reads};
-ghost use Rattle.state_records.specs.Records.{clientRead, clientSet, replyCount, replyOf, replyAt, replied, confirmationCount, confirmationRead, confirmationAt, confirmed, violationCount, violationAt, appliedCount, ReadsRow, ReadsPlace, ReadsApplied};
+ghost use Rattle.state_records.specs.Records.{clientRead, clientSet, replyCount, replyOf, replyAt, replied, confirmationCount, confirmationRead, confirmationAt, confirmed, violationCount, violationAt, appliedCount, ReadsRow, ReadsPlace, ReadsApplied, discardedAt, discardedSum};
 use checks::violations;
 use checks::violations::Violation;
 use checks_durability::replies;
@@ -256,4 +256,40 @@ pub fn read_applied(area: &[u8], f: Capacity, index: LogIndex, buffer: &mut [u8]
     let a = 8 * at;
     let e = 8 * (at + w);
     read_place(&area[a..e], n, limits.payload as usize, i - 1, buffer)
+}
+
+// ---- discarded entries
+
+// The entries that the server at a place has discarded.
+fn discarded_by(area: &[u8], f: Capacity, k: usize) -> u64
+    requires { ⌜ Inside (now area) f ⌝ }
+    requires { ⌜ k < f .servers ⌝ }
+    ensures { λ r. ⌜ Reads (now (area .entry)) f r (discardedAt k) ⌝ }
+{
+    let end = sizes::queue_at(f);
+    let at = sizes::block_at(f, k);
+    let e = 8 * end;
+    words::load(&area[4096..e], at - 505)
+}
+
+// The entries that all servers have discarded, and whether their number has 64 bits.
+pub fn discarded_of(area: &[u8], f: Capacity) -> Sum
+    requires { ⌜ Inside (now area) f ⌝ }
+    ensures { λ r. ⌜ Reads (now (area .entry)) f r discardedSum ⌝ }
+{
+    let n = f.servers as usize;
+    let mut value = 0;
+    let mut k = 0;
+    while k < n {
+        let more = discarded_by(area, f, k);
+        if 18446744073709551615 - value < more {
+            return Sum {
+                fits: false,
+                value: 0,
+            };
+        }
+        value += more;
+        k += 1;
+    }
+    Sum { fits: true, value }
 }
