@@ -2,7 +2,8 @@
 use mathlib.Core.Path.{_≡_, refl, sym, ap, ap₂, subst, _∙_}
 use mathlib.Core.Bool.{Bool, true, false, not}
 use mathlib.Core.List.{List, [], _∷_, map}
-use Prim.Native.Nat.{ℕ, suc, _+_, _-_, _≤_}
+use Prim.Native.Nat.{ℕ, suc, _+_, _-_, _≤_, _<_}
+use native.Mathlib.Nat.{zero-add}
 use native.Mathlib.Omega.{arith}
 use lib.Dec.{leb, ltb}
 use lib.ListN.{length}
@@ -104,7 +105,8 @@ room-less : (s : State) (m n : ℕ) → m ≤ n → queueRoom n s ≡ true → q
 unfolding queueRoom
 room-less s m n l h = le-leb (length (s .queue) + m) (s .limits .events) (omega (arith, leb-true (length (s .queue) + n) (s .limits .events) h))
 
-room-pushed : (s : State) (e : Scheduled) (n : ℕ) → queueRoom n (pushed e s) ≡ queueRoom (suc n) s
+-- room after a push is room for one more before it
+pub room-pushed : (s : State) (e : Scheduled) (n : ℕ) → queueRoom n (pushed e s) ≡ queueRoom (suc n) s
 unfolding queueRoom pushed push
 room-pushed s e n = ap (λ (m : ℕ). leb m (s .limits .events)) (let o : length (pushBy numbers timeOf e (s .queue)) + n ≡ length (s .queue) + suc n = omega (arith, length-push numbers timeOf e (s .queue)) in o)
 
@@ -132,6 +134,12 @@ fits-push-all (e ∷ es) s =
     let b = and-right _ _ a in
     and-both _ _ (and-both _ _ r (and-right _ _ b)) (and-both _ _ (and-both _ _ (room-less s 1 (suc (length es)) (omega arith) r) (and-left _ _ b)) (and-right _ _ h)))
 
+-- room after several pushes
+pub room-pushed-all : (es : List Scheduled) (s : State) (n : ℕ) → queueRoom n (pushedAll es s) ≡ queueRoom (length es + n) s
+unfolding pushedAll
+room-pushed-all [] s n = ap (λ (m : ℕ). queueRoom m s) (sym (zero-add n))
+room-pushed-all (e ∷ es) s n = room-pushed-all es (pushed e s) n ∙ room-pushed s e (length es + n) ∙ ap (λ (m : ℕ). queueRoom m s) (let o : suc (length es + n) ≡ suc (length es) + n = omega arith in o)
+
 -- an event that delivers no message
 pub plain-range : (s : State) (time : SimTime) (event : Event)
     → eventInRange s (plain time event) ≡ (word (time .0) and eventFits (s .config .servers) (s .config .clients) (s .limits .«log_indexes») event)
@@ -151,9 +159,15 @@ unfolding inOrder chain
 order-rest [] h = h
 order-rest (e ∷ q) h = and-right _ _ h
 
+-- the length without the first event
 pub rest-most : (q : Queue) → length (rest q) ≡ length q - 1
 rest-most [] = refl
 rest-most (e ∷ q) = omega arith
+
+-- room after an event was taken is room for one less before it
+pub room-taken : (s : State) (n : ℕ) → 0 < length (s .queue) → queueRoom (suc n) (dequeued s) ≡ queueRoom n s
+unfolding queueRoom dequeued
+room-taken s n k = ap (λ (m : ℕ). leb m (s .limits .events)) (let o : length (rest (s .queue)) + suc n ≡ length (s .queue) + n = omega (arith, rest-most (s .queue)) in o)
 
 -- the first event taken, where the queue fitted
 pub fits-taken : (s : State) → queueFits (s .config) (s .limits) (s .queue) ≡ true → stateFits (dequeued s) ≡ stateFits s

@@ -5,11 +5,11 @@ use mathlib.Core.List.{List, [], _∷_}
 use Prim.Native.Nat.{ℕ, zero, suc, _+_, _-_, _*_, _≤_, _<_}
 use native.Mathlib.Nat.{mul-le-mul-right}
 use native.Mathlib.Omega.{arith}
-use lib.Dec.{leb}
+use lib.Dec.{leb, eqb}
 use lib.ListN.{length, getD, set, drop, take}
 use lib.Seq.{sets}
 use borrow.Author.Tests.{leb-true, leb-false, le-leb, lt-leb}
-use Rattle.laws.specs.Bools.{_and_, and-left, and-right, cases}
+use Rattle.laws.specs.Bools.{_and_, and-left, and-right, cases, every, pick-both}
 use Rattle.laws.specs.Order.{numbers}
 use Rattle.laws.specs.OrderLaws.{length-push}
 use Rattle.words.specs.Words.{W, bytes, bytesOf as bytesOfNumber}
@@ -19,7 +19,10 @@ use Rattle.layout.specs.Marked.{wordsFor}
 use Rattle.layout.specs.Parts.{lentRow, backRow, length-lentRow}
 use Rattle.layout.specs.Cuts.{cut, region}
 use Rattle.layout.specs.Rows.{row-start, row-end}
+use Rattle.queue.specs.declared.Event.{Event}
 use Rattle.queue.specs.declared.table.Earliest.{Earliest}
+use Rattle.queue.specs.Numbers.{wordsOf}
+use Rattle.queue.specs.Range.{messageRoom}
 use Rattle.queue.specs.Queue.{Scheduled, Queue, timeOf, push}
 use Rattle.queue.specs.Table.{events, rest, Pushes, Removes, GivesFirst, Copies}
 use Rattle.model.specs.State.{State}
@@ -37,7 +40,7 @@ use Rattle.state.specs.Changes.{Inside, AreaOf, Changes, Reads}
 use Rattle.state.specs.Tables.{Spans, queue-span, table-lent, table-put}
 use Rattle.state_queue.specs.declared.NextEvent.{NextEvent}
 use Rattle.state_queue.specs.declared.NextEvent.the-variants.{None, Some}
-use Rattle.state_queue.specs.Events.{queueLength, queueRoom, eventInRange, firstOf, nextEvent, CopiesMessage, dequeued, pushed}
+use Rattle.state_queue.specs.Events.{queueLength, queueRoom, eventInRange, firstOf, nextEvent, CopiesMessage, FirstInRange, dequeued, pushed}
 use Rattle.state_queue.specs.Fits.{fits-push, rest-most}
 
 -- ---- the count
@@ -187,3 +190,24 @@ module _ (b : List ℕ) (F : Capacity) (at w : ℕ) where
           subst (λ (l : List ℕ). AreaOf l r F (dequeued s)) (sym eb)
           (queue-put s (dequeued s) r ys (n - 1) h refl (ap₂ (λ (y : List ℕ) (m : ℕ). set (set (contents s) 10 y) 6 (bytes (set (countsWords (countsOf s)) 0 m))) (held .holds .is) ev) t);
     }
+
+-- ---- what is known of the first event
+
+first-is : {r x : Earliest} → _≡_ {A = NextEvent} (Some r) (Some x) → r ≡ x
+first-is e = cc
+
+room-most : (M : ℕ) (e : Event) → messageRoom M e ≤ M
+unfolding messageRoom
+room-most M e = pick-both (λ (n : ℕ). n ≤ M) (eqb (wordsOf e .kind) 1) (omega arith) (omega arith)
+
+-- the first event of a state in an area is in range
+pub first-in-range : (b : List ℕ) (F : Capacity) (r : Earliest) → Reads b F (Some r) nextEvent → (s : State) → Area b s → F ≡ capacityOf s → FirstInRange F r
+unfolding nextEvent firstOf
+first-in-range b F r p s h ef = subst (λ (G : Capacity). FirstInRange G r) (sym ef) (by (s .queue) (p .to s h ef) (and-left _ _ (and-right _ _ (fits-test s (area-fits h) 3))))
+  where
+    by : (q : Queue) → _≡_ {A = NextEvent} (Some r) (firstOf q) → every (tableOf s .row .good) q ≡ true → FirstInRange (capacityOf s) r
+    by [] e k = absurd (let z : _≡_ {A = ℕ} 0 1 = cc in omega arith)
+    by (x ∷ q) e k =
+        let f = and-right _ _ (and-left _ _ k) in
+        let l = leb-true (length (x .message)) (messageRoom (s .limits .message) (x .event)) (and-left _ _ (and-right _ _ (and-right _ _ f))) in
+        subst (FirstInRange (capacityOf s)) (sym (first-is e)) (record { event = and-right _ _ (and-left _ _ f); message = l; short = omega (arith, l, room-most (s .limits .message) (x .event)) })

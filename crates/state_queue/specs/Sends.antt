@@ -1,8 +1,8 @@
 -- Pushes in a row: the clients' first events and the servers' starts as lists of events, question 10 by each, and what the proof of push_first_sends cites. Assumes nothing.
 use mathlib.Core.Path.{_≡_, refl, sym, ap, ap₂, subst, _∙_}
 use mathlib.Core.Bool.{Bool, true}
-use mathlib.Core.List.{List, [], _∷_, _++_}
-use Prim.Native.Nat.{ℕ, zero, suc, _+_, _^_, _≤_, _<_}
+use mathlib.Core.List.{List, [], _∷_, _++_, append-assoc, append-nil}
+use Prim.Native.Nat.{ℕ, zero, suc, _+_, _-_, _^_, _≤_, _<_}
 use native.Mathlib.Nat.{zero-add}
 use native.Mathlib.Numerals.{add-one}
 use native.Mathlib.Omega.{arith}
@@ -15,6 +15,7 @@ use Rattle.units.specs.declared.SimTime.{SimTime}
 use Rattle.rng.specs.Rng.{under}
 use Rattle.rng.specs.Laws.{under-lt}
 use Rattle.rng.specs.declared.Rng.{Rng}
+use Rattle.rng.specs.declared.Drawn.{Drawn}
 use Rattle.config.specs.Limits.{judge, InLimits}
 use Rattle.config.specs.Laws.{in-limits}
 use Rattle.network.specs.Laws.{length-listFrom, listFrom-snoc}
@@ -28,12 +29,12 @@ use Rattle.state.specs.declared.Capacity.{Capacity}
 use Rattle.state.specs.declared.Run.{Run}
 use Rattle.state.specs.Area.{Area, capacityOf, runOf}
 use Rattle.state.specs.Fitting.{accepted-is, area-fits}
-use Rattle.state.specs.FitsBy.{fits-test}
+use Rattle.state.specs.FitsBy.{fits-test, server-count}
 use Rattle.state.specs.Changes.{Inside, AreaOf, Changes, Reads}
 use Rattle.state.specs.Puts.{both}
 use Rattle.state.specs.Exits.{inside-after}
-use Rattle.state_queue.specs.Events.{queueRoom, eventInRange, pushed, plain, pushedAll, sendEvents, startEvents, firstSent, nowOf, Sending}
-use Rattle.state_queue.specs.Fits.{same-tests, fits-unpushed, fits-push-all, plain-range}
+use Rattle.state_queue.specs.Events.{queueRoom, eventInRange, pushed, plain, pushedAll, sendEvents, startEvents, firstSent, spreadStarted, nowOf, Sending, Starting}
+use Rattle.state_queue.specs.Fits.{same-tests, fits-unpushed, fits-push-all, room-pushed-all, plain-range}
 
 -- ---- changes and then a push
 
@@ -119,15 +120,27 @@ fits-first-sent s =
     let c : n ≡ s .config .clients = clients f in
     and-both _ _ (and-both _ _ (ap (λ (m : ℕ). queueRoom m s) c ∙ and-left _ _ h) (sends-in-range s f (s .now) (fits-test s f 2) n 0 (omega (arith, c)))) f)
 
--- the starts of n servers from a place on, at times below a spread
-pub fits-spread-starts : (s : State) (spread slot n : ℕ) (g : Rng) → 0 < spread → spread ≤ 2 ^ 64 → slot + n ≤ s .config .servers → stateFits (spreadStarts s spread slot n g) ≡ (queueRoom n s and stateFits s)
-fits-spread-starts s spread slot n g p q k =
-    let es : List Scheduled = startEvents spread slot n g in
-    let e : stateFits (spreadStarts s spread slot n g) ≡ ((queueRoom n s and every (eventInRange s) es) and stateFits s) =
-    ap stateFits (spread-starts-are n spread slot g s) ∙ fits-push-all es s ∙ ap (λ (m : ℕ). (queueRoom m s and every (eventInRange s) es) and stateFits s) (starts-length spread n slot g) in
-    e ∙ same-tests ((queueRoom n s and every (eventInRange s) es) and stateFits s) (queueRoom n s and stateFits s)
-    (λ h. and-both _ _ (and-left _ _ (and-left _ _ h)) (and-right _ _ h))
-    (λ h. and-both _ _ (and-both _ _ (and-left _ _ h) (starts-in-range s (and-right _ _ h) spread p q n slot g k)) (and-right _ _ h))
+-- the starts of all servers, whatever the state
+pub fits-spread-started : (s : State) (spread : ℕ) (g : Rng) → 0 < spread → spread ≤ 2 ^ 64 → stateFits (spreadStarted spread g s) ≡ (queueRoom (s .config .servers) s and stateFits s)
+unfolding spreadStarted
+fits-spread-started s spread g p q =
+    let n : ℕ = length (s .servers) in
+    let es : List Scheduled = startEvents spread 0 n g in
+    let e : stateFits (spreadStarted spread g s) ≡ ((queueRoom n s and every (eventInRange s) es) and stateFits s) =
+    ap stateFits (spread-starts-are n spread 0 g s) ∙ fits-push-all es s ∙ ap (λ (m : ℕ). (queueRoom m s and every (eventInRange s) es) and stateFits s) (starts-length spread n 0 g) in
+    e ∙ same-tests ((queueRoom n s and every (eventInRange s) es) and stateFits s) (queueRoom (s .config .servers) s and stateFits s)
+    (λ h. and-both _ _ (ap (λ (m : ℕ). queueRoom m s) (sym (server-count s (and-right _ _ h))) ∙ and-left _ _ (and-left _ _ h)) (and-right _ _ h))
+    (λ h.
+    let f : stateFits s ≡ true = and-right _ _ h in
+    let c : n ≡ s .config .servers = server-count s f in
+    and-both _ _ (and-both _ _ (ap (λ (m : ℕ). queueRoom m s) c ∙ and-left _ _ h) (starts-in-range s f spread p q n 0 g (omega (arith, c)))) f)
+
+-- and the room that they leave
+pub room-spread-started : (s : State) (spread : ℕ) (g : Rng) (n : ℕ) → queueRoom n (spreadStarted spread g s) ≡ queueRoom (length (s .servers) + n) s
+unfolding spreadStarted
+room-spread-started s spread g n =
+    ap (queueRoom n) (spread-starts-are (length (s .servers)) spread 0 g s) ∙ room-pushed-all (startEvents spread 0 (length (s .servers)) g) s n
+    ∙ ap (λ (m : ℕ). queueRoom (m + n) s) (starts-length spread (length (s .servers)) 0 g)
 
 -- ---- the loop of push_first_sends
 
@@ -164,5 +177,52 @@ module _ (b : List ℕ) (F : Capacity) where
           omega (arith, p .few, eqb-true (length (s .clients)) (s .config .clients) (fits-test s (area-fits (h .area)) 9), ap (λ (G : Capacity). G .clients) (h .capacity)) in
           let same : pushedAll (sendEvents time 0 c) s ≡ firstSends s 0 (length (s .clients)) =
           ap₂ (λ (u : SimTime) (m : ℕ). pushedAll (sendEvents u 0 m) s) (p .time-is .to s (h .area) (h .capacity)) n ∙ sym (first-sends-are (length (s .clients)) 0 s) in
+          subst (AreaOf b₁ r F) same (p .changes .to s r h (ap stateFits same ∙ t));
+    }
+
+-- ---- the loop of push_spread_starts
+
+module _ (b : List ℕ) (F : Capacity) (spread : ℕ) (g : Rng) where
+  pub starting-start : Inside b F → Starting b F spread g b g 0
+  unfolding pushedAll
+  starting-start i = record {
+    inside = i;
+    long = refl;
+    few = omega arith;
+    pushes = [];
+    changes = record { to = λ s r h t. h };
+    rest = ap (λ (n : ℕ). startEvents spread 0 n g) (let e : F .servers - 0 ≡ F .servers = omega arith in e);
+  }
+
+  module _ (b₁ : List ℕ) (next : Rng) (slot : ℕ) (p : Starting b F spread g b₁ next slot) where
+    pub starting-turn : (b₂ : List ℕ) (d : Drawn) → slot < F .servers → length b₂ ≡ length b₁ → d ≡ under next spread → Changes b₁ b₂ F (pushed (plain (record { 0 = d .value }) (event.Start slot)))
+        → Starting b F spread g b₂ (d .next) (slot + 1)
+    unfolding startEvents
+    starting-turn b₂ d k l e q =
+        let n : F .servers - slot ≡ suc (F .servers - (slot + 1)) = omega arith in
+        let x : Scheduled = plain (record { 0 = d .value }) (event.Start slot) in
+        let left : startEvents spread slot (F .servers - slot) next ≡ x ∷ startEvents spread (slot + 1) (F .servers - (slot + 1)) (d .next) =
+        ap (λ (m : ℕ). startEvents spread slot m next) n
+        ∙ ap (λ (y : Drawn). plain (record { 0 = y .value }) (event.Start slot) ∷ startEvents spread (suc slot) (F .servers - (slot + 1)) (y .next)) (sym e)
+        ∙ ap (λ (m : ℕ). x ∷ startEvents spread m (F .servers - (slot + 1)) (d .next)) (sym (add-one slot)) in
+        record {
+          inside = inside-after b₁ b₂ F (p .inside) l;
+          long = l ∙ p .long;
+          few = omega arith;
+          pushes = p .pushes ++ x ∷ [];
+          changes = pushed-more (p .pushes) x (p .changes) q;
+          rest = append-assoc (p .pushes) (x ∷ []) (startEvents spread (slot + 1) (F .servers - (slot + 1)) (d .next)) ∙ ap (λ (es : List Scheduled). p .pushes ++ es) (sym left) ∙ p .rest;
+        }
+
+    pub starting-done : F .servers ≤ slot → Changes b b₁ F (spreadStarted spread g)
+    unfolding spreadStarted startEvents
+    starting-done k = record {
+      to = λ s r h t.
+          let n : F .servers ≡ length (s .servers) = ap (λ (G : Capacity). G .servers) (h .capacity) ∙ sym (server-count s (area-fits (h .area))) in
+          let z : F .servers - slot ≡ 0 = omega arith in
+          let whole : p .pushes ≡ startEvents spread 0 (length (s .servers)) g =
+          sym (append-nil (p .pushes)) ∙ ap (λ (m : ℕ). p .pushes ++ startEvents spread slot m next) (sym z) ∙ p .rest ∙ ap (λ (m : ℕ). startEvents spread 0 m g) n in
+          let same : pushedAll (p .pushes) s ≡ spreadStarts s spread 0 (length (s .servers)) g =
+          ap (λ (es : List Scheduled). pushedAll es s) whole ∙ sym (spread-starts-are (length (s .servers)) spread 0 g s) in
           subst (AreaOf b₁ r F) same (p .changes .to s r h (ap stateFits same ∙ t));
     }

@@ -1,13 +1,13 @@
 -- What the proofs of client_of and set_client cite. Assumes nothing.
 use mathlib.Core.Path.{_≡_, refl, sym, ap, subst, _∙_}
-use mathlib.Core.Bool.{true}
+use mathlib.Core.Bool.{Bool, true}
 use mathlib.Core.List.{List}
 use mathlib.Core.Option.{some}
 use Prim.Native.Nat.{ℕ, _+_, _*_, _≤_, _<_}
 use native.Mathlib.Omega.{arith}
 use lib.ListN.{length, set}
 use borrow.Author.Tests.{eqb-true, ltb-true}
-use Rattle.laws.specs.Bools.{_and_, and-left}
+use Rattle.laws.specs.Bools.{_and_, and-left, every-get}
 use Rattle.laws.specs.ListLaws.{at-there}
 use Rattle.words.specs.Words.{bytes}
 use Rattle.layout.specs.Tables.{Held}
@@ -67,3 +67,12 @@ module _ (b : List ℕ) (F : Capacity) (at : ℕ) where
           let held = g .to (s .config .servers) (s .config .clients * 8) (s .clients) (ltb-true _ _ (and-left _ _ (and-left _ _ fit))) (clients-held s (h .area) (h .capacity)) in
           table-back h (spans-is (p .is) refl (clients-span F)) s′ ys refl (ap (λ (y : List ℕ). set (contents s) 16 y) (held .holds .is ∙ ap (λ (l : List Client). bytes (clientsCode (capacityOf s) .enc l)) (sym e))) t;
     }
+
+-- a client of a state in an area sends to a server of the cluster
+pub client-target : (b : List ℕ) (F : Capacity) (c : ℕ) (r : ClientRow) → Reads b F (clientOf r) (clientRead c) → c < F .clients → (s : State) → Area b s → F ≡ capacityOf s → r .target < F .servers
+unfolding clientRead clientOf
+client-target b F c r p k s h ef =
+    let f : Client → Bool = clientStateFits (s .config) (s .limits) in
+    let l : c < length (s .clients) = omega (arith, k, eqb-true (length (s .clients)) (s .config .clients) (fits-test s (area-fits h) 9), ap (λ (G : Capacity). G .clients) ef) in
+    let fit : f (clientOf r) ≡ true = ap f (p .to s h ef) ∙ every-get f (s .clients) c noClient l (fits-test s (area-fits h) 10) in
+    omega (arith, ltb-true (r .target) (s .config .servers) (and-left _ _ fit), ap (λ (G : Capacity). G .servers) ef)
