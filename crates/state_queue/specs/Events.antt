@@ -44,9 +44,11 @@ firstOf (e ∷ q) = Some (record { time = e .time; event = e .event; length = le
 unfoldable pub nextEvent : State → NextEvent
 nextEvent s = firstOf (s .queue)
 
--- Where the bytes b hold a state whose queue begins with an event that has a message of so many bytes, the message is at the front of the buffer, and the rest of the buffer is as it was.
+-- Where the bytes b hold a state whose queue begins with an event that has a message of so many bytes, the message is at the front of the
+-- buffer, and the rest of the buffer is as it was.
 pub record CopiesMessage (b : List ℕ) (F : Capacity) (count : ℕ) (d d′ : List ℕ) : Type 0 where
-  pub to : (s : State) → Area b s → F ≡ capacityOf s → (e : Scheduled) (q : Queue) → s .queue ≡ e ∷ q → count ≡ length (e .message) → d′ ≡ sets d 0 (e .message)
+  pub to : (s : State) → Area b s → F ≡ capacityOf s → (e : Scheduled) (q : Queue) → s .queue ≡ e ∷ q → count ≡ length (e .message)
+      → d′ ≡ sets d 0 (e .message)
 
 -- Whether an event is in the ranges of a state.
 unfoldable pub eventInRange : State → Scheduled → Bool
@@ -110,7 +112,8 @@ pub record Sending (b : List ℕ) (F : Capacity) (time : SimTime) (b′ : List �
   pub time-is : Reads b F time nowOf
   pub changes : Changes b b′ F (pushedAll (sendEvents time 0 c))
 
--- The Start events of the servers before a place were pushed, and `next` is the generator for those that are left: b′ is as long, and holds the state with them.
+-- The Start events of the servers before a place were pushed, and `next` is the generator for those that are left: b′ is as long, and holds
+-- the state with them.
 pub record Starting (b : List ℕ) (F : Capacity) (spread : ℕ) (g : Rng) (b′ : List ℕ) (next : Rng) (slot : ℕ) : Type 0 where
   pub inside : Inside b′ F
   pub long : length b′ ≡ length b

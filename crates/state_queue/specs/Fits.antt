@@ -1,5 +1,5 @@
 -- Question 10 by the queue: pushes and takes in a row. Assumes nothing.
-use mathlib.Core.Path.{_≡_, refl, sym, ap, ap₂, subst, _∙_}
+use mathlib.Core.Path.{_≡_, refl, sym, ap, ap₂, _∙_}
 use mathlib.Core.Bool.{Bool, true, false, not}
 use mathlib.Core.List.{List, [], _∷_, map}
 use Prim.Native.Nat.{ℕ, suc, _+_, _-_, _≤_, _<_}
@@ -7,7 +7,7 @@ use native.Mathlib.Nat.{zero-add}
 use native.Mathlib.Omega.{arith}
 use lib.Dec.{leb, ltb}
 use lib.ListN.{length}
-use borrow.Author.Tests.{leb-true, le-leb, ltb-true, lt-ltb, ltb-false, le-ltb}
+use borrow.Author.Tests.{leb-true, le-leb, ltb-true, ltb-false, le-ltb}
 use Rattle.laws.specs.Bools.{pick, _and_, and-left, and-right, and-both, and-true, true-and, every}
 use Rattle.laws.specs.Order.{numbers, notBelow, next, chain, sorted, pushBy}
 use Rattle.laws.specs.OrderLaws.{every-push, length-push}
@@ -18,19 +18,22 @@ use Rattle.queue.specs.Queue.{Scheduled, Queue, timeOf, push}
 use Rattle.queue.specs.Range.{word, eventFits, messageRoom, messageFits, inOrder}
 use Rattle.queue.specs.Table.{rest}
 use Rattle.model.specs.State.{State}
-use Rattle.model.specs.Fits.{stateFits, stateTests, queueFits}
+use Rattle.model.specs.Fits.{stateFits, queueFits}
 use Rattle.state.specs.FitsBy.{fits-one, fits-test}
 use Rattle.state_queue.specs.Events.{queueRoom, eventInRange, dequeued, pushed, plain, pushedAll}
 
 -- ---- a queue before a push
 
 module _ (a : Scheduled) where
-  next-before : (p : ℕ) (x : Queue) → ltb (timeOf a) p ≡ false → next (notBelow numbers) p (map timeOf (pushBy numbers timeOf a x)) ≡ true → next (notBelow numbers) p (map timeOf x) ≡ true
+  next-before : (p : ℕ) (x : Queue) → ltb (timeOf a) p ≡ false → next (notBelow numbers) p (map timeOf (pushBy numbers timeOf a x)) ≡ true
+      → next (notBelow numbers) p (map timeOf x) ≡ true
   unfolding pushBy notBelow
   next-before p [] h k = refl
   next-before p (b ∷ x) h k = by (ltb (timeOf a) (timeOf b)) refl k
     where
-      by : (t : Bool) → ltb (timeOf a) (timeOf b) ≡ t → next (notBelow numbers) p (map timeOf (pick t (a ∷ b ∷ x) (b ∷ pushBy numbers timeOf a x))) ≡ true → not (ltb (timeOf b) p) ≡ true
+      by : (t : Bool) → ltb (timeOf a) (timeOf b) ≡ t
+          → next (notBelow numbers) p (map timeOf (pick t (a ∷ b ∷ x) (b ∷ pushBy numbers timeOf a x))) ≡ true
+          → not (ltb (timeOf b) p) ≡ true
       by true e k = ap not (le-ltb (timeOf b) p (omega (arith, ltb-true (timeOf a) (timeOf b) e, ltb-false (timeOf a) p h)))
       by false e k = k
 
@@ -39,7 +42,8 @@ module _ (a : Scheduled) where
   sorted-before [] h = refl
   sorted-before (b ∷ x) h = by (ltb (timeOf a) (timeOf b)) refl h (λ k. sorted-before x k)
     where
-      by : (t : Bool) → ltb (timeOf a) (timeOf b) ≡ t → sorted numbers (map timeOf (pick t (a ∷ b ∷ x) (b ∷ pushBy numbers timeOf a x))) ≡ true
+      by : (t : Bool) → ltb (timeOf a) (timeOf b) ≡ t
+          → sorted numbers (map timeOf (pick t (a ∷ b ∷ x) (b ∷ pushBy numbers timeOf a x))) ≡ true
           → (sorted numbers (map timeOf (pushBy numbers timeOf a x)) ≡ true → sorted numbers (map timeOf x) ≡ true) → sorted numbers (map timeOf (b ∷ x)) ≡ true
       by true e k more = and-right _ _ k
       by false e k more = and-both _ _ (next-before (timeOf b) x e (and-left _ _ k)) (more (and-right _ _ k))
@@ -49,7 +53,8 @@ module _ (a : Scheduled) where
   every-before f [] h = h
   every-before f (b ∷ x) h = by (ltb (timeOf a) (timeOf b)) h (λ k. every-before f x k)
     where
-      by : (t : Bool) → every f (pick t (a ∷ b ∷ x) (b ∷ pushBy numbers timeOf a x)) ≡ true → (every f (pushBy numbers timeOf a x) ≡ true → (f a and every f x) ≡ true) → (f a and every f (b ∷ x)) ≡ true
+      by : (t : Bool) → every f (pick t (a ∷ b ∷ x) (b ∷ pushBy numbers timeOf a x)) ≡ true
+          → (every f (pushBy numbers timeOf a x) ≡ true → (f a and every f x) ≡ true) → (f a and every f (b ∷ x)) ≡ true
       by true k more = k
       by false k more = let m = more (and-right _ _ k) in and-both _ _ (and-left _ _ m) (and-both _ _ (and-left _ _ k) (and-right _ _ m))
 
@@ -66,7 +71,8 @@ module _ (s : State) (e : Scheduled) where
   q′ = pushBy numbers timeOf e (s .queue)
 
   -- a queue that fits with one event more fits without it, and had room for the event, which is in range
-  queue-before : queueFits (s .config) (s .limits) q′ ≡ true → (queueRoom 1 s and eventInRange s e) and queueFits (s .config) (s .limits) (s .queue) ≡ true
+  queue-before : queueFits (s .config) (s .limits) q′ ≡ true
+      → (queueRoom 1 s and eventInRange s e) and queueFits (s .config) (s .limits) (s .queue) ≡ true
   unfolding inOrder queueRoom eventInRange
   queue-before t =
       let o : length q′ ≤ s .limits .events = leb-true (length q′) (s .limits .events) (and-left _ _ t) in
@@ -76,7 +82,8 @@ module _ (s : State) (e : Scheduled) where
       (and-both _ _ (le-leb (length (s .queue)) (s .limits .events) (omega arith)) (and-both _ _ (and-right _ _ f) (sorted-before e (s .queue) (and-right _ _ (and-right _ _ t)))))
 
   -- and the other way round
-  queue-after : queueFits (s .config) (s .limits) (s .queue) ≡ true → queueRoom 1 s and eventInRange s e ≡ true → queueFits (s .config) (s .limits) q′ ≡ true
+  queue-after : queueFits (s .config) (s .limits) (s .queue) ≡ true → queueRoom 1 s and eventInRange s e ≡ true
+      → queueFits (s .config) (s .limits) q′ ≡ true
   unfolding inOrder queueRoom eventInRange
   queue-after h k =
       and-both _ _ (ap (λ (n : ℕ). leb n (s .limits .events)) (length-push numbers timeOf e (s .queue)) ∙ and-left _ _ k)
@@ -120,7 +127,8 @@ fits-none s = same-tests (stateFits s) ((queueRoom 0 s and true) and stateFits s
     (λ h. and-both _ _ (and-both _ _ (le-leb (length (s .queue) + 0) (s .limits .events) (omega (arith, leb-true (length (s .queue)) (s .limits .events) (and-left _ _ (fits-test s h 3))))) refl) h) (λ h. and-right _ _ h)
 
 -- several events more, whatever the state
-pub fits-push-all : (es : List Scheduled) (s : State) → stateFits (pushedAll es s) ≡ ((queueRoom (length es) s and every (eventInRange s) es) and stateFits s)
+pub fits-push-all : (es : List Scheduled) (s : State)
+    → stateFits (pushedAll es s) ≡ ((queueRoom (length es) s and every (eventInRange s) es) and stateFits s)
 unfolding pushedAll
 fits-push-all [] s = fits-none s
 fits-push-all (e ∷ es) s =

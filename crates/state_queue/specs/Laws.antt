@@ -1,8 +1,8 @@
 -- What the proofs of lib.rt cite. Assumes nothing.
 use mathlib.Core.Path.{_≡_, refl, sym, ap, ap₂, subst, _∙_}
-use mathlib.Core.Bool.{Bool, true, false}
+use mathlib.Core.Bool.{true, false}
 use mathlib.Core.List.{List, [], _∷_}
-use Prim.Native.Nat.{ℕ, zero, suc, _+_, _-_, _*_, _≤_, _<_}
+use Prim.Native.Nat.{ℕ, _+_, _-_, _*_, _≤_, _<_}
 use native.Mathlib.Nat.{mul-le-mul-right}
 use native.Mathlib.Omega.{arith}
 use lib.Dec.{leb, eqb}
@@ -29,7 +29,7 @@ use Rattle.model.specs.State.{State}
 use Rattle.model.specs.Fields.{withQueue}
 use Rattle.model.specs.Fits.{stateFits}
 use Rattle.state.specs.declared.Capacity.{Capacity}
-use Rattle.state.specs.Sizes.{sizes, queueAt, queueWords, Within, Counted}
+use Rattle.state.specs.Sizes.{sizes, queueAt, queueWords, Counted}
 use Rattle.state.specs.SizeLaws.{room}
 use Rattle.state.specs.Parts.{countsWords}
 use Rattle.state.specs.Area.{Area, capacityOf, countsOf, queueCode}
@@ -116,13 +116,15 @@ module _ (b : List ℕ) (F : Capacity) (at w : ℕ) where
   queue-end i p q = omega (arith, i .long, room F, p .is, q .is)
 
   -- there is a row, with room for a message
-  pub first-within : (count : ℕ) → Inside b F → Counted at (queueAt F) → Counted w (queueWords F) → count ≤ F .limits .message → 56 + count ≤ length (lentRow at w b)
+  pub first-within : (count : ℕ) → Inside b F → Counted at (queueAt F) → Counted w (queueWords F) → count ≤ F .limits .message
+      → 56 + count ≤ length (lentRow at w b)
   first-within count i p q k =
       let o : 1 * (7 + wordsFor (F .limits .message)) ≤ queueWords F = mul-le-mul-right (7 + wordsFor (F .limits .message)) (i .within .limits .events-low) in
       omega (arith, o, q .is, length-lentRow at w b (queue-end i p q))
 
   -- n rows, and one more
-  pub rows-within : (n : ℕ) → Inside b F → Counted at (queueAt F) → Counted w (queueWords F) → n ≤ F .limits .events → 8 * (n * (7 + wordsFor (F .limits .message))) ≤ length (lentRow at w b)
+  pub rows-within : (n : ℕ) → Inside b F → Counted at (queueAt F) → Counted w (queueWords F) → n ≤ F .limits .events
+      → 8 * (n * (7 + wordsFor (F .limits .message))) ≤ length (lentRow at w b)
   rows-within n i p q k = omega (arith, row-start n (F .limits .events) (7 + wordsFor (F .limits .message)) k, q .is, length-lentRow at w b (queue-end i p q))
 
   pub row-within : (n : ℕ) → Inside b F → Counted at (queueAt F) → Counted w (queueWords F) → n < F .limits .events
@@ -142,7 +144,8 @@ module _ (b : List ℕ) (F : Capacity) (at w : ℕ) where
 
     -- ---- the first event
 
-    pub first-read : (n : ℕ) (r : Earliest) → Reads b F n queueLength → (n ≡ 0 → ⊥) → GivesFirst r (lentRow at w b) → Reads b F (Some r) nextEvent
+    pub first-read : (n : ℕ) (r : Earliest) → Reads b F n queueLength → (n ≡ 0 → ⊥) → GivesFirst r (lentRow at w b)
+        → Reads b F (Some r) nextEvent
     unfolding queueLength nextEvent firstOf
     first-read n r c k g = record { to = λ s h ef. by s (s .queue) (λ e. k (c .to s h ef ∙ ap length e)) (queue-held s h ef) }
       where
@@ -160,11 +163,13 @@ module _ (b : List ℕ) (F : Capacity) (at w : ℕ) where
     -- ---- one event more, one event less
 
     -- another queue of a state, put with its count
-    queue-put : (s s′ : State) (r ys : List ℕ) (v : ℕ) → AreaOf b r F s → capacityOf s ≡ capacityOf s′ → set (set (contents s) 10 ys) 6 (bytes (set (countsWords (countsOf s)) 0 v)) ≡ contents s′ → stateFits s′ ≡ true
+    queue-put : (s s′ : State) (r ys : List ℕ) (v : ℕ) → AreaOf b r F s → capacityOf s ≡ capacityOf s′
+        → set (set (contents s) 10 ys) 6 (bytes (set (countsWords (countsOf s)) 0 v)) ≡ contents s′ → stateFits s′ ≡ true
         → AreaOf (sets (backRow at w b ys) (8 * 83) (bytesOfNumber 8 v)) r F s′
     queue-put s s′ r ys v h c e t = table-put h queue-spans s′ ys c 83 0 v (λ z. omega arith) refl (omega arith) e t
 
-    pub push-put : (n : ℕ) (e : Scheduled) (ys b₂ : List ℕ) → Reads b F n queueLength → Pushes e (F .limits .message) n (lentRow at w b) ys → b₂ ≡ sets (backRow at w b ys) (8 * 83) (bytesOfNumber 8 (n + 1)) → Changes b b₂ F (pushed e)
+    pub push-put : (n : ℕ) (e : Scheduled) (ys b₂ : List ℕ) → Reads b F n queueLength → Pushes e (F .limits .message) n (lentRow at w b) ys
+        → b₂ ≡ sets (backRow at w b ys) (8 * 83) (bytesOfNumber 8 (n + 1)) → Changes b b₂ F (pushed e)
     unfolding queueLength pushed push eventInRange
     push-put n e ys b₂ c k eb = record {
       to = λ s r h t.
@@ -178,7 +183,8 @@ module _ (b : List ℕ) (F : Capacity) (at w : ℕ) where
           (queue-put s (pushed e s) r ys (n + 1) h refl (ap₂ (λ (y : List ℕ) (m : ℕ). set (set (contents s) 10 y) 6 (bytes (set (countsWords (countsOf s)) 0 m))) (held .holds .is) ev) t);
     }
 
-    pub take-put : (n : ℕ) (ys b₂ : List ℕ) → Reads b F n queueLength → Removes (F .limits .message) n (lentRow at w b) ys → b₂ ≡ sets (backRow at w b ys) (8 * 83) (bytesOfNumber 8 (n - 1)) → Changes b b₂ F dequeued
+    pub take-put : (n : ℕ) (ys b₂ : List ℕ) → Reads b F n queueLength → Removes (F .limits .message) n (lentRow at w b) ys
+        → b₂ ≡ sets (backRow at w b ys) (8 * 83) (bytesOfNumber 8 (n - 1)) → Changes b b₂ F dequeued
     unfolding queueLength dequeued
     take-put n ys b₂ c k eb = record {
       to = λ s r h t.
@@ -201,7 +207,8 @@ unfolding messageRoom
 room-most M e = pick-both (λ (n : ℕ). n ≤ M) (eqb (wordsOf e .kind) 1) (omega arith) (omega arith)
 
 -- the first event of a state in an area is in range
-pub first-in-range : (b : List ℕ) (F : Capacity) (r : Earliest) → Reads b F (Some r) nextEvent → (s : State) → Area b s → F ≡ capacityOf s → FirstInRange F r
+pub first-in-range : (b : List ℕ) (F : Capacity) (r : Earliest) → Reads b F (Some r) nextEvent → (s : State) → Area b s → F ≡ capacityOf s
+    → FirstInRange F r
 unfolding nextEvent firstOf
 first-in-range b F r p s h ef = subst (λ (G : Capacity). FirstInRange G r) (sym ef) (by (s .queue) (p .to s h ef) (and-left _ _ (and-right _ _ (fits-test s (area-fits h) 3))))
   where

@@ -1,12 +1,12 @@
--- Pushes in a row: the clients' first events and the servers' starts as lists of events, question 10 by each, and what the proof of push_first_sends cites. Assumes nothing.
+-- Pushes in a row: the clients' first events and the servers' starts as lists of events, question 10 by each, and what the proof of
+-- push_first_sends cites. Assumes nothing.
 use mathlib.Core.Path.{_≡_, refl, sym, ap, ap₂, subst, _∙_}
-use mathlib.Core.Bool.{Bool, true}
+use mathlib.Core.Bool.{true}
 use mathlib.Core.List.{List, [], _∷_, _++_, append-assoc, append-nil}
 use Prim.Native.Nat.{ℕ, zero, suc, _+_, _-_, _^_, _≤_, _<_}
 use native.Mathlib.Nat.{zero-add}
 use native.Mathlib.Numerals.{add-one}
 use native.Mathlib.Omega.{arith}
-use lib.Dec.{ltb}
 use lib.ListN.{length}
 use borrow.Author.Tests.{lt-ltb, eqb-true}
 use Rattle.laws.specs.Bools.{_and_, and-left, and-right, and-both, every}
@@ -21,19 +21,19 @@ use Rattle.config.specs.Laws.{in-limits}
 use Rattle.network.specs.Laws.{length-listFrom, listFrom-snoc}
 use Rattle.queue.specs.declared.Event.the-variants as event
 use Rattle.queue.specs.Queue.{Scheduled}
-use Rattle.queue.specs.Range.{word, messageRoom}
+use Rattle.queue.specs.Range.{word}
 use Rattle.model.specs.State.{State}
 use Rattle.model.specs.Simulation.{firstSends, spreadStarts}
 use Rattle.model.specs.Fits.{stateFits}
 use Rattle.state.specs.declared.Capacity.{Capacity}
 use Rattle.state.specs.declared.Run.{Run}
-use Rattle.state.specs.Area.{Area, capacityOf, runOf}
+use Rattle.state.specs.Area.{runOf}
 use Rattle.state.specs.Fitting.{accepted-is, area-fits}
 use Rattle.state.specs.FitsBy.{fits-test, server-count}
 use Rattle.state.specs.Changes.{Inside, AreaOf, Changes, Reads}
 use Rattle.state.specs.Puts.{both}
 use Rattle.state.specs.Exits.{inside-after}
-use Rattle.state_queue.specs.Events.{queueRoom, eventInRange, pushed, plain, pushedAll, sendEvents, startEvents, firstSent, spreadStarted, nowOf, Sending, Starting}
+use Rattle.state_queue.specs.Events.{queueRoom, eventInRange, pushed, plain, pushedAll, sendEvents, startEvents, firstSent, spreadStarted, Sending, Starting}
 use Rattle.state_queue.specs.Fits.{same-tests, fits-unpushed, fits-push-all, room-pushed-all, plain-range}
 
 -- ---- changes and then a push
@@ -49,7 +49,8 @@ pushed-last [] e s = refl
 pushed-last (x ∷ es) e s = pushed-last es e (pushed x s)
 
 -- several pushes and then one more
-pub pushed-more : {b b₁ b₂ : List ℕ} {F : Capacity} (es : List Scheduled) (e : Scheduled) → Changes b b₁ F (pushedAll es) → Changes b₁ b₂ F (pushed e) → Changes b b₂ F (pushedAll (es ++ e ∷ []))
+pub pushed-more : {b b₁ b₂ : List ℕ} {F : Capacity} (es : List Scheduled) (e : Scheduled) → Changes b b₁ F (pushedAll es)
+    → Changes b₁ b₂ F (pushed e) → Changes b b₂ F (pushedAll (es ++ e ∷ []))
 pushed-more {b} {b₁} {b₂} {F} es e p q = record {
   to = λ s r h t.
       subst (AreaOf b₂ r F) (sym (pushed-last es e s)) (pushed-after (pushedAll es) e p q s r h (ap stateFits (sym (pushed-last es e s)) ∙ t));
@@ -64,7 +65,8 @@ first-sends-are zero c s = refl
 first-sends-are (suc n) c s = first-sends-are n (suc c) (pushed (plain (s .now) (event.ClientSend c)) s)
 
 -- the starts of the servers
-pub spread-starts-are : (n spread slot : ℕ) (g : Rng) (s : State) → spreadStarts s spread slot n g ≡ pushedAll (startEvents spread slot n g) s
+pub spread-starts-are : (n spread slot : ℕ) (g : Rng) (s : State)
+    → spreadStarts s spread slot n g ≡ pushedAll (startEvents spread slot n g) s
 unfolding spreadStarts pushedAll startEvents pushed
 spread-starts-are zero spread slot g s = refl
 spread-starts-are (suc n) spread slot g s = spread-starts-are n spread (suc slot) (under g spread .next) (pushed (plain (record { 0 = under g spread .value }) (event.Start slot)) s)
@@ -83,7 +85,8 @@ module _ (s : State) (h : stateFits s ≡ true) where
   in-limits-of : InLimits (s .config .servers) (s .config .clients) (s .limits)
   in-limits-of = in-limits (s .config) (s .limits) (judge (s .config) (s .limits)) refl (accepted-is (judge (s .config) (s .limits)) (fits-test s h 0))
 
-  sends-in-range : (time : SimTime) → word (time .0) ≡ true → (n c : ℕ) → c + n ≤ s .config .clients → every (eventInRange s) (sendEvents time c n) ≡ true
+  sends-in-range : (time : SimTime) → word (time .0) ≡ true → (n c : ℕ) → c + n ≤ s .config .clients
+      → every (eventInRange s) (sendEvents time c n) ≡ true
   unfolding sendEvents listFrom
   sends-in-range time w zero c k = refl
   sends-in-range time w (suc n) c k =
@@ -92,7 +95,8 @@ module _ (s : State) (h : stateFits s ≡ true) where
       (plain-range s time (event.ClientSend c) ∙ and-both _ _ w (and-both _ _ (and-both _ _ refl (and-both _ _ (bits c (s .config .clients) l (in-limits-of .clients)) (and-both _ _ refl (and-both _ _ refl refl)))) (lt-ltb c (s .config .clients) l)))
       (sends-in-range time w n (suc c) (omega arith))
 
-  starts-in-range : (spread : ℕ) → 0 < spread → spread ≤ 2 ^ 64 → (n slot : ℕ) (g : Rng) → slot + n ≤ s .config .servers → every (eventInRange s) (startEvents spread slot n g) ≡ true
+  starts-in-range : (spread : ℕ) → 0 < spread → spread ≤ 2 ^ 64 → (n slot : ℕ) (g : Rng) → slot + n ≤ s .config .servers
+      → every (eventInRange s) (startEvents spread slot n g) ≡ true
   unfolding startEvents
   starts-in-range spread p q zero slot g k = refl
   starts-in-range spread p q (suc n) slot g k =
@@ -121,7 +125,8 @@ fits-first-sent s =
     and-both _ _ (and-both _ _ (ap (λ (m : ℕ). queueRoom m s) c ∙ and-left _ _ h) (sends-in-range s f (s .now) (fits-test s f 2) n 0 (omega (arith, c)))) f)
 
 -- the starts of all servers, whatever the state
-pub fits-spread-started : (s : State) (spread : ℕ) (g : Rng) → 0 < spread → spread ≤ 2 ^ 64 → stateFits (spreadStarted spread g s) ≡ (queueRoom (s .config .servers) s and stateFits s)
+pub fits-spread-started : (s : State) (spread : ℕ) (g : Rng) → 0 < spread → spread ≤ 2 ^ 64
+    → stateFits (spreadStarted spread g s) ≡ (queueRoom (s .config .servers) s and stateFits s)
 unfolding spreadStarted
 fits-spread-started s spread g p q =
     let n : ℕ = length (s .servers) in
@@ -136,7 +141,8 @@ fits-spread-started s spread g p q =
     and-both _ _ (and-both _ _ (ap (λ (m : ℕ). queueRoom m s) c ∙ and-left _ _ h) (starts-in-range s f spread p q n 0 g (omega (arith, c)))) f)
 
 -- and the room that they leave
-pub room-spread-started : (s : State) (spread : ℕ) (g : Rng) (n : ℕ) → queueRoom n (spreadStarted spread g s) ≡ queueRoom (length (s .servers) + n) s
+pub room-spread-started : (s : State) (spread : ℕ) (g : Rng) (n : ℕ)
+    → queueRoom n (spreadStarted spread g s) ≡ queueRoom (length (s .servers) + n) s
 unfolding spreadStarted
 room-spread-started s spread g n =
     ap (queueRoom n) (spread-starts-are (length (s .servers)) spread 0 g s) ∙ room-pushed-all (startEvents spread 0 (length (s .servers)) g) s n
@@ -156,7 +162,8 @@ module _ (b : List ℕ) (F : Capacity) where
   }
 
   module _ (time : SimTime) (b₁ : List ℕ) (c : ℕ) (p : Sending b F time b₁ c) where
-    pub sending-turn : (b₂ : List ℕ) → c < F .clients → length b₂ ≡ length b₁ → Changes b₁ b₂ F (pushed (plain time (event.ClientSend c))) → Sending b F time b₂ (c + 1)
+    pub sending-turn : (b₂ : List ℕ) → c < F .clients → length b₂ ≡ length b₁ → Changes b₁ b₂ F (pushed (plain time (event.ClientSend c)))
+        → Sending b F time b₂ (c + 1)
     unfolding sendEvents
     sending-turn b₂ k l q =
         let last : sendEvents time 0 (c + 1) ≡ sendEvents time 0 c ++ plain time (event.ClientSend c) ∷ [] =
@@ -195,7 +202,8 @@ module _ (b : List ℕ) (F : Capacity) (spread : ℕ) (g : Rng) where
   }
 
   module _ (b₁ : List ℕ) (next : Rng) (slot : ℕ) (p : Starting b F spread g b₁ next slot) where
-    pub starting-turn : (b₂ : List ℕ) (d : Drawn) → slot < F .servers → length b₂ ≡ length b₁ → d ≡ under next spread → Changes b₁ b₂ F (pushed (plain (record { 0 = d .value }) (event.Start slot)))
+    pub starting-turn : (b₂ : List ℕ) (d : Drawn) → slot < F .servers → length b₂ ≡ length b₁ → d ≡ under next spread
+        → Changes b₁ b₂ F (pushed (plain (record { 0 = d .value }) (event.Start slot)))
         → Starting b F spread g b₂ (d .next) (slot + 1)
     unfolding startEvents
     starting-turn b₂ d k l e q =

@@ -38,7 +38,8 @@ module _ (b : List ℕ) (F : Capacity) (at : ℕ) where
   clients-within i p = omega (arith, length-lentRow at (F .clients * 8) b (clients-end i p))
 
   module _ (p : Counted at (clientsAt F)) where
-    clients-held : (s : State) → Area b s → F ≡ capacityOf s → Held (clients (s .config .servers)) (s .config .clients * 8) (F .clients) (lentRow at (F .clients * 8) b) (s .clients)
+    clients-held : (s : State) → Area b s → F ≡ capacityOf s
+        → Held (clients (s .config .servers)) (s .config .clients * 8) (F .clients) (lentRow at (F .clients * 8) b) (s .clients)
     clients-held s h ef = subst (λ (G : Capacity). Held (clients (s .config .servers)) (s .config .clients * 8) (G .clients) (lentRow at (F .clients * 8) b) (s .clients)) (sym ef)
         (record { holds = lent-holds (spans-is (p .is) refl (clients-span F)) (clientsCode (capacityOf s)) b s (s .clients) ef (h .laid .clients) })
 
@@ -46,7 +47,8 @@ module _ (b : List ℕ) (F : Capacity) (at : ℕ) where
     clients-are : (s : State) → Area b s → F ≡ capacityOf s → length (s .clients) ≡ F .clients
     clients-are s h ef = eqb-true _ _ (fits-test s (area-fits h) 9) ∙ ap (λ (G : Capacity). G .clients) (sym ef)
 
-    pub client-read : (c : ℕ) (r : ClientRow) → c < F .clients → ReadsClient (F .clients) c r (lentRow at (F .clients * 8) b) → Reads b F (clientOf r) (clientRead c)
+    pub client-read : (c : ℕ) (r : ClientRow) → c < F .clients → ReadsClient (F .clients) c r (lentRow at (F .clients * 8) b)
+        → Reads b F (clientOf r) (clientRead c)
     unfolding clientRead
     client-read c r k g = record {
       to = λ s h ef. taken (sym (at-there (s .clients) c noClient (omega (arith, clients-are s h ef))) ∙ g .to (s .config .servers) (s .config .clients * 8) (s .clients) (clients-held s h ef));
@@ -55,7 +57,8 @@ module _ (b : List ℕ) (F : Capacity) (at : ℕ) where
         taken : {x y : Client} → some x ≡ some y → y ≡ x
         taken e = cc
 
-    pub client-put : (c : ℕ) (v : ClientRow) (ys : List ℕ) → c < F .clients → WritesClient (F .clients) c v (lentRow at (F .clients * 8) b) ys
+    pub client-put : (c : ℕ) (v : ClientRow) (ys : List ℕ) → c < F .clients
+        → WritesClient (F .clients) c v (lentRow at (F .clients * 8) b) ys
         → Changes b (backRow at (F .clients * 8) b ys) F (clientSet c (clientOf v))
     unfolding clientSet clientOf
     client-put c v ys k g = record {
@@ -69,7 +72,8 @@ module _ (b : List ℕ) (F : Capacity) (at : ℕ) where
     }
 
 -- a client of a state in an area sends to a server of the cluster
-pub client-target : (b : List ℕ) (F : Capacity) (c : ℕ) (r : ClientRow) → Reads b F (clientOf r) (clientRead c) → c < F .clients → (s : State) → Area b s → F ≡ capacityOf s → r .target < F .servers
+pub client-target : (b : List ℕ) (F : Capacity) (c : ℕ) (r : ClientRow) → Reads b F (clientOf r) (clientRead c) → c < F .clients
+    → (s : State) → Area b s → F ≡ capacityOf s → r .target < F .servers
 unfolding clientRead clientOf
 client-target b F c r p k s h ef =
     let f : Client → Bool = clientStateFits (s .config) (s .limits) in

@@ -1,6 +1,5 @@
 -- What the proofs of the functions on confirmations cite. Assumes nothing.
 use mathlib.Core.Path.{_≡_, refl, sym, ap, ap₂, subst, _∙_}
-use mathlib.Core.Bool.{true}
 use mathlib.Core.List.{List, [], _∷_, _++_}
 use Prim.Native.Nat.{ℕ, _+_, _-_, _*_, _≤_, _<_}
 use native.Mathlib.Omega.{arith}
@@ -18,7 +17,6 @@ use Rattle.checks_durability.specs.Replies.{appendingNumber, roomCode}
 use Rattle.clients.specs.declared.confirmations.Confirmation.{Confirmation as ConfirmationRow}
 use Rattle.clients.specs.Confirmations.{Confirmation, confirmationOf, confirmations, ReadsConfirmation, Outcome, AppendsConfirmation}
 use Rattle.model.specs.State.{State}
-use Rattle.model.specs.Fits.{stateFits}
 use Rattle.state.specs.declared.Capacity.{Capacity}
 use Rattle.state.specs.Sizes.{confirmationsAt, Counted}
 use Rattle.state.specs.SizeLaws.{room}
@@ -38,10 +36,12 @@ module _ (b : List ℕ) (F : Capacity) (at : ℕ) where
   pub confirmations-end : Inside b F → Counted at (confirmationsAt F) → 8 * (at + F .limits .history * 3) ≤ length b
   confirmations-end i p = omega (arith, i .long, room F, p .is)
 
-  pub confirmations-within : Inside b F → Counted at (confirmationsAt F) → 8 * (F .limits .history * 3) ≤ length (lentRow at (F .limits .history * 3) b)
+  pub confirmations-within : Inside b F → Counted at (confirmationsAt F)
+      → 8 * (F .limits .history * 3) ≤ length (lentRow at (F .limits .history * 3) b)
   confirmations-within i p = omega (arith, length-lentRow at (F .limits .history * 3) b (confirmations-end i p))
 
-  pub confirmations-rows : (n : ℕ) → Inside b F → Counted at (confirmationsAt F) → n ≤ F .limits .history → 8 * (n * 3) ≤ length (lentRow at (F .limits .history * 3) b)
+  pub confirmations-rows : (n : ℕ) → Inside b F → Counted at (confirmationsAt F) → n ≤ F .limits .history
+      → 8 * (n * 3) ≤ length (lentRow at (F .limits .history * 3) b)
   confirmations-rows n i p k = omega (arith, confirmations-within i p)
 
 module _ (b : List ℕ) (F : Capacity) where
@@ -66,12 +66,14 @@ module _ (b : List ℕ) (F : Capacity) where
       confirmations-spans : Spans F 14 at (F .limits .history * 3)
       confirmations-spans = spans-is (p .is) refl (confirmations-span F)
 
-      confirmations-held : (s : State) → Area b s → F ≡ capacityOf s → Held confirmations (s .limits .history * 3) n (lentRow at (F .limits .history * 3) b) (s .confirmations)
+      confirmations-held : (s : State) → Area b s → F ≡ capacityOf s
+          → Held confirmations (s .limits .history * 3) n (lentRow at (F .limits .history * 3) b) (s .confirmations)
       unfolding confirmationCount
       confirmations-held s h ef = subst (λ (m : ℕ). Held confirmations (s .limits .history * 3) m (lentRow at (F .limits .history * 3) b) (s .confirmations)) (sym (c .to s h ef))
           (record { holds = lent-holds confirmations-spans (confirmationsCode (capacityOf s) (countsOf s)) b s (s .confirmations) ef (h .laid .confirmations) })
 
-      pub confirmation-read : (i : ℕ) (r : ConfirmationRow) → ReadsConfirmation n i r (lentRow at (F .limits .history * 3) b) → Reads b F (confirmationRead (confirmation.Some r)) (confirmationAt i)
+      pub confirmation-read : (i : ℕ) (r : ConfirmationRow) → ReadsConfirmation n i r (lentRow at (F .limits .history * 3) b)
+          → Reads b F (confirmationRead (confirmation.Some r)) (confirmationAt i)
       unfolding confirmationRead confirmationAt
       confirmation-read i r g = record { to = λ s h ef. sym (g .to (s .limits .history * 3) (s .confirmations) (confirmations-held s h ef)) }
 
@@ -79,7 +81,9 @@ module _ (b : List ℕ) (F : Capacity) where
         abbrev x : Confirmation
         x = confirmationOf r
 
-        pub confirmation-put : (m : ℕ) (b₂ : List ℕ) → a ≡ Appended m → b₂ ≡ sets (backRow at (F .limits .history * 3) b ys) (8 * 87) (bytesOfNumber 8 m) → Changes b b₂ F (confirmed (confirmationOf r))
+        pub confirmation-put : (m : ℕ) (b₂ : List ℕ) → a ≡ Appended m
+            → b₂ ≡ sets (backRow at (F .limits .history * 3) b ys) (8 * 87) (bytesOfNumber 8 m)
+            → Changes b b₂ F (confirmed (confirmationOf r))
         unfolding confirmed append confirmationCount
         confirmation-put m b₂ ea eb = record {
           to = λ s l h t.

@@ -1,21 +1,18 @@
 -- What the proofs of the functions on discarded entries cite. Assumes nothing.
-use mathlib.Core.Path.{_≡_, refl, sym, ap, ap₂, subst, _∙_}
+use mathlib.Core.Path.{_≡_, refl, sym, ap, subst, _∙_}
 use mathlib.Core.Bool.{Bool, true, false}
-use mathlib.Core.List.{List, [], _∷_}
-use Prim.Native.Nat.{ℕ, zero, suc, _+_, _-_, _*_, _^_, _≤_, _<_}
+use mathlib.Core.List.{List, []}
+use Prim.Native.Nat.{ℕ, _+_, _-_, _*_, _^_, _≤_, _<_}
 use native.Mathlib.Nat.{zero-add}
 use native.Mathlib.Omega.{arith}
-use lib.Dec.{ltb}
 use lib.ListN.{length, getD, drop, take, drop-of-length-le}
-use borrow.Author.Tests.{eqb-true, lt-ltb, le-ltb}
+use borrow.Author.Tests.{lt-ltb, le-ltb}
 use Rattle.laws.specs.Bools.{pick}
 use Rattle.laws.specs.ListLaws.{drop-next}
 use Rattle.words.specs.Words.{W}
-use Rattle.words.specs.Sets.{length-part}
 use Rattle.layout.specs.Tables.{Holds, Held}
 use Rattle.layout.specs.TableLaws.{row-word}
-use Rattle.layout.specs.Parts.{lentRow}
-use Rattle.model.specs.State.{State, Server, newServer}
+use Rattle.model.specs.State.{State, newServer}
 use Rattle.model.specs.Reads.{discardedBy}
 use Rattle.state.specs.declared.Capacity.{Capacity}
 use Rattle.state.specs.Sizes.{blockWords, queueAt, Counted, BlockAt}
@@ -25,7 +22,6 @@ use Rattle.state.specs.Fitting.{area-fits}
 use Rattle.state.specs.FitsBy.{server-count}
 use Rattle.state.specs.Changes.{Inside, Reads}
 use Rattle.state.specs.Tables.{Spans}
-use Rattle.state_records.specs.declared.Sum.{Sum}
 use Rattle.state_records.specs.Records.{discardedAt, sumOf, discardedSum, Adding}
 use Rattle.state_records.specs.Lent.{lent-holds}
 
@@ -39,13 +35,15 @@ module _ (b : List ℕ) (F : Capacity) (end : ℕ) where
   servers-end i p = omega (arith, i .long, room F, p .is)
 
   module _ (p : Counted end (queueAt F)) where
-    servers-held : (s : State) → Area b s → F ≡ capacityOf s → Held (servers (capacityOf s)) (s .config .servers * blockWords (capacityOf s)) (s .config .servers) (take (8 * end - 4096) (drop 4096 b)) (s .servers)
+    servers-held : (s : State) → Area b s → F ≡ capacityOf s
+        → Held (servers (capacityOf s)) (s .config .servers * blockWords (capacityOf s)) (s .config .servers) (take (8 * end - 4096) (drop 4096 b)) (s .servers)
     servers-held s h ef = record {
       holds = subst (λ (n : ℕ). Holds (serversCode (capacityOf s)) (take (8 * n - 4096) (drop 4096 b)) (s .servers)) (sym (p .is))
           (lent-holds (servers-span F) (serversCode (capacityOf s)) b s (s .servers) ef (h .laid .servers));
     }
 
-    pub discarded-read : (k at r : ℕ) → k < F .servers → BlockAt F k at → r ≡ getD (W (take (8 * end - 4096) (drop 4096 b))) (at - 505) 0 → Reads b F r (discardedAt k)
+    pub discarded-read : (k at r : ℕ) → k < F .servers → BlockAt F k at → r ≡ getD (W (take (8 * end - 4096) (drop 4096 b))) (at - 505) 0
+        → Reads b F r (discardedAt k)
     unfolding discardedAt
     discarded-read k at r l a e = record {
       to = λ s h ef.

@@ -26,11 +26,13 @@ pub spans-is : {F : Capacity} {i at at′ w w′ : ℕ} → at ≡ at′ → w �
 spans-is {F} {i} {at} {at′} {w} {w′} e f p = subst (λ (a : ℕ). Spans F i a w) (sym e) (subst (Spans F i at′) (sym f) p)
 
 -- what region i of a state's area holds is held as it is lent
-pub lent-holds : {F : Capacity} {i at w : ℕ} → Spans F i at w → {A : Type 0} (c : Code A) (b : List ℕ) (s : State) (x : A) → F ≡ capacityOf s → Holds c (getD (cut (sizes (capacityOf s)) b) i []) x → Holds c (lentRow at w b) x
+pub lent-holds : {F : Capacity} {i at w : ℕ} → Spans F i at w → {A : Type 0} (c : Code A) (b : List ℕ) (s : State) (x : A)
+    → F ≡ capacityOf s → Holds c (getD (cut (sizes (capacityOf s)) b) i []) x → Holds c (lentRow at w b) x
 lent-holds {F} {i} p c b s x e h = table-lent p c b x (subst (λ (G : Capacity). Holds c (getD (cut (sizes G) b) i []) x) (sym e) h)
 
 -- word j of the counts, as it is loaded
-pub counted : {b : List ℕ} {s : State} → Area b s → (j : ℕ) → getD (W (take (728 - 664) (drop 664 b))) j 0 ≡ getD (countsWords (countsOf s)) j 0
+pub counted : {b : List ℕ} {s : State} → Area b s → (j : ℕ)
+    → getD (W (take (728 - 664) (drop 664 b))) j 0 ≡ getD (countsWords (countsOf s)) j 0
 counted {b} {s} h j = ap (λ (l : List ℕ). getD (W l) j 0) (region (sizes (capacityOf s)) b 6 (omega arith)) ∙ ap (λ (ws : List ℕ). getD ws j 0) (holds-W (h .laid .counts))
 
 -- counts that are equal have equal histories

@@ -1,7 +1,6 @@
 -- What the proofs of the functions on violations and applied payloads cite. Assumes nothing.
-use mathlib.Core.Path.{_≡_, refl, sym, ap, ap₂, subst, _∙_}
-use mathlib.Core.Bool.{true}
-use mathlib.Core.List.{List, [], _∷_}
+use mathlib.Core.Path.{_≡_, refl, sym, ap, subst, _∙_}
+use mathlib.Core.List.{List}
 use mathlib.Core.Option.{Option, none, some}
 use Prim.Native.Nat.{ℕ, zero, suc, _+_, _-_, _*_, _≤_, _<_}
 use native.Mathlib.Omega.{arith}
@@ -11,7 +10,7 @@ use borrow.Author.Tests.{leb-true}
 use Rattle.laws.specs.Bools.{and-left, and-right}
 use Rattle.laws.specs.Lists.{at}
 use Rattle.laws.specs.ListLaws.{at-there, at-none}
-use Rattle.units.specs.Types.{Payload, noop, command}
+use Rattle.units.specs.Types.{Payload, noop}
 use Rattle.words.specs.Words.{W}
 use Rattle.layout.specs.declared.marked.Kind.{Kind}
 use Rattle.layout.specs.Tables.{Holds, Held, Gives}
@@ -24,7 +23,6 @@ use Rattle.layout.specs.Payload.{payload, payloadMarking, markOf, count-mark}
 use Rattle.layout.specs.MarkedCalls.{Reads as ReadsPayload}
 use Rattle.layout.specs.Applied.{applied}
 use Rattle.checks.specs.declared.violations.Violation.{Violation as Numbers}
-use Rattle.checks.specs.Checks.{Violation}
 use Rattle.checks.specs.Violations.{violations, given, noViolation}
 use Rattle.model.specs.State.{State}
 use Rattle.model.specs.Reads.{appliedAt}
@@ -35,7 +33,7 @@ use Rattle.state.specs.Area.{Area, capacityOf, countsOf, violationsCode, applie
 use Rattle.state.specs.Fitting.{area-fits}
 use Rattle.state.specs.FitsBy.{fits-test}
 use Rattle.state.specs.Changes.{Inside, Reads}
-use Rattle.state.specs.Tables.{Spans, violations-span, applied-span}
+use Rattle.state.specs.Tables.{violations-span, applied-span}
 use Rattle.state_records.specs.declared.ViolationOption.the-variants as violation
 use Rattle.state_records.specs.declared.PayloadOption.{PayloadOption}
 use Rattle.state_records.specs.declared.PayloadOption.the-variants as option
@@ -61,12 +59,15 @@ module _ (b : List ℕ) (F : Capacity) where
     unfolding violationCount violationAt violationGiven
     violation-none i k = record { to = λ s h ef. sym (ap violationGiven (at-none (s .checker .violations) i (omega (arith, c .to s h ef)))) }
 
-    violations-held : (s : State) → Area b s → F ≡ capacityOf s → Held violations 256 n (take (4096 - 2048) (drop 2048 b)) (s .checker .violations)
+    violations-held : (s : State) → Area b s → F ≡ capacityOf s
+        → Held violations 256 n (take (4096 - 2048) (drop 2048 b)) (s .checker .violations)
     unfolding violationCount
     violations-held s h ef = subst (λ (m : ℕ). Held violations 256 m (take (4096 - 2048) (drop 2048 b)) (s .checker .violations)) (sym (c .to s h ef))
         (record { holds = lent-holds (violations-span F) (violationsCode (capacityOf s) (countsOf s)) b s (s .checker .violations) ef (h .laid .violations) })
 
-    pub violation-read : (i : ℕ) (r : Numbers) → i < n → Gives violations n (take (4096 - 2048) (drop 2048 b)) r (λ x. given (getD x i noViolation)) → Reads b F (violation.Some r) (violationAt i)
+    pub violation-read : (i : ℕ) (r : Numbers) → i < n
+        → Gives violations n (take (4096 - 2048) (drop 2048 b)) r (λ x. given (getD x i noViolation))
+        → Reads b F (violation.Some r) (violationAt i)
     unfolding violationCount violationAt violationGiven
     violation-read i r k g = record {
       to = λ s h ef.
@@ -103,7 +104,8 @@ module _ (p n i : ℕ) (s d : List ℕ) where
       none-there : {N : ℕ} (xs : List Payload) → Held (applied p) N n s xs → at xs i ≡ none
       none-there xs h = at-none xs i (omega (arith, held-rows h .count))
 
-  pub place-read : (a : ℕ) (r : PayloadOption) (d′ : List ℕ) → i < n → a ≡ i * (1 + wordsFor p) → ReadsRow p r (lentRow a (1 + wordsFor p) s) d d′ → ReadsPlace p n i r s d d′
+  pub place-read : (a : ℕ) (r : PayloadOption) (d′ : List ℕ) → i < n → a ≡ i * (1 + wordsFor p)
+      → ReadsRow p r (lentRow a (1 + wordsFor p) s) d d′ → ReadsPlace p n i r s d d′
   place-read a r d′ k e g = record {
     kind = λ N xs h. g .kind (getD xs i noop) (row-lent h i a noop k e) ∙ ap payloadKind (sym (there xs h));
     copied = λ N xs h. g .copied (getD xs i noop) (row-lent h i a noop k e) ∙ ap (λ (o : Option Payload). sets d 0 (payloadBytes o)) (sym (there xs h));
@@ -138,7 +140,8 @@ module _ (b : List ℕ) (F : Capacity) where
     pub applied-end : Inside b F → Counted at (appliedWord F) → Counted w (appliedWords F) → 8 * (at + w) ≤ length b
     applied-end i p q = omega (arith, i .long, room F, p .is, q .is)
 
-    pub applied-rows : (n : ℕ) → Inside b F → Counted at (appliedWord F) → Counted w (appliedWords F) → n ≤ F .limits .«log_indexes» → 8 * (n * (1 + wordsFor (F .limits .payload))) ≤ length (lentRow at w b)
+    pub applied-rows : (n : ℕ) → Inside b F → Counted at (appliedWord F) → Counted w (appliedWords F) → n ≤ F .limits .«log_indexes»
+        → 8 * (n * (1 + wordsFor (F .limits .payload))) ≤ length (lentRow at w b)
     applied-rows n i p q k = omega (arith, row-start n (F .limits .«log_indexes») (1 + wordsFor (F .limits .payload)) k, q .is, length-lentRow at w b (applied-end i p q))
 
   module _ (n : ℕ) (c : Reads b F n appliedCount) where
@@ -154,14 +157,16 @@ module _ (b : List ℕ) (F : Capacity) where
         never s h ef = let o : n ≤ F .limits .«log_indexes» = applied-most s h ef in omega arith
 
     module _ (at w : ℕ) (p : Counted at (appliedWord F)) (q : Counted w (appliedWords F)) where
-      applied-held : (s : State) → Area b s → F ≡ capacityOf s → Held (applied (F .limits .payload)) (appliedWords (capacityOf s)) n (lentRow at w b) (s .checker .applied)
+      applied-held : (s : State) → Area b s → F ≡ capacityOf s
+          → Held (applied (F .limits .payload)) (appliedWords (capacityOf s)) n (lentRow at w b) (s .checker .applied)
       unfolding appliedCount
       applied-held s h ef =
           subst (λ (G : Capacity). Held (applied (G .limits .payload)) (appliedWords (capacityOf s)) n (lentRow at w b) (s .checker .applied)) (sym ef)
           (subst (λ (m : ℕ). Held (applied (s .limits .payload)) (appliedWords (capacityOf s)) m (lentRow at w b) (s .checker .applied)) (sym (c .to s h ef))
           (record { holds = lent-holds (spans-is (p .is) (q .is) (applied-span F)) (appliedCode (capacityOf s) (countsOf s)) b s (s .checker .applied) ef (h .laid .applied) }))
 
-      pub index-read : (index : ℕ) (r : PayloadOption) (d d′ : List ℕ) → 1 ≤ index → ReadsPlace (F .limits .payload) n (index - 1) r (lentRow at w b) d d′ → ReadsApplied b F index r d d′
+      pub index-read : (index : ℕ) (r : PayloadOption) (d d′ : List ℕ) → 1 ≤ index
+          → ReadsPlace (F .limits .payload) n (index - 1) r (lentRow at w b) d d′ → ReadsApplied b F index r d d′
       unfolding appliedKind appliedInto
       index-read index r d d′ k g = record {
         kind = record { to = λ s h ef. g .kind (appliedWords (capacityOf s)) (s .checker .applied) (applied-held s h ef) ∙ ap payloadKind (by-index (s .checker .applied) index k) };

@@ -1,6 +1,6 @@
--- The clients of a state in its area, and what the run keeps for its report: what is read of them, and the state with one of them another. Assumes nothing.
+-- The clients of a state in its area, and what the run keeps for its report: what is read of them, and the state with one of them another.
+-- Assumes nothing.
 use mathlib.Core.Path.{_≡_}
-use mathlib.Core.Bool.{Bool}
 use mathlib.Core.List.{List, [], _∷_, _++_}
 use mathlib.Core.Option.{Option, none, some}
 use Prim.Native.Nat.{ℕ, _+_, _^_, _≤_, _<_}

@@ -1,6 +1,5 @@
 -- What the proofs of the functions on replies cite. Assumes nothing.
 use mathlib.Core.Path.{_≡_, refl, sym, ap, ap₂, subst, _∙_}
-use mathlib.Core.Bool.{true}
 use mathlib.Core.List.{List, [], _∷_, _++_}
 use Prim.Native.Nat.{ℕ, _+_, _-_, _*_, _≤_, _<_}
 use native.Mathlib.Omega.{arith}
@@ -17,7 +16,6 @@ use Rattle.checks_durability.specs.declared.replies.Appending.{Appending}
 use Rattle.checks_durability.specs.declared.replies.Appending.the-variants.{Appended, Full}
 use Rattle.checks_durability.specs.Replies.{replies, appendingNumber, roomCode, Outcome, Appends, Reads as ReadsReply}
 use Rattle.model.specs.State.{State}
-use Rattle.model.specs.Fits.{stateFits}
 use Rattle.state.specs.declared.Capacity.{Capacity}
 use Rattle.state.specs.Sizes.{repliesAt, Counted}
 use Rattle.state.specs.SizeLaws.{room}
@@ -40,7 +38,8 @@ module _ (b : List ℕ) (F : Capacity) (at : ℕ) where
   pub replies-within : Inside b F → Counted at (repliesAt F) → 8 * (F .limits .history * 5) ≤ length (lentRow at (F .limits .history * 5) b)
   replies-within i p = omega (arith, length-lentRow at (F .limits .history * 5) b (replies-end i p))
 
-  pub replies-rows : (n : ℕ) → Inside b F → Counted at (repliesAt F) → n ≤ F .limits .history → 8 * (n * 5) ≤ length (lentRow at (F .limits .history * 5) b)
+  pub replies-rows : (n : ℕ) → Inside b F → Counted at (repliesAt F) → n ≤ F .limits .history
+      → 8 * (n * 5) ≤ length (lentRow at (F .limits .history * 5) b)
   replies-rows n i p k = omega (arith, replies-within i p)
 
 module _ (b : List ℕ) (F : Capacity) where
@@ -65,19 +64,22 @@ module _ (b : List ℕ) (F : Capacity) where
       replies-spans : Spans F 13 at (F .limits .history * 5)
       replies-spans = spans-is (p .is) refl (replies-span F)
 
-      replies-held : (s : State) → Area b s → F ≡ capacityOf s → Held (replies (s .limits .«log_indexes») (s .config .clients)) (s .limits .history * 5) n (lentRow at (F .limits .history * 5) b) (s .replies)
+      replies-held : (s : State) → Area b s → F ≡ capacityOf s
+          → Held (replies (s .limits .«log_indexes») (s .config .clients)) (s .limits .history * 5) n (lentRow at (F .limits .history * 5) b) (s .replies)
       unfolding replyCount
       replies-held s h ef = subst (λ (m : ℕ). Held (replies (s .limits .«log_indexes») (s .config .clients)) (s .limits .history * 5) m (lentRow at (F .limits .history * 5) b) (s .replies)) (sym (c .to s h ef))
           (record { holds = lent-holds replies-spans (repliesCode (capacityOf s) (countsOf s)) b s (s .replies) ef (h .laid .replies) })
 
-      pub reply-read : (i : ℕ) (r : Reply) → ReadsReply n i r (lentRow at (F .limits .history * 5) b) → Reads b F (replyOf (reply.Some r)) (replyAt i)
+      pub reply-read : (i : ℕ) (r : Reply) → ReadsReply n i r (lentRow at (F .limits .history * 5) b)
+          → Reads b F (replyOf (reply.Some r)) (replyAt i)
       unfolding replyOf replyAt
       reply-read i r g = record {
         to = λ s h ef. sym (g .to (s .replies) (record { indexes = s .limits .«log_indexes»; clients = s .config .clients; words = s .limits .history * 5; held = replies-held s h ef }));
       }
 
       module _ (r : Reply) (a : Appending) (ys : List ℕ) (g : Appends r n (F .limits .history) a (lentRow at (F .limits .history * 5) b) ys) where
-        pub reply-put : (m : ℕ) (b₂ : List ℕ) → a ≡ Appended m → b₂ ≡ sets (backRow at (F .limits .history * 5) b ys) (8 * 86) (bytesOfNumber 8 m) → Changes b b₂ F (replied r)
+        pub reply-put : (m : ℕ) (b₂ : List ℕ) → a ≡ Appended m
+            → b₂ ≡ sets (backRow at (F .limits .history * 5) b ys) (8 * 86) (bytesOfNumber 8 m) → Changes b b₂ F (replied r)
         unfolding replied append replyCount
         reply-put m b₂ ea eb = record {
           to = λ s l h t.
