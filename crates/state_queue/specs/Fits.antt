@@ -94,7 +94,8 @@ module _ (s : State) (e : Scheduled) where
   unfolding pushed push
   fits-unpushed h =
       let t : queueFits (s .config) (s .limits) q′ ≡ true = fits-test (pushed e s) h 3 in
-      fits-one (pushed e s) s 3 (queueFits (s .config) (s .limits) (s .queue)) (omega arith) t refl ∙ and-both _ _ (and-right _ _ (queue-before t)) h
+      fits-one (pushed e s) s 3 (queueFits (s .config) (s .limits) (s .queue)) (omega arith) t refl
+      ∙ and-both _ _ (and-right _ _ (queue-before t)) h
 
   -- one event more, whatever the state
   pub fits-push : stateFits (pushed e s) ≡ ((queueRoom 1 s and eventInRange s e) and stateFits s)
@@ -104,18 +105,21 @@ module _ (s : State) (e : Scheduled) where
       (λ h. and-both _ _ (and-left _ _ (queue-before (fits-test (pushed e s) h 3))) (fits-unpushed h))
       (λ h.
       let k : queueFits (s .config) (s .limits) (s .queue) ≡ true = fits-test s (and-right _ _ h) 3 in
-      fits-one s (pushed e s) 3 (queueFits (s .config) (s .limits) q′) (omega arith) k refl ∙ and-both _ _ (queue-after k (and-left _ _ h)) (and-right _ _ h))
+      fits-one s (pushed e s) 3 (queueFits (s .config) (s .limits) q′) (omega arith) k refl
+      ∙ and-both _ _ (queue-after k (and-left _ _ h)) (and-right _ _ h))
 
 -- ---- several events more
 
 room-less : (s : State) (m n : ℕ) → m ≤ n → queueRoom n s ≡ true → queueRoom m s ≡ true
 unfolding queueRoom
-room-less s m n l h = le-leb (length (s .queue) + m) (s .limits .events) (omega (arith, leb-true (length (s .queue) + n) (s .limits .events) h))
+room-less s m n l h =
+    le-leb (length (s .queue) + m) (s .limits .events) (omega (arith, leb-true (length (s .queue) + n) (s .limits .events) h))
 
 -- room after a push is room for one more before it
 pub room-pushed : (s : State) (e : Scheduled) (n : ℕ) → queueRoom n (pushed e s) ≡ queueRoom (suc n) s
 unfolding queueRoom pushed push
-room-pushed s e n = ap (λ (m : ℕ). leb m (s .limits .events)) (let o : length (pushBy numbers timeOf e (s .queue)) + n ≡ length (s .queue) + suc n = omega (arith, length-push numbers timeOf e (s .queue)) in o)
+room-pushed s e n =
+    ap (λ (m : ℕ). leb m (s .limits .events)) (let o : length (pushBy numbers timeOf e (s .queue)) + n ≡ length (s .queue) + suc n = omega (arith, length-push numbers timeOf e (s .queue)) in o)
 
 range-pushed : (s : State) (e : Scheduled) (es : List Scheduled) → every (eventInRange (pushed e s)) es ≡ every (eventInRange s) es
 unfolding eventInRange pushed
@@ -133,7 +137,8 @@ unfolding pushedAll
 fits-push-all [] s = fits-none s
 fits-push-all (e ∷ es) s =
     fits-push-all es (pushed e s)
-    ∙ ap₂ (λ (t u : Bool). (t and u) and stateFits (pushed e s)) (room-pushed s e (length es)) (range-pushed s e es) ∙ ap (λ (t : Bool). (queueRoom (suc (length es)) s and every (eventInRange s) es) and t) (fits-push s e)
+    ∙ ap₂ (λ (t u : Bool). (t and u) and stateFits (pushed e s)) (room-pushed s e (length es)) (range-pushed s e es)
+    ∙ ap (λ (t : Bool). (queueRoom (suc (length es)) s and every (eventInRange s) es) and t) (fits-push s e)
     ∙ same-tests ((queueRoom (suc (length es)) s and every (eventInRange s) es) and ((queueRoom 1 s and eventInRange s e) and stateFits s)) ((queueRoom (suc (length es)) s and (eventInRange s e and every (eventInRange s) es)) and stateFits s)
     (λ h. let a = and-left _ _ h in let b = and-right _ _ h in and-both _ _ (and-both _ _ (and-left _ _ a) (and-both _ _ (and-right _ _ (and-left _ _ b)) (and-right _ _ a))) (and-right _ _ b))
     (λ h.
@@ -146,15 +151,19 @@ fits-push-all (e ∷ es) s =
 pub room-pushed-all : (es : List Scheduled) (s : State) (n : ℕ) → queueRoom n (pushedAll es s) ≡ queueRoom (length es + n) s
 unfolding pushedAll
 room-pushed-all [] s n = ap (λ (m : ℕ). queueRoom m s) (sym (zero-add n))
-room-pushed-all (e ∷ es) s n = room-pushed-all es (pushed e s) n ∙ room-pushed s e (length es + n) ∙ ap (λ (m : ℕ). queueRoom m s) (let o : suc (length es + n) ≡ suc (length es) + n = omega arith in o)
+room-pushed-all (e ∷ es) s n =
+    room-pushed-all es (pushed e s) n ∙ room-pushed s e (length es + n)
+    ∙ ap (λ (m : ℕ). queueRoom m s) (let o : suc (length es + n) ≡ suc (length es) + n = omega arith in o)
 
 -- an event that delivers no message
 pub plain-range : (s : State) (time : SimTime) (event : Event)
     → eventInRange s (plain time event) ≡ (word (time .0) and eventFits (s .config .servers) (s .config .clients) (s .limits .«log_indexes») event)
 unfolding eventInRange
 plain-range s time event =
-    let m : messageFits (s .limits .message) event [] ≡ true = and-both _ _ refl (and-both _ _ (le-leb 0 (messageRoom (s .limits .message) event) (omega arith)) refl) in
-    ap (λ (u : Bool). word (time .0) and (eventFits (s .config .servers) (s .config .clients) (s .limits .«log_indexes») event and u)) m ∙ ap (λ (u : Bool). word (time .0) and u) (and-true _)
+    let m : messageFits (s .limits .message) event [] ≡ true =
+    and-both _ _ refl (and-both _ _ (le-leb 0 (messageRoom (s .limits .message) event) (omega arith)) refl) in
+    ap (λ (u : Bool). word (time .0) and (eventFits (s .config .servers) (s .config .clients) (s .limits .«log_indexes») event and u)) m
+    ∙ ap (λ (u : Bool). word (time .0) and u) (and-true _)
 
 -- ---- the first event taken
 
@@ -175,7 +184,8 @@ rest-most (e ∷ q) = omega arith
 -- room after an event was taken is room for one less before it
 pub room-taken : (s : State) (n : ℕ) → 0 < length (s .queue) → queueRoom (suc n) (dequeued s) ≡ queueRoom n s
 unfolding queueRoom dequeued
-room-taken s n k = ap (λ (m : ℕ). leb m (s .limits .events)) (let o : length (rest (s .queue)) + suc n ≡ length (s .queue) + n = omega (arith, rest-most (s .queue)) in o)
+room-taken s n k =
+    ap (λ (m : ℕ). leb m (s .limits .events)) (let o : length (rest (s .queue)) + suc n ≡ length (s .queue) + n = omega (arith, rest-most (s .queue)) in o)
 
 -- the first event taken, where the queue fitted
 pub fits-taken : (s : State) → queueFits (s .config) (s .limits) (s .queue) ≡ true → stateFits (dequeued s) ≡ stateFits s
@@ -184,4 +194,5 @@ fits-taken s h =
     let o : length (s .queue) ≤ s .limits .events = leb-true (length (s .queue)) (s .limits .events) (and-left _ _ h) in
     let t : queueFits (s .config) (s .limits) (rest (s .queue)) ≡ true =
     and-both _ _ (le-leb (length (rest (s .queue))) (s .limits .events) (omega (arith, rest-most (s .queue)))) (and-both _ _ (every-rest _ (s .queue) (and-left _ _ (and-right _ _ h))) (order-rest (s .queue) (and-right _ _ (and-right _ _ h)))) in
-    fits-one s (dequeued s) 3 (queueFits (s .config) (s .limits) (rest (s .queue))) (omega arith) h refl ∙ ap (λ (u : Bool). u and stateFits s) t ∙ true-and _
+    fits-one s (dequeued s) 3 (queueFits (s .config) (s .limits) (rest (s .queue))) (omega arith) h refl
+    ∙ ap (λ (u : Bool). u and stateFits s) t ∙ true-and _

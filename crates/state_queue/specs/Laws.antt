@@ -57,7 +57,9 @@ module _ (b : List ℕ) (F : Capacity) where
   pub count-read : (r : ℕ) → r ≡ getD (W (take (728 - 664) (drop 664 b))) 0 0 → Reads b F r queueLength
   unfolding queueLength
   count-read r e = record {
-    to = λ s h ef. e ∙ ap (λ (l : List ℕ). getD (W l) 0 0) (region (sizes (capacityOf s)) b 6 (omega arith)) ∙ ap (λ (ws : List ℕ). getD ws 0 0) (holds-W (h .laid .counts));
+    to =
+        λ s h ef. e ∙ ap (λ (l : List ℕ). getD (W l) 0 0) (region (sizes (capacityOf s)) b 6 (omega arith))
+        ∙ ap (λ (ws : List ℕ). getD ws 0 0) (holds-W (h .laid .counts));
   }
 
   module _ (n : ℕ) (p : Reads b F n queueLength) where
@@ -74,7 +76,8 @@ module _ (b : List ℕ) (F : Capacity) where
     unfolding queueLength queueRoom
     room-read more k = record {
       to = λ s h ef.
-          shifted n more (F .limits .events) k ∙ ap₂ (λ (m u : ℕ). leb (m + more) u) (p .to s h ef) (ap (λ (G : Capacity). G .limits .events) ef);
+          shifted n more (F .limits .events) k
+          ∙ ap₂ (λ (m u : ℕ). leb (m + more) u) (p .to s h ef) (ap (λ (G : Capacity). G .limits .events) ef);
     }
       where
         shifted : (a c d : ℕ) → a ≤ d → leb c (d - a) ≡ leb (a + c) d
@@ -89,7 +92,8 @@ module _ (b : List ℕ) (F : Capacity) where
 
     pub take-none : n ≡ 0 → Changes b b F dequeued
     unfolding queueLength dequeued
-    take-none k = record { to = λ s r h t. subst (λ (q : Queue). AreaOf b r F (withQueue s q)) (was-empty (s .queue) (sym (p .to s (h .area) (h .capacity)) ∙ k)) h }
+    take-none k =
+        record { to = λ s r h t. subst (λ (q : Queue). AreaOf b r F (withQueue s q)) (was-empty (s .queue) (sym (p .to s (h .area) (h .capacity)) ∙ k)) h }
 
     pub take-past : F .limits .events < n → Changes b b F dequeued
     take-past k = record { to = λ s r h t. absurd (let o : n ≤ F .limits .events = count-most s (h .area) (h .capacity) in omega arith) }
@@ -98,7 +102,8 @@ module _ (b : List ℕ) (F : Capacity) where
     unfolding queueLength queueRoom
     push-full e k = record {
       to = λ s r h t.
-          let o : length (s .queue) + 1 ≤ s .limits .events = leb-true (length (s .queue) + 1) (s .limits .events) (and-left _ _ (and-left _ _ (sym (fits-push s e) ∙ t))) in
+          let o : length (s .queue) + 1 ≤ s .limits .events =
+          leb-true (length (s .queue) + 1) (s .limits .events) (and-left _ _ (and-left _ _ (sym (fits-push s e) ∙ t))) in
           absurd (omega (arith, o, p .to s (h .area) (h .capacity), ap (λ (G : Capacity). G .limits .events) (h .capacity)));
     }
 
@@ -119,17 +124,20 @@ module _ (b : List ℕ) (F : Capacity) (at w : ℕ) where
   pub first-within : (count : ℕ) → Inside b F → Counted at (queueAt F) → Counted w (queueWords F) → count ≤ F .limits .message
       → 56 + count ≤ length (lentRow at w b)
   first-within count i p q k =
-      let o : 1 * (7 + wordsFor (F .limits .message)) ≤ queueWords F = mul-le-mul-right (7 + wordsFor (F .limits .message)) (i .within .limits .events-low) in
+      let o : 1 * (7 + wordsFor (F .limits .message)) ≤ queueWords F =
+      mul-le-mul-right (7 + wordsFor (F .limits .message)) (i .within .limits .events-low) in
       omega (arith, o, q .is, length-lentRow at w b (queue-end i p q))
 
   -- n rows, and one more
   pub rows-within : (n : ℕ) → Inside b F → Counted at (queueAt F) → Counted w (queueWords F) → n ≤ F .limits .events
       → 8 * (n * (7 + wordsFor (F .limits .message))) ≤ length (lentRow at w b)
-  rows-within n i p q k = omega (arith, row-start n (F .limits .events) (7 + wordsFor (F .limits .message)) k, q .is, length-lentRow at w b (queue-end i p q))
+  rows-within n i p q k =
+      omega (arith, row-start n (F .limits .events) (7 + wordsFor (F .limits .message)) k, q .is, length-lentRow at w b (queue-end i p q))
 
   pub row-within : (n : ℕ) → Inside b F → Counted at (queueAt F) → Counted w (queueWords F) → n < F .limits .events
       → 8 * (n * (7 + wordsFor (F .limits .message)) + (7 + wordsFor (F .limits .message))) ≤ length (lentRow at w b)
-  row-within n i p q k = omega (arith, row-end n (F .limits .events) (7 + wordsFor (F .limits .message)) k, q .is, length-lentRow at w b (queue-end i p q))
+  row-within n i p q k =
+      omega (arith, row-end n (F .limits .events) (7 + wordsFor (F .limits .message)) k, q .is, length-lentRow at w b (queue-end i p q))
 
   module _ (p : Counted at (queueAt F)) (q : Counted w (queueWords F)) where
     queue-spans : Spans F 10 at w
@@ -140,7 +148,8 @@ module _ (b : List ℕ) (F : Capacity) (at w : ℕ) where
     }
 
     queue-held : (s : State) → Area b s → F ≡ capacityOf s → InQueue s (lentRow at w b) (s .queue)
-    queue-held s h ef = record { holds = table-lent queue-spans (queueCode (capacityOf s) (countsOf s)) b (s .queue) (subst (λ (G : Capacity). Holds (queueCode (capacityOf s) (countsOf s)) (getD (cut (sizes G) b) 10 []) (s .queue)) (sym ef) (h .laid .queue)) }
+    queue-held s h ef =
+        record { holds = table-lent queue-spans (queueCode (capacityOf s) (countsOf s)) b (s .queue) (subst (λ (G : Capacity). Holds (queueCode (capacityOf s) (countsOf s)) (getD (cut (sizes G) b) 10 []) (s .queue)) (sym ef) (h .laid .queue)) }
 
     -- ---- the first event
 
@@ -177,8 +186,10 @@ module _ (b : List ℕ) (F : Capacity) (at w : ℕ) where
           let good : eventInRange s e ≡ true = and-right _ _ (and-left _ _ (sym (fits-push s e) ∙ t)) in
           let k₁ : Pushes e (s .limits .message) (length (s .queue)) (lentRow at w b) ys =
           subst (λ (G : Capacity). Pushes e (G .limits .message) (length (s .queue)) (lentRow at w b) ys) (h .capacity) (subst (λ (m : ℕ). Pushes e (F .limits .message) m (lentRow at w b) ys) en k) in
-          let held = k₁ .to (s .config .servers) (s .config .clients) (s .limits .«log_indexes») good .to (queueWords (capacityOf s)) (s .queue) (queue-held s (h .area) (h .capacity)) in
-          let ev : n + 1 ≡ length (push (s .queue) (e .time) (e .event) (e .message)) = omega (arith, length-push numbers timeOf e (s .queue), en) in
+          let held =
+          k₁ .to (s .config .servers) (s .config .clients) (s .limits .«log_indexes») good .to (queueWords (capacityOf s)) (s .queue) (queue-held s (h .area) (h .capacity)) in
+          let ev : n + 1 ≡ length (push (s .queue) (e .time) (e .event) (e .message)) =
+          omega (arith, length-push numbers timeOf e (s .queue), en) in
           subst (λ (l : List ℕ). AreaOf l r F (pushed e s)) (sym eb)
           (queue-put s (pushed e s) r ys (n + 1) h refl (ap₂ (λ (y : List ℕ) (m : ℕ). set (set (contents s) 10 y) 6 (bytes (set (countsWords (countsOf s)) 0 m))) (held .holds .is) ev) t);
     }
@@ -191,7 +202,8 @@ module _ (b : List ℕ) (F : Capacity) (at w : ℕ) where
           let en : n ≡ length (s .queue) = c .to s (h .area) (h .capacity) in
           let k₁ : Removes (s .limits .message) (length (s .queue)) (lentRow at w b) ys =
           subst (λ (G : Capacity). Removes (G .limits .message) (length (s .queue)) (lentRow at w b) ys) (h .capacity) (subst (λ (m : ℕ). Removes (F .limits .message) m (lentRow at w b) ys) en k) in
-          let held = k₁ .to (s .config .servers) (s .config .clients) (s .limits .«log_indexes») .to (queueWords (capacityOf s)) (s .queue) (queue-held s (h .area) (h .capacity)) in
+          let held =
+          k₁ .to (s .config .servers) (s .config .clients) (s .limits .«log_indexes») .to (queueWords (capacityOf s)) (s .queue) (queue-held s (h .area) (h .capacity)) in
           let ev : n - 1 ≡ length (rest (s .queue)) = omega (arith, rest-most (s .queue), en) in
           subst (λ (l : List ℕ). AreaOf l r F (dequeued s)) (sym eb)
           (queue-put s (dequeued s) r ys (n - 1) h refl (ap₂ (λ (y : List ℕ) (m : ℕ). set (set (contents s) 10 y) 6 (bytes (set (countsWords (countsOf s)) 0 m))) (held .holds .is) ev) t);
@@ -210,11 +222,13 @@ room-most M e = pick-both (λ (n : ℕ). n ≤ M) (eqb (wordsOf e .kind) 1) (ome
 pub first-in-range : (b : List ℕ) (F : Capacity) (r : Earliest) → Reads b F (Some r) nextEvent → (s : State) → Area b s → F ≡ capacityOf s
     → FirstInRange F r
 unfolding nextEvent firstOf
-first-in-range b F r p s h ef = subst (λ (G : Capacity). FirstInRange G r) (sym ef) (by (s .queue) (p .to s h ef) (and-left _ _ (and-right _ _ (fits-test s (area-fits h) 3))))
+first-in-range b F r p s h ef =
+    subst (λ (G : Capacity). FirstInRange G r) (sym ef) (by (s .queue) (p .to s h ef) (and-left _ _ (and-right _ _ (fits-test s (area-fits h) 3))))
   where
     by : (q : Queue) → _≡_ {A = NextEvent} (Some r) (firstOf q) → every (tableOf s .row .good) q ≡ true → FirstInRange (capacityOf s) r
     by [] e k = absurd (let z : _≡_ {A = ℕ} 0 1 = cc in omega arith)
     by (x ∷ q) e k =
         let f = and-right _ _ (and-left _ _ k) in
-        let l = leb-true (length (x .message)) (messageRoom (s .limits .message) (x .event)) (and-left _ _ (and-right _ _ (and-right _ _ f))) in
+        let l =
+        leb-true (length (x .message)) (messageRoom (s .limits .message) (x .event)) (and-left _ _ (and-right _ _ (and-right _ _ f))) in
         subst (FirstInRange (capacityOf s)) (sym (first-is e)) (record { event = and-right _ _ (and-left _ _ f); message = l; short = omega (arith, l, room-most (s .limits .message) (x .event)) })

@@ -69,7 +69,8 @@ pub spread-starts-are : (n spread slot : ℕ) (g : Rng) (s : State)
     → spreadStarts s spread slot n g ≡ pushedAll (startEvents spread slot n g) s
 unfolding spreadStarts pushedAll startEvents pushed
 spread-starts-are zero spread slot g s = refl
-spread-starts-are (suc n) spread slot g s = spread-starts-are n spread (suc slot) (under g spread .next) (pushed (plain (record { 0 = under g spread .value }) (event.Start slot)) s)
+spread-starts-are (suc n) spread slot g s =
+    spread-starts-are n spread (suc slot) (under g spread .next) (pushed (plain (record { 0 = under g spread .value }) (event.Start slot)) s)
 
 starts-length : (spread n slot : ℕ) (g : Rng) → length (startEvents spread slot n g) ≡ n
 unfolding startEvents
@@ -83,7 +84,8 @@ bits n m h k = lt-ltb n (2 ^ 64) (omega arith)
 
 module _ (s : State) (h : stateFits s ≡ true) where
   in-limits-of : InLimits (s .config .servers) (s .config .clients) (s .limits)
-  in-limits-of = in-limits (s .config) (s .limits) (judge (s .config) (s .limits)) refl (accepted-is (judge (s .config) (s .limits)) (fits-test s h 0))
+  in-limits-of =
+      in-limits (s .config) (s .limits) (judge (s .config) (s .limits)) refl (accepted-is (judge (s .config) (s .limits)) (fits-test s h 0))
 
   sends-in-range : (time : SimTime) → word (time .0) ≡ true → (n c : ℕ) → c + n ≤ s .config .clients
       → every (eventInRange s) (sendEvents time c n) ≡ true
@@ -115,7 +117,8 @@ fits-first-sent s =
     let es : List Scheduled = sendEvents (s .now) 0 n in
     let l : length es ≡ n = length-listFrom (λ k. plain (s .now) (event.ClientSend k)) 0 n in
     let e : stateFits (firstSent s) ≡ ((queueRoom n s and every (eventInRange s) es) and stateFits s) =
-    ap stateFits (first-sends-are n 0 s) ∙ fits-push-all es s ∙ ap (λ (m : ℕ). (queueRoom m s and every (eventInRange s) es) and stateFits s) l in
+    ap stateFits (first-sends-are n 0 s) ∙ fits-push-all es s
+    ∙ ap (λ (m : ℕ). (queueRoom m s and every (eventInRange s) es) and stateFits s) l in
     let clients : stateFits s ≡ true → n ≡ s .config .clients = λ h. eqb-true _ _ (fits-test s h 9) in
     e ∙ same-tests ((queueRoom n s and every (eventInRange s) es) and stateFits s) (queueRoom (s .config .clients) s and stateFits s)
     (λ h. and-both _ _ (ap (λ (m : ℕ). queueRoom m s) (sym (clients (and-right _ _ h))) ∙ and-left _ _ (and-left _ _ h)) (and-right _ _ h))
@@ -132,7 +135,8 @@ fits-spread-started s spread g p q =
     let n : ℕ = length (s .servers) in
     let es : List Scheduled = startEvents spread 0 n g in
     let e : stateFits (spreadStarted spread g s) ≡ ((queueRoom n s and every (eventInRange s) es) and stateFits s) =
-    ap stateFits (spread-starts-are n spread 0 g s) ∙ fits-push-all es s ∙ ap (λ (m : ℕ). (queueRoom m s and every (eventInRange s) es) and stateFits s) (starts-length spread n 0 g) in
+    ap stateFits (spread-starts-are n spread 0 g s) ∙ fits-push-all es s
+    ∙ ap (λ (m : ℕ). (queueRoom m s and every (eventInRange s) es) and stateFits s) (starts-length spread n 0 g) in
     e ∙ same-tests ((queueRoom n s and every (eventInRange s) es) and stateFits s) (queueRoom (s .config .servers) s and stateFits s)
     (λ h. and-both _ _ (ap (λ (m : ℕ). queueRoom m s) (sym (server-count s (and-right _ _ h))) ∙ and-left _ _ (and-left _ _ h)) (and-right _ _ h))
     (λ h.
@@ -145,7 +149,8 @@ pub room-spread-started : (s : State) (spread : ℕ) (g : Rng) (n : ℕ)
     → queueRoom n (spreadStarted spread g s) ≡ queueRoom (length (s .servers) + n) s
 unfolding spreadStarted
 room-spread-started s spread g n =
-    ap (queueRoom n) (spread-starts-are (length (s .servers)) spread 0 g s) ∙ room-pushed-all (startEvents spread 0 (length (s .servers)) g) s n
+    ap (queueRoom n) (spread-starts-are (length (s .servers)) spread 0 g s)
+    ∙ room-pushed-all (startEvents spread 0 (length (s .servers)) g) s n
     ∙ ap (λ (m : ℕ). queueRoom (m + n) s) (starts-length spread (length (s .servers)) 0 g)
 
 -- ---- the loop of push_first_sends
@@ -167,13 +172,15 @@ module _ (b : List ℕ) (F : Capacity) where
     unfolding sendEvents
     sending-turn b₂ k l q =
         let last : sendEvents time 0 (c + 1) ≡ sendEvents time 0 c ++ plain time (event.ClientSend c) ∷ [] =
-        ap (sendEvents time 0) (add-one c) ∙ listFrom-snoc (λ j. plain time (event.ClientSend j)) 0 c ∙ ap (λ (j : ℕ). sendEvents time 0 c ++ plain time (event.ClientSend j) ∷ []) (zero-add c) in
+        ap (sendEvents time 0) (add-one c) ∙ listFrom-snoc (λ j. plain time (event.ClientSend j)) 0 c
+        ∙ ap (λ (j : ℕ). sendEvents time 0 c ++ plain time (event.ClientSend j) ∷ []) (zero-add c) in
         record {
           inside = inside-after b₁ b₂ F (p .inside) l;
           long = l ∙ p .long;
           few = omega arith;
           time-is = p .time-is;
-          changes = subst (λ (es : List Scheduled). Changes b b₂ F (pushedAll es)) (sym last) (pushed-more (sendEvents time 0 c) (plain time (event.ClientSend c)) (p .changes) q);
+          changes =
+              subst (λ (es : List Scheduled). Changes b b₂ F (pushedAll es)) (sym last) (pushed-more (sendEvents time 0 c) (plain time (event.ClientSend c)) (p .changes) q);
         }
 
     pub sending-done : F .clients ≤ c → Changes b b₁ F firstSent
@@ -183,7 +190,8 @@ module _ (b : List ℕ) (F : Capacity) where
           let n : c ≡ length (s .clients) =
           omega (arith, p .few, eqb-true (length (s .clients)) (s .config .clients) (fits-test s (area-fits (h .area)) 9), ap (λ (G : Capacity). G .clients) (h .capacity)) in
           let same : pushedAll (sendEvents time 0 c) s ≡ firstSends s 0 (length (s .clients)) =
-          ap₂ (λ (u : SimTime) (m : ℕ). pushedAll (sendEvents u 0 m) s) (p .time-is .to s (h .area) (h .capacity)) n ∙ sym (first-sends-are (length (s .clients)) 0 s) in
+          ap₂ (λ (u : SimTime) (m : ℕ). pushedAll (sendEvents u 0 m) s) (p .time-is .to s (h .area) (h .capacity)) n
+          ∙ sym (first-sends-are (length (s .clients)) 0 s) in
           subst (AreaOf b₁ r F) same (p .changes .to s r h (ap stateFits same ∙ t));
     }
 
@@ -219,17 +227,21 @@ module _ (b : List ℕ) (F : Capacity) (spread : ℕ) (g : Rng) where
           few = omega arith;
           pushes = p .pushes ++ x ∷ [];
           changes = pushed-more (p .pushes) x (p .changes) q;
-          rest = append-assoc (p .pushes) (x ∷ []) (startEvents spread (slot + 1) (F .servers - (slot + 1)) (d .next)) ∙ ap (λ (es : List Scheduled). p .pushes ++ es) (sym left) ∙ p .rest;
+          rest =
+              append-assoc (p .pushes) (x ∷ []) (startEvents spread (slot + 1) (F .servers - (slot + 1)) (d .next))
+              ∙ ap (λ (es : List Scheduled). p .pushes ++ es) (sym left) ∙ p .rest;
         }
 
     pub starting-done : F .servers ≤ slot → Changes b b₁ F (spreadStarted spread g)
     unfolding spreadStarted startEvents
     starting-done k = record {
       to = λ s r h t.
-          let n : F .servers ≡ length (s .servers) = ap (λ (G : Capacity). G .servers) (h .capacity) ∙ sym (server-count s (area-fits (h .area))) in
+          let n : F .servers ≡ length (s .servers) =
+          ap (λ (G : Capacity). G .servers) (h .capacity) ∙ sym (server-count s (area-fits (h .area))) in
           let z : F .servers - slot ≡ 0 = omega arith in
           let whole : p .pushes ≡ startEvents spread 0 (length (s .servers)) g =
-          sym (append-nil (p .pushes)) ∙ ap (λ (m : ℕ). p .pushes ++ startEvents spread slot m next) (sym z) ∙ p .rest ∙ ap (λ (m : ℕ). startEvents spread 0 m g) n in
+          sym (append-nil (p .pushes)) ∙ ap (λ (m : ℕ). p .pushes ++ startEvents spread slot m next) (sym z) ∙ p .rest
+          ∙ ap (λ (m : ℕ). startEvents spread 0 m g) n in
           let same : pushedAll (p .pushes) s ≡ spreadStarts s spread 0 (length (s .servers)) g =
           ap (λ (es : List Scheduled). pushedAll es s) whole ∙ sym (spread-starts-are (length (s .servers)) spread 0 g s) in
           subst (AreaOf b₁ r F) same (p .changes .to s r h (ap stateFits same ∙ t));

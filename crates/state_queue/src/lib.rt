@@ -1,10 +1,18 @@
 // The event queue of the state that an area holds, read and written in place.
-ghost use mathlib.Core.Path.{_≡_};
-ghost use mathlib.Core.List.{[]};
 ghost use Prim.Native.Nat.{_≤_, _<_};
 ghost use lib.ListN.{length};
 ghost use Rattle.state.specs.Changes.{Inside, Changes, Reads};
-ghost use Rattle.state_queue.specs.Events.{queueLength, queueRoom, nextEvent, CopiesMessage, dequeued, pushed, plain, firstSent, spreadStarted};
+ghost use Rattle.state_queue.specs.Events.{
+  queueLength,
+  queueRoom,
+  nextEvent,
+  CopiesMessage,
+  dequeued,
+  pushed,
+  plain,
+  firstSent,
+  spreadStarted,
+};
 use queue::Event;
 use queue::table;
 use queue::table::Earliest;

@@ -40,7 +40,8 @@ module _ (b : List ℕ) (F : Capacity) (at : ℕ) where
   module _ (p : Counted at (clientsAt F)) where
     clients-held : (s : State) → Area b s → F ≡ capacityOf s
         → Held (clients (s .config .servers)) (s .config .clients * 8) (F .clients) (lentRow at (F .clients * 8) b) (s .clients)
-    clients-held s h ef = subst (λ (G : Capacity). Held (clients (s .config .servers)) (s .config .clients * 8) (G .clients) (lentRow at (F .clients * 8) b) (s .clients)) (sym ef)
+    clients-held s h ef =
+        subst (λ (G : Capacity). Held (clients (s .config .servers)) (s .config .clients * 8) (G .clients) (lentRow at (F .clients * 8) b) (s .clients)) (sym ef)
         (record { holds = lent-holds (spans-is (p .is) refl (clients-span F)) (clientsCode (capacityOf s)) b s (s .clients) ef (h .laid .clients) })
 
     -- so many clients
@@ -51,7 +52,8 @@ module _ (b : List ℕ) (F : Capacity) (at : ℕ) where
         → Reads b F (clientOf r) (clientRead c)
     unfolding clientRead
     client-read c r k g = record {
-      to = λ s h ef. taken (sym (at-there (s .clients) c noClient (omega (arith, clients-are s h ef))) ∙ g .to (s .config .servers) (s .config .clients * 8) (s .clients) (clients-held s h ef));
+      to =
+          λ s h ef. taken (sym (at-there (s .clients) c noClient (omega (arith, clients-are s h ef))) ∙ g .to (s .config .servers) (s .config .clients * 8) (s .clients) (clients-held s h ef));
     }
       where
         taken : {x y : Client} → some x ≡ some y → y ≡ x
@@ -66,8 +68,10 @@ module _ (b : List ℕ) (F : Capacity) (at : ℕ) where
           let s′ : State = clientSet c (clientOf v) s in
           let e : s′ .clients ≡ set (s .clients) c (clientOf v) = clients-set s c (clientOf v) in
           let fit : clientStateFits (s .config) (s .limits) (clientOf v) and stateFits s ≡ true =
-          sym (fits-client s c (clientOf v) (eqb-true _ _ (fits-test s (area-fits (h .area)) 9)) (subst (λ (G : Capacity). c < G .clients) (h .capacity) k) (fits-test s (area-fits (h .area)) 10)) ∙ t in
-          let held = g .to (s .config .servers) (s .config .clients * 8) (s .clients) (ltb-true _ _ (and-left _ _ (and-left _ _ fit))) (clients-held s (h .area) (h .capacity)) in
+          sym (fits-client s c (clientOf v) (eqb-true _ _ (fits-test s (area-fits (h .area)) 9)) (subst (λ (G : Capacity). c < G .clients) (h .capacity) k) (fits-test s (area-fits (h .area)) 10))
+          ∙ t in
+          let held =
+          g .to (s .config .servers) (s .config .clients * 8) (s .clients) (ltb-true _ _ (and-left _ _ (and-left _ _ fit))) (clients-held s (h .area) (h .capacity)) in
           table-back h (spans-is (p .is) refl (clients-span F)) s′ ys refl (ap (λ (y : List ℕ). set (contents s) 16 y) (held .holds .is ∙ ap (λ (l : List Client). bytes (clientsCode (capacityOf s) .enc l)) (sym e))) t;
     }
 
@@ -77,6 +81,7 @@ pub client-target : (b : List ℕ) (F : Capacity) (c : ℕ) (r : ClientRow) → 
 unfolding clientRead clientOf
 client-target b F c r p k s h ef =
     let f : Client → Bool = clientStateFits (s .config) (s .limits) in
-    let l : c < length (s .clients) = omega (arith, k, eqb-true (length (s .clients)) (s .config .clients) (fits-test s (area-fits h) 9), ap (λ (G : Capacity). G .clients) ef) in
+    let l : c < length (s .clients) =
+    omega (arith, k, eqb-true (length (s .clients)) (s .config .clients) (fits-test s (area-fits h) 9), ap (λ (G : Capacity). G .clients) ef) in
     let fit : f (clientOf r) ≡ true = ap f (p .to s h ef) ∙ every-get f (s .clients) c noClient l (fits-test s (area-fits h) 10) in
     omega (arith, ltb-true (r .target) (s .config .servers) (and-left _ _ fit), ap (λ (G : Capacity). G .servers) ef)

@@ -53,7 +53,8 @@ module _ (b : List ℕ) (F : Capacity) where
     -- so many confirmations are within the limit, wherever the area holds a state
     pub confirmations-most : (s : State) → Area b s → F ≡ capacityOf s → n ≤ F .limits .history
     unfolding confirmationCount
-    confirmations-most s h ef = omega (arith, c .to s h ef, leb-true (length (s .confirmations)) (s .limits .history) (and-left _ _ (fits-test s (area-fits h) 15)), history-is ef)
+    confirmations-most s h ef =
+        omega (arith, c .to s h ef, leb-true (length (s .confirmations)) (s .limits .history) (and-left _ _ (fits-test s (area-fits h) 15)), history-is ef)
 
     pub confirmation-past : (i : ℕ) → F .limits .history < n → Reads b F (confirmationRead confirmation.None) (confirmationAt i)
     confirmation-past i k = record { to = λ s h ef. absurd (let o : n ≤ F .limits .history = confirmations-most s h ef in omega arith) }
@@ -69,13 +70,15 @@ module _ (b : List ℕ) (F : Capacity) where
       confirmations-held : (s : State) → Area b s → F ≡ capacityOf s
           → Held confirmations (s .limits .history * 3) n (lentRow at (F .limits .history * 3) b) (s .confirmations)
       unfolding confirmationCount
-      confirmations-held s h ef = subst (λ (m : ℕ). Held confirmations (s .limits .history * 3) m (lentRow at (F .limits .history * 3) b) (s .confirmations)) (sym (c .to s h ef))
+      confirmations-held s h ef =
+          subst (λ (m : ℕ). Held confirmations (s .limits .history * 3) m (lentRow at (F .limits .history * 3) b) (s .confirmations)) (sym (c .to s h ef))
           (record { holds = lent-holds confirmations-spans (confirmationsCode (capacityOf s) (countsOf s)) b s (s .confirmations) ef (h .laid .confirmations) })
 
       pub confirmation-read : (i : ℕ) (r : ConfirmationRow) → ReadsConfirmation n i r (lentRow at (F .limits .history * 3) b)
           → Reads b F (confirmationRead (confirmation.Some r)) (confirmationAt i)
       unfolding confirmationRead confirmationAt
-      confirmation-read i r g = record { to = λ s h ef. sym (g .to (s .limits .history * 3) (s .confirmations) (confirmations-held s h ef)) }
+      confirmation-read i r g =
+          record { to = λ s h ef. sym (g .to (s .limits .history * 3) (s .confirmations) (confirmations-held s h ef)) }
 
       module _ (r : ConfirmationRow) (a : Appending) (ys : List ℕ) (g : AppendsConfirmation r n (F .limits .history) a (lentRow at (F .limits .history * 3) b) ys) where
         abbrev x : Confirmation
@@ -88,8 +91,10 @@ module _ (b : List ℕ) (F : Capacity) where
         confirmation-put m b₂ ea eb = record {
           to = λ s l h t.
               let N : ℕ = s .limits .history * 3 in
-              let grown = subst (λ (u : Appending). Outcome u N n (lentRow at (F .limits .history * 3) b) ys (s .confirmations) r) ea (g .to N (s .confirmations) (confirmations-held s (h .area) (h .capacity))) in
-              let more : m ≡ length (s .confirmations ++ x ∷ []) = omega (arith, grown .count, c .to s (h .area) (h .capacity), length-append (s .confirmations) (x ∷ [])) in
+              let grown =
+              subst (λ (u : Appending). Outcome u N n (lentRow at (F .limits .history * 3) b) ys (s .confirmations) r) ea (g .to N (s .confirmations) (confirmations-held s (h .area) (h .capacity))) in
+              let more : m ≡ length (s .confirmations ++ x ∷ []) =
+              omega (arith, grown .count, c .to s (h .area) (h .capacity), length-append (s .confirmations) (x ∷ [])) in
               subst (λ (z : List ℕ). AreaOf z l F (confirmed x s)) (sym eb)
               (table-put h confirmations-spans (confirmed x s) ys refl 87 4 m (λ z. omega arith) refl (omega arith)
               (ap₂ (λ (y : List ℕ) (v : ℕ). set (set (contents s) 14 y) 6 (bytes (set (countsWords (countsOf s)) 4 v))) (grown .held .holds .is) more) t);
@@ -99,8 +104,10 @@ module _ (b : List ℕ) (F : Capacity) where
         unfolding appendingNumber append
         confirmation-full ea = record {
           to = λ s l h t.
-              let fit : length (s .confirmations) + 1 ≤ s .limits .history = leb-true _ _ (and-left _ _ (and-left _ _ (sym (fits-confirmed s x) ∙ t))) in
+              let fit : length (s .confirmations) + 1 ≤ s .limits .history =
+              leb-true _ _ (and-left _ _ (and-left _ _ (sym (fits-confirmed s x) ∙ t))) in
               let full : _≡_ {A = ℕ} 10 (roomCode (length (s .confirmations ++ x ∷ [])) (F .limits .history)) =
-              ap appendingNumber (sym ea) ∙ g .number (s .limits .history * 3) (s .confirmations) (confirmations-held s (h .area) (h .capacity)) in
+              ap appendingNumber (sym ea)
+              ∙ g .number (s .limits .history * 3) (s .confirmations) (confirmations-held s (h .area) (h .capacity)) in
               absurd (no-room (length (s .confirmations ++ x ∷ [])) (F .limits .history) full (omega (arith, length-append (s .confirmations) (x ∷ []), history-is (h .capacity))));
         }

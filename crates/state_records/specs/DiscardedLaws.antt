@@ -48,7 +48,8 @@ module _ (b : List ℕ) (F : Capacity) (end : ℕ) where
     discarded-read k at r l a e = record {
       to = λ s h ef.
           let w : at - 505 ≡ k * blockWords (capacityOf s) + 7 = omega (arith, a .is, ap (λ (G : Capacity). k * blockWords G) ef) in
-          e ∙ ap (λ (j : ℕ). getD (W (take (8 * end - 4096) (drop 4096 b))) j 0) w ∙ row-word (servers-held s h ef) k 7 (newServer 0) (subst (λ (G : Capacity). k < G .servers) ef l) (omega arith);
+          e ∙ ap (λ (j : ℕ). getD (W (take (8 * end - 4096) (drop 4096 b))) j 0) w
+          ∙ row-word (servers-held s h ef) k 7 (newServer 0) (subst (λ (G : Capacity). k < G .servers) ef l) (omega arith);
     }
 
 -- ---- all servers
@@ -62,7 +63,8 @@ module _ (b : List ℕ) (F : Capacity) (value k : ℕ) (p : Adding b F value k) 
     unfolding discardedAt discardedBy
     next s h ef =
         let n : k < length (s .servers) = omega (arith, l, server-count s (area-fits h), ap (λ (G : Capacity). G .servers) ef) in
-        let e : discardedBy (drop k (s .servers)) ≡ getD (s .servers) k (newServer 0) .storage .discarded + discardedBy (drop (k + 1) (s .servers)) = ap discardedBy (drop-next (s .servers) k (newServer 0) n) in
+        let e : discardedBy (drop k (s .servers)) ≡ getD (s .servers) k (newServer 0) .storage .discarded + discardedBy (drop (k + 1) (s .servers)) =
+        ap discardedBy (drop-next (s .servers) k (newServer 0) n) in
         omega (arith, e, p .to s h ef, q .to s h ef)
 
     pub adding-turn : more ≤ 18446744073709551615 - value → Adding b F (value + more) (k + 1)
@@ -79,7 +81,8 @@ module _ (b : List ℕ) (F : Capacity) (value k : ℕ) (p : Adding b F value k) 
   unfolding discardedSum sumOf discardedBy
   adding-done l = record {
     to = λ s h ef.
-        let z : drop k (s .servers) ≡ [] = drop-of-length-le (s .servers) {i = k} (omega (arith, l, server-count s (area-fits h), ap (λ (G : Capacity). G .servers) ef)) in
+        let z : drop k (s .servers) ≡ [] =
+        drop-of-length-le (s .servers) {i = k} (omega (arith, l, server-count s (area-fits h), ap (λ (G : Capacity). G .servers) ef)) in
         let e : value ≡ discardedBy (s .servers) = omega (arith, p .to s h ef, ap discardedBy z) in
         ap (λ (n : ℕ). record { fits = true; value = n }) e
         ∙ sym (ap (λ (t : Bool). record { fits = t; value = pick t (discardedBy (s .servers)) 0 }) (lt-ltb (discardedBy (s .servers)) (2 ^ 64) (omega (arith, e, p .small))));

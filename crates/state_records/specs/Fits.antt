@@ -52,19 +52,23 @@ module _ {A : Type 0} (f : A → Bool) (room : ℕ) (xs : List A) (x : A) where
       and-both _ _ (and-both _ _ (le-leb (length xs + 1) room (omega (arith, one-more))) (and-left _ _ (and-right _ _ e))) (and-both _ _ (le-leb (length xs) room (omega (arith, one-more))) (and-left _ _ e))
 
   more-after : atMost room f xs ≡ true → leb (length xs + 1) room and f x ≡ true → atMost room f (xs ++ x ∷ []) ≡ true
-  more-after h k = and-both _ _ (ap (λ (n : ℕ). leb n room) one-more ∙ and-left _ _ k) (every-append f xs (x ∷ []) ∙ and-both _ _ (and-right _ _ h) (and-both _ _ (and-right _ _ k) refl))
+  more-after h k =
+      and-both _ _ (ap (λ (n : ℕ). leb n room) one-more ∙ and-left _ _ k) (every-append f xs (x ∷ []) ∙ and-both _ _ (and-right _ _ h) (and-both _ _ (and-right _ _ k) refl))
 
 -- a part of a state whose test is t with one row more, and u before: t holds where u does and the row is fine
 module _ (s s′ : State) (i : ℕ) (k : i < 22) (t u more : Bool) (es : getD (stateTests s) i true ≡ u) (to : stateTests s′ ≡ set (stateTests s) i t) (from : stateTests s ≡ set (stateTests s′) i u) (e′ : getD (stateTests s′) i true ≡ t)
     (before : t ≡ true → more and u ≡ true) (after : u ≡ true → more ≡ true → t ≡ true) where
   grown : more and stateFits s ≡ true → stateFits s′ ≡ true
-  grown h = let o = fits-test s (and-right _ _ h) i in fits-one s s′ i t k o to ∙ and-both _ _ (after (sym es ∙ o) (and-left _ _ h)) (and-right _ _ h)
+  grown h =
+      let o =
+      fits-test s (and-right _ _ h) i in fits-one s s′ i t k o to ∙ and-both _ _ (after (sym es ∙ o) (and-left _ _ h)) (and-right _ _ h)
 
   fits-more : stateFits s′ ≡ (more and stateFits s)
   fits-more =
       decided (stateFits s′) (more and stateFits s)
       (record {
-        yes = λ h. let b = before (sym e′ ∙ fits-test s′ h i) in and-both _ _ (and-left _ _ b) (fits-one s′ s i u k (fits-test s′ h i) from ∙ and-both _ _ (and-right _ _ b) h);
+        yes =
+            λ h. let b = before (sym e′ ∙ fits-test s′ h i) in and-both _ _ (and-left _ _ b) (fits-one s′ s i u k (fits-test s′ h i) from ∙ and-both _ _ (and-right _ _ b) h);
         no = λ e h. false-true (sym e ∙ grown h);
       })
       (λ h. h) (λ h. h)

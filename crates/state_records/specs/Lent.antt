@@ -33,7 +33,9 @@ lent-holds {F} {i} p c b s x e h = table-lent p c b x (subst (λ (G : Capacity).
 -- word j of the counts, as it is loaded
 pub counted : {b : List ℕ} {s : State} → Area b s → (j : ℕ)
     → getD (W (take (728 - 664) (drop 664 b))) j 0 ≡ getD (countsWords (countsOf s)) j 0
-counted {b} {s} h j = ap (λ (l : List ℕ). getD (W l) j 0) (region (sizes (capacityOf s)) b 6 (omega arith)) ∙ ap (λ (ws : List ℕ). getD ws j 0) (holds-W (h .laid .counts))
+counted {b} {s} h j =
+    ap (λ (l : List ℕ). getD (W l) j 0) (region (sizes (capacityOf s)) b 6 (omega arith))
+    ∙ ap (λ (ws : List ℕ). getD ws j 0) (holds-W (h .laid .counts))
 
 -- counts that are equal have equal histories
 pub history-is : {F G : Capacity} → F ≡ G → F .limits .history ≡ G .limits .history

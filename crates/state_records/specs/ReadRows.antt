@@ -50,19 +50,22 @@ module _ (b : List ℕ) (F : Capacity) where
   module _ (n : ℕ) (c : Reads b F n violationCount) where
     violations-most : (s : State) → Area b s → F ≡ capacityOf s → n ≤ 32
     unfolding violationCount
-    violations-most s h ef = omega (arith, c .to s h ef, leb-true (length (s .checker .violations)) 32 (and-left _ _ (and-left _ _ (and-right _ _ (and-right _ _ (and-right _ _ (fits-test s (area-fits h) 13)))))))
+    violations-most s h ef =
+        omega (arith, c .to s h ef, leb-true (length (s .checker .violations)) 32 (and-left _ _ (and-left _ _ (and-right _ _ (and-right _ _ (and-right _ _ (fits-test s (area-fits h) 13)))))))
 
     pub violation-past : (i : ℕ) → 32 < n → Reads b F violation.None (violationAt i)
     violation-past i k = record { to = λ s h ef. absurd (let o : n ≤ 32 = violations-most s h ef in omega arith) }
 
     pub violation-none : (i : ℕ) → n ≤ i → Reads b F violation.None (violationAt i)
     unfolding violationCount violationAt violationGiven
-    violation-none i k = record { to = λ s h ef. sym (ap violationGiven (at-none (s .checker .violations) i (omega (arith, c .to s h ef)))) }
+    violation-none i k =
+        record { to = λ s h ef. sym (ap violationGiven (at-none (s .checker .violations) i (omega (arith, c .to s h ef)))) }
 
     violations-held : (s : State) → Area b s → F ≡ capacityOf s
         → Held violations 256 n (take (4096 - 2048) (drop 2048 b)) (s .checker .violations)
     unfolding violationCount
-    violations-held s h ef = subst (λ (m : ℕ). Held violations 256 m (take (4096 - 2048) (drop 2048 b)) (s .checker .violations)) (sym (c .to s h ef))
+    violations-held s h ef =
+        subst (λ (m : ℕ). Held violations 256 m (take (4096 - 2048) (drop 2048 b)) (s .checker .violations)) (sym (c .to s h ef))
         (record { holds = lent-holds (violations-span F) (violationsCode (capacityOf s) (countsOf s)) b s (s .checker .violations) ef (h .laid .violations) })
 
     pub violation-read : (i : ℕ) (r : Numbers) → i < n
@@ -71,7 +74,8 @@ module _ (b : List ℕ) (F : Capacity) where
     unfolding violationCount violationAt violationGiven
     violation-read i r k g = record {
       to = λ s h ef.
-          ap violation.Some (g .to 256 (s .checker .violations) (violations-held s h ef)) ∙ sym (ap violationGiven (at-there (s .checker .violations) i noViolation (omega (arith, c .to s h ef))));
+          ap violation.Some (g .to 256 (s .checker .violations) (violations-held s h ef))
+          ∙ sym (ap violationGiven (at-there (s .checker .violations) i noViolation (omega (arith, c .to s h ef))));
     }
 
 -- ---- applied payloads: a row
@@ -99,7 +103,8 @@ module _ (p : ℕ) (s d : List ℕ) where
 module _ (p n i : ℕ) (s d : List ℕ) where
   pub place-none : n ≤ i → ReadsPlace p n i option.None s d d
   unfolding payloadKind payloadBytes
-  place-none k = record { kind = λ N xs h. sym (ap payloadKind (none-there xs h)); copied = λ N xs h. sym (ap (λ (o : Option Payload). sets d 0 (payloadBytes o)) (none-there xs h)) }
+  place-none k =
+      record { kind = λ N xs h. sym (ap payloadKind (none-there xs h)); copied = λ N xs h. sym (ap (λ (o : Option Payload). sets d 0 (payloadBytes o)) (none-there xs h)) }
     where
       none-there : {N : ℕ} (xs : List Payload) → Held (applied p) N n s xs → at xs i ≡ none
       none-there xs h = at-none xs i (omega (arith, held-rows h .count))
@@ -108,7 +113,9 @@ module _ (p n i : ℕ) (s d : List ℕ) where
       → ReadsRow p r (lentRow a (1 + wordsFor p) s) d d′ → ReadsPlace p n i r s d d′
   place-read a r d′ k e g = record {
     kind = λ N xs h. g .kind (getD xs i noop) (row-lent h i a noop k e) ∙ ap payloadKind (sym (there xs h));
-    copied = λ N xs h. g .copied (getD xs i noop) (row-lent h i a noop k e) ∙ ap (λ (o : Option Payload). sets d 0 (payloadBytes o)) (sym (there xs h));
+    copied =
+        λ N xs h. g .copied (getD xs i noop) (row-lent h i a noop k e)
+        ∙ ap (λ (o : Option Payload). sets d 0 (payloadBytes o)) (sym (there xs h));
   }
     where
       there : {N : ℕ} (xs : List Payload) → Held (applied p) N n s xs → at xs i ≡ some (getD xs i noop)
@@ -151,7 +158,8 @@ module _ (b : List ℕ) (F : Capacity) where
         omega (arith, c .to s h ef, leb-true (length (s .checker .applied)) (s .limits .«log_indexes») (and-left _ _ (and-left _ _ (and-right _ _ (fits-test s (area-fits h) 13)))), ap (λ (G : Capacity). G .limits .«log_indexes») ef)
 
     pub index-past : (index : ℕ) (d : List ℕ) → F .limits .«log_indexes» < n → ReadsApplied b F index option.None d d
-    index-past index d k = record { kind = record { to = λ s h ef. absurd (never s h ef) }; copied = record { to = λ s h ef. absurd (never s h ef) } }
+    index-past index d k =
+        record { kind = record { to = λ s h ef. absurd (never s h ef) }; copied = record { to = λ s h ef. absurd (never s h ef) } }
       where
         never : (s : State) → Area b s → F ≡ capacityOf s → ⊥
         never s h ef = let o : n ≤ F .limits .«log_indexes» = applied-most s h ef in omega arith
@@ -169,8 +177,11 @@ module _ (b : List ℕ) (F : Capacity) where
           → ReadsPlace (F .limits .payload) n (index - 1) r (lentRow at w b) d d′ → ReadsApplied b F index r d d′
       unfolding appliedKind appliedInto
       index-read index r d d′ k g = record {
-        kind = record { to = λ s h ef. g .kind (appliedWords (capacityOf s)) (s .checker .applied) (applied-held s h ef) ∙ ap payloadKind (by-index (s .checker .applied) index k) };
+        kind =
+            record { to = λ s h ef. g .kind (appliedWords (capacityOf s)) (s .checker .applied) (applied-held s h ef) ∙ ap payloadKind (by-index (s .checker .applied) index k) };
         copied = record {
-          to = λ s h ef. g .copied (appliedWords (capacityOf s)) (s .checker .applied) (applied-held s h ef) ∙ ap (λ (o : Option Payload). sets d 0 (payloadBytes o)) (by-index (s .checker .applied) index k);
+          to =
+              λ s h ef. g .copied (appliedWords (capacityOf s)) (s .checker .applied) (applied-held s h ef)
+              ∙ ap (λ (o : Option Payload). sets d 0 (payloadBytes o)) (by-index (s .checker .applied) index k);
         };
       }

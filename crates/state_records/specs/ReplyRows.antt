@@ -51,7 +51,8 @@ module _ (b : List ℕ) (F : Capacity) where
     -- so many replies are within the limit, wherever the area holds a state
     pub replies-most : (s : State) → Area b s → F ≡ capacityOf s → n ≤ F .limits .history
     unfolding replyCount
-    replies-most s h ef = omega (arith, c .to s h ef, leb-true (length (s .replies)) (s .limits .history) (and-left _ _ (fits-test s (area-fits h) 14)), history-is ef)
+    replies-most s h ef =
+        omega (arith, c .to s h ef, leb-true (length (s .replies)) (s .limits .history) (and-left _ _ (fits-test s (area-fits h) 14)), history-is ef)
 
     pub reply-past : (i : ℕ) → F .limits .history < n → Reads b F (replyOf reply.None) (replyAt i)
     reply-past i k = record { to = λ s h ef. absurd (let o : n ≤ F .limits .history = replies-most s h ef in omega arith) }
@@ -67,14 +68,16 @@ module _ (b : List ℕ) (F : Capacity) where
       replies-held : (s : State) → Area b s → F ≡ capacityOf s
           → Held (replies (s .limits .«log_indexes») (s .config .clients)) (s .limits .history * 5) n (lentRow at (F .limits .history * 5) b) (s .replies)
       unfolding replyCount
-      replies-held s h ef = subst (λ (m : ℕ). Held (replies (s .limits .«log_indexes») (s .config .clients)) (s .limits .history * 5) m (lentRow at (F .limits .history * 5) b) (s .replies)) (sym (c .to s h ef))
+      replies-held s h ef =
+          subst (λ (m : ℕ). Held (replies (s .limits .«log_indexes») (s .config .clients)) (s .limits .history * 5) m (lentRow at (F .limits .history * 5) b) (s .replies)) (sym (c .to s h ef))
           (record { holds = lent-holds replies-spans (repliesCode (capacityOf s) (countsOf s)) b s (s .replies) ef (h .laid .replies) })
 
       pub reply-read : (i : ℕ) (r : Reply) → ReadsReply n i r (lentRow at (F .limits .history * 5) b)
           → Reads b F (replyOf (reply.Some r)) (replyAt i)
       unfolding replyOf replyAt
       reply-read i r g = record {
-        to = λ s h ef. sym (g .to (s .replies) (record { indexes = s .limits .«log_indexes»; clients = s .config .clients; words = s .limits .history * 5; held = replies-held s h ef }));
+        to =
+            λ s h ef. sym (g .to (s .replies) (record { indexes = s .limits .«log_indexes»; clients = s .config .clients; words = s .limits .history * 5; held = replies-held s h ef }));
       }
 
       module _ (r : Reply) (a : Appending) (ys : List ℕ) (g : Appends r n (F .limits .history) a (lentRow at (F .limits .history * 5) b) ys) where
@@ -89,7 +92,8 @@ module _ (b : List ℕ) (F : Capacity) where
               let good = and-right _ _ (and-right _ _ (and-left _ _ (sym (fits-replied s r) ∙ t))) in
               let grown = subst (λ (u : Appending). Outcome u L C N n (lentRow at (F .limits .history * 5) b) ys (s .replies) r) ea
               (g .to L C (leb-true _ _ (and-left _ _ good)) (ltb-true _ _ (and-right _ _ good)) N (s .replies) (replies-held s (h .area) (h .capacity))) in
-              let more : m ≡ length (s .replies ++ r ∷ []) = omega (arith, grown .count, c .to s (h .area) (h .capacity), length-append (s .replies) (r ∷ [])) in
+              let more : m ≡ length (s .replies ++ r ∷ []) =
+              omega (arith, grown .count, c .to s (h .area) (h .capacity), length-append (s .replies) (r ∷ [])) in
               subst (λ (z : List ℕ). AreaOf z l F (replied r s)) (sym eb)
               (table-put h replies-spans (replied r s) ys refl 86 3 m (λ z. omega arith) refl (omega arith)
               (ap₂ (λ (y : List ℕ) (v : ℕ). set (set (contents s) 13 y) 6 (bytes (set (countsWords (countsOf s)) 3 v))) (grown .held .holds .is) more) t);
@@ -99,8 +103,10 @@ module _ (b : List ℕ) (F : Capacity) where
         unfolding appendingNumber roomCode append
         reply-full ea = record {
           to = λ s l h t.
-              let fit : length (s .replies) + 1 ≤ s .limits .history = leb-true _ _ (and-left _ _ (and-left _ _ (sym (fits-replied s r) ∙ t))) in
+              let fit : length (s .replies) + 1 ≤ s .limits .history =
+              leb-true _ _ (and-left _ _ (and-left _ _ (sym (fits-replied s r) ∙ t))) in
               let full : _≡_ {A = ℕ} 10 (roomCode (length (s .replies ++ r ∷ [])) (F .limits .history)) =
-              ap appendingNumber (sym ea) ∙ g .number (s .replies) (record { indexes = s .limits .«log_indexes»; clients = s .config .clients; words = s .limits .history * 5; held = replies-held s (h .area) (h .capacity) }) in
+              ap appendingNumber (sym ea)
+              ∙ g .number (s .replies) (record { indexes = s .limits .«log_indexes»; clients = s .config .clients; words = s .limits .history * 5; held = replies-held s (h .area) (h .capacity) }) in
               absurd (no-room (length (s .replies ++ r ∷ [])) (F .limits .history) full (omega (arith, length-append (s .replies) (r ∷ []), history-is (h .capacity))));
         }

@@ -6,7 +6,26 @@ ghost use Rattle.layout.specs.Marked.{wordsFor};
 ghost use Rattle.clients.specs.Clients.{clientOf};
 ghost use Rattle.clients.specs.Confirmations.{confirmationOf};
 ghost use Rattle.state.specs.Changes.{Inside, Changes, Reads};
-ghost use Rattle.state_records.specs.Records.{clientRead, clientSet, replyCount, replyOf, replyAt, replied, confirmationCount, confirmationRead, confirmationAt, confirmed, violationCount, violationAt, appliedCount, ReadsRow, ReadsPlace, ReadsApplied, discardedAt, discardedSum};
+ghost use Rattle.state_records.specs.Records.{
+  clientRead,
+  clientSet,
+  replyCount,
+  replyOf,
+  replyAt,
+  replied,
+  confirmationCount,
+  confirmationRead,
+  confirmationAt,
+  confirmed,
+  violationCount,
+  violationAt,
+  appliedCount,
+  ReadsRow,
+  ReadsPlace,
+  ReadsApplied,
+  discardedAt,
+  discardedSum,
+};
 use checks::violations;
 use checks::violations::Violation;
 use checks_durability::replies;
