@@ -1,8 +1,8 @@
 -- The event queue of a state in its area: what is read of it, and the state with an event more or less. Assumes nothing.
 use mathlib.Core.Path.{_≡_}
-use mathlib.Core.Bool.{Bool}
-use mathlib.Core.List.{List, [], _∷_}
-use Prim.Native.Nat.{ℕ, zero, suc, _+_, _≤_}
+use mathlib.Core.Bool.{Bool, true}
+use mathlib.Core.List.{List, [], _∷_, _++_}
+use Prim.Native.Nat.{ℕ, zero, suc, _+_, _-_, _≤_}
 use lib.Dec.{leb}
 use lib.ListN.{length}
 use lib.Seq.{sets}
@@ -13,11 +13,12 @@ use Rattle.rng.specs.declared.Rng.{Rng}
 use Rattle.queue.specs.declared.Event.{Event}
 use Rattle.queue.specs.declared.Event.the-variants as event
 use Rattle.queue.specs.Queue.{Scheduled, Queue, push}
-use Rattle.queue.specs.Range.{scheduledFits}
+use Rattle.queue.specs.Range.{inRange, messageRoom, scheduledFits}
+use Rattle.queue.specs.declared.table.Earliest.{Earliest}
 use Rattle.queue.specs.Table.{rest}
 use Rattle.model.specs.State.{State}
 use Rattle.model.specs.Fields.{withQueue}
-use Rattle.model.specs.Simulation.{firstSends}
+use Rattle.model.specs.Simulation.{firstSends, spreadStarts}
 use Rattle.state.specs.declared.Capacity.{Capacity}
 use Rattle.state.specs.Area.{Area, capacityOf}
 use Rattle.state.specs.Changes.{Inside, Changes, Reads}
@@ -43,9 +44,11 @@ firstOf (e ∷ q) = Some (record { time = e .time; event = e .event; length = le
 unfoldable pub nextEvent : State → NextEvent
 nextEvent s = firstOf (s .queue)
 
--- Where the bytes b hold a state whose queue begins with an event that has a message of so many bytes, the message is at the front of the buffer, and the rest of the buffer is as it was.
+-- Where the bytes b hold a state whose queue begins with an event that has a message of so many bytes, the message is at the front of the
+-- buffer, and the rest of the buffer is as it was.
 pub record CopiesMessage (b : List ℕ) (F : Capacity) (count : ℕ) (d d′ : List ℕ) : Type 0 where
-  pub to : (s : State) → Area b s → F ≡ capacityOf s → (e : Scheduled) (q : Queue) → s .queue ≡ e ∷ q → count ≡ length (e .message) → d′ ≡ sets d 0 (e .message)
+  pub to : (s : State) → Area b s → F ≡ capacityOf s → (e : Scheduled) (q : Queue) → s .queue ≡ e ∷ q → count ≡ length (e .message)
+      → d′ ≡ sets d 0 (e .message)
 
 -- Whether an event is in the ranges of a state.
 unfoldable pub eventInRange : State → Scheduled → Bool
@@ -85,6 +88,18 @@ startEvents spread slot (suc n) g =
 unfoldable pub firstSent : State → State
 firstSent s = firstSends s 0 (length (s .clients))
 
+-- The state with a Start event for each of its servers, at times drawn below the spread.
+unfoldable pub spreadStarted : ℕ → Rng → State → State
+spreadStarted spread g s = spreadStarts s spread 0 (length (s .servers)) g
+
+-- ---- what is known of the first event, and while events are pushed in a row
+
+-- The first event of a state in an area: its numbers are in range, and only a delivery has a message.
+pub record FirstInRange (F : Capacity) (r : Earliest) : Type 0 where
+  pub event : inRange (F .servers) (F .clients) (F .limits .«log_indexes») (r .event) ≡ true
+  pub message : r .length ≤ messageRoom (F .limits .message) (r .event)
+  pub short : r .length ≤ F .limits .message
+
 -- The time of a state.
 abbrev pub nowOf : State → SimTime
 nowOf s = s .now
@@ -96,3 +111,13 @@ pub record Sending (b : List ℕ) (F : Capacity) (time : SimTime) (b′ : List �
   pub few : c ≤ F .clients
   pub time-is : Reads b F time nowOf
   pub changes : Changes b b′ F (pushedAll (sendEvents time 0 c))
+
+-- The Start events of the servers before a place were pushed, and `next` is the generator for those that are left: b′ is as long, and holds
+-- the state with them.
+pub record Starting (b : List ℕ) (F : Capacity) (spread : ℕ) (g : Rng) (b′ : List ℕ) (next : Rng) (slot : ℕ) : Type 0 where
+  pub inside : Inside b′ F
+  pub long : length b′ ≡ length b
+  pub few : slot ≤ F .servers
+  pub pushes : List Scheduled
+  pub changes : Changes b b′ F (pushedAll pushes)
+  pub rest : pushes ++ startEvents spread slot (F .servers - slot) next ≡ startEvents spread 0 (F .servers) g

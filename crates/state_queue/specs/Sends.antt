@@ -1,12 +1,12 @@
--- Pushes in a row: the clients' first events and the servers' starts as lists of events, question 10 by each, and what the proof of push_first_sends cites. Assumes nothing.
+-- Pushes in a row: the clients' first events and the servers' starts as lists of events, question 10 by each, and what the proof of
+-- push_first_sends cites. Assumes nothing.
 use mathlib.Core.Path.{_≡_, refl, sym, ap, ap₂, subst, _∙_}
-use mathlib.Core.Bool.{Bool, true}
-use mathlib.Core.List.{List, [], _∷_, _++_}
-use Prim.Native.Nat.{ℕ, zero, suc, _+_, _^_, _≤_, _<_}
+use mathlib.Core.Bool.{true}
+use mathlib.Core.List.{List, [], _∷_, _++_, append-assoc, append-nil}
+use Prim.Native.Nat.{ℕ, zero, suc, _+_, _-_, _^_, _≤_, _<_}
 use native.Mathlib.Nat.{zero-add}
 use native.Mathlib.Numerals.{add-one}
 use native.Mathlib.Omega.{arith}
-use lib.Dec.{ltb}
 use lib.ListN.{length}
 use borrow.Author.Tests.{lt-ltb, eqb-true}
 use Rattle.laws.specs.Bools.{_and_, and-left, and-right, and-both, every}
@@ -15,25 +15,26 @@ use Rattle.units.specs.declared.SimTime.{SimTime}
 use Rattle.rng.specs.Rng.{under}
 use Rattle.rng.specs.Laws.{under-lt}
 use Rattle.rng.specs.declared.Rng.{Rng}
+use Rattle.rng.specs.declared.Drawn.{Drawn}
 use Rattle.config.specs.Limits.{judge, InLimits}
 use Rattle.config.specs.Laws.{in-limits}
 use Rattle.network.specs.Laws.{length-listFrom, listFrom-snoc}
 use Rattle.queue.specs.declared.Event.the-variants as event
 use Rattle.queue.specs.Queue.{Scheduled}
-use Rattle.queue.specs.Range.{word, messageRoom}
+use Rattle.queue.specs.Range.{word}
 use Rattle.model.specs.State.{State}
 use Rattle.model.specs.Simulation.{firstSends, spreadStarts}
 use Rattle.model.specs.Fits.{stateFits}
 use Rattle.state.specs.declared.Capacity.{Capacity}
 use Rattle.state.specs.declared.Run.{Run}
-use Rattle.state.specs.Area.{Area, capacityOf, runOf}
+use Rattle.state.specs.Area.{runOf}
 use Rattle.state.specs.Fitting.{accepted-is, area-fits}
-use Rattle.state.specs.FitsBy.{fits-test}
+use Rattle.state.specs.FitsBy.{fits-test, server-count}
 use Rattle.state.specs.Changes.{Inside, AreaOf, Changes, Reads}
 use Rattle.state.specs.Puts.{both}
 use Rattle.state.specs.Exits.{inside-after}
-use Rattle.state_queue.specs.Events.{queueRoom, eventInRange, pushed, plain, pushedAll, sendEvents, startEvents, firstSent, nowOf, Sending}
-use Rattle.state_queue.specs.Fits.{same-tests, fits-unpushed, fits-push-all, plain-range}
+use Rattle.state_queue.specs.Events.{queueRoom, eventInRange, pushed, plain, pushedAll, sendEvents, startEvents, firstSent, spreadStarted, Sending, Starting}
+use Rattle.state_queue.specs.Fits.{same-tests, fits-unpushed, fits-push-all, room-pushed-all, plain-range}
 
 -- ---- changes and then a push
 
@@ -48,7 +49,8 @@ pushed-last [] e s = refl
 pushed-last (x ∷ es) e s = pushed-last es e (pushed x s)
 
 -- several pushes and then one more
-pub pushed-more : {b b₁ b₂ : List ℕ} {F : Capacity} (es : List Scheduled) (e : Scheduled) → Changes b b₁ F (pushedAll es) → Changes b₁ b₂ F (pushed e) → Changes b b₂ F (pushedAll (es ++ e ∷ []))
+pub pushed-more : {b b₁ b₂ : List ℕ} {F : Capacity} (es : List Scheduled) (e : Scheduled) → Changes b b₁ F (pushedAll es)
+    → Changes b₁ b₂ F (pushed e) → Changes b b₂ F (pushedAll (es ++ e ∷ []))
 pushed-more {b} {b₁} {b₂} {F} es e p q = record {
   to = λ s r h t.
       subst (AreaOf b₂ r F) (sym (pushed-last es e s)) (pushed-after (pushedAll es) e p q s r h (ap stateFits (sym (pushed-last es e s)) ∙ t));
@@ -63,10 +65,12 @@ first-sends-are zero c s = refl
 first-sends-are (suc n) c s = first-sends-are n (suc c) (pushed (plain (s .now) (event.ClientSend c)) s)
 
 -- the starts of the servers
-pub spread-starts-are : (n spread slot : ℕ) (g : Rng) (s : State) → spreadStarts s spread slot n g ≡ pushedAll (startEvents spread slot n g) s
+pub spread-starts-are : (n spread slot : ℕ) (g : Rng) (s : State)
+    → spreadStarts s spread slot n g ≡ pushedAll (startEvents spread slot n g) s
 unfolding spreadStarts pushedAll startEvents pushed
 spread-starts-are zero spread slot g s = refl
-spread-starts-are (suc n) spread slot g s = spread-starts-are n spread (suc slot) (under g spread .next) (pushed (plain (record { 0 = under g spread .value }) (event.Start slot)) s)
+spread-starts-are (suc n) spread slot g s =
+    spread-starts-are n spread (suc slot) (under g spread .next) (pushed (plain (record { 0 = under g spread .value }) (event.Start slot)) s)
 
 starts-length : (spread n slot : ℕ) (g : Rng) → length (startEvents spread slot n g) ≡ n
 unfolding startEvents
@@ -80,9 +84,11 @@ bits n m h k = lt-ltb n (2 ^ 64) (omega arith)
 
 module _ (s : State) (h : stateFits s ≡ true) where
   in-limits-of : InLimits (s .config .servers) (s .config .clients) (s .limits)
-  in-limits-of = in-limits (s .config) (s .limits) (judge (s .config) (s .limits)) refl (accepted-is (judge (s .config) (s .limits)) (fits-test s h 0))
+  in-limits-of =
+      in-limits (s .config) (s .limits) (judge (s .config) (s .limits)) refl (accepted-is (judge (s .config) (s .limits)) (fits-test s h 0))
 
-  sends-in-range : (time : SimTime) → word (time .0) ≡ true → (n c : ℕ) → c + n ≤ s .config .clients → every (eventInRange s) (sendEvents time c n) ≡ true
+  sends-in-range : (time : SimTime) → word (time .0) ≡ true → (n c : ℕ) → c + n ≤ s .config .clients
+      → every (eventInRange s) (sendEvents time c n) ≡ true
   unfolding sendEvents listFrom
   sends-in-range time w zero c k = refl
   sends-in-range time w (suc n) c k =
@@ -91,7 +97,8 @@ module _ (s : State) (h : stateFits s ≡ true) where
       (plain-range s time (event.ClientSend c) ∙ and-both _ _ w (and-both _ _ (and-both _ _ refl (and-both _ _ (bits c (s .config .clients) l (in-limits-of .clients)) (and-both _ _ refl (and-both _ _ refl refl)))) (lt-ltb c (s .config .clients) l)))
       (sends-in-range time w n (suc c) (omega arith))
 
-  starts-in-range : (spread : ℕ) → 0 < spread → spread ≤ 2 ^ 64 → (n slot : ℕ) (g : Rng) → slot + n ≤ s .config .servers → every (eventInRange s) (startEvents spread slot n g) ≡ true
+  starts-in-range : (spread : ℕ) → 0 < spread → spread ≤ 2 ^ 64 → (n slot : ℕ) (g : Rng) → slot + n ≤ s .config .servers
+      → every (eventInRange s) (startEvents spread slot n g) ≡ true
   unfolding startEvents
   starts-in-range spread p q zero slot g k = refl
   starts-in-range spread p q (suc n) slot g k =
@@ -110,7 +117,8 @@ fits-first-sent s =
     let es : List Scheduled = sendEvents (s .now) 0 n in
     let l : length es ≡ n = length-listFrom (λ k. plain (s .now) (event.ClientSend k)) 0 n in
     let e : stateFits (firstSent s) ≡ ((queueRoom n s and every (eventInRange s) es) and stateFits s) =
-    ap stateFits (first-sends-are n 0 s) ∙ fits-push-all es s ∙ ap (λ (m : ℕ). (queueRoom m s and every (eventInRange s) es) and stateFits s) l in
+    ap stateFits (first-sends-are n 0 s) ∙ fits-push-all es s
+    ∙ ap (λ (m : ℕ). (queueRoom m s and every (eventInRange s) es) and stateFits s) l in
     let clients : stateFits s ≡ true → n ≡ s .config .clients = λ h. eqb-true _ _ (fits-test s h 9) in
     e ∙ same-tests ((queueRoom n s and every (eventInRange s) es) and stateFits s) (queueRoom (s .config .clients) s and stateFits s)
     (λ h. and-both _ _ (ap (λ (m : ℕ). queueRoom m s) (sym (clients (and-right _ _ h))) ∙ and-left _ _ (and-left _ _ h)) (and-right _ _ h))
@@ -119,15 +127,31 @@ fits-first-sent s =
     let c : n ≡ s .config .clients = clients f in
     and-both _ _ (and-both _ _ (ap (λ (m : ℕ). queueRoom m s) c ∙ and-left _ _ h) (sends-in-range s f (s .now) (fits-test s f 2) n 0 (omega (arith, c)))) f)
 
--- the starts of n servers from a place on, at times below a spread
-pub fits-spread-starts : (s : State) (spread slot n : ℕ) (g : Rng) → 0 < spread → spread ≤ 2 ^ 64 → slot + n ≤ s .config .servers → stateFits (spreadStarts s spread slot n g) ≡ (queueRoom n s and stateFits s)
-fits-spread-starts s spread slot n g p q k =
-    let es : List Scheduled = startEvents spread slot n g in
-    let e : stateFits (spreadStarts s spread slot n g) ≡ ((queueRoom n s and every (eventInRange s) es) and stateFits s) =
-    ap stateFits (spread-starts-are n spread slot g s) ∙ fits-push-all es s ∙ ap (λ (m : ℕ). (queueRoom m s and every (eventInRange s) es) and stateFits s) (starts-length spread n slot g) in
-    e ∙ same-tests ((queueRoom n s and every (eventInRange s) es) and stateFits s) (queueRoom n s and stateFits s)
-    (λ h. and-both _ _ (and-left _ _ (and-left _ _ h)) (and-right _ _ h))
-    (λ h. and-both _ _ (and-both _ _ (and-left _ _ h) (starts-in-range s (and-right _ _ h) spread p q n slot g k)) (and-right _ _ h))
+-- the starts of all servers, whatever the state
+pub fits-spread-started : (s : State) (spread : ℕ) (g : Rng) → 0 < spread → spread ≤ 2 ^ 64
+    → stateFits (spreadStarted spread g s) ≡ (queueRoom (s .config .servers) s and stateFits s)
+unfolding spreadStarted
+fits-spread-started s spread g p q =
+    let n : ℕ = length (s .servers) in
+    let es : List Scheduled = startEvents spread 0 n g in
+    let e : stateFits (spreadStarted spread g s) ≡ ((queueRoom n s and every (eventInRange s) es) and stateFits s) =
+    ap stateFits (spread-starts-are n spread 0 g s) ∙ fits-push-all es s
+    ∙ ap (λ (m : ℕ). (queueRoom m s and every (eventInRange s) es) and stateFits s) (starts-length spread n 0 g) in
+    e ∙ same-tests ((queueRoom n s and every (eventInRange s) es) and stateFits s) (queueRoom (s .config .servers) s and stateFits s)
+    (λ h. and-both _ _ (ap (λ (m : ℕ). queueRoom m s) (sym (server-count s (and-right _ _ h))) ∙ and-left _ _ (and-left _ _ h)) (and-right _ _ h))
+    (λ h.
+    let f : stateFits s ≡ true = and-right _ _ h in
+    let c : n ≡ s .config .servers = server-count s f in
+    and-both _ _ (and-both _ _ (ap (λ (m : ℕ). queueRoom m s) c ∙ and-left _ _ h) (starts-in-range s f spread p q n 0 g (omega (arith, c)))) f)
+
+-- and the room that they leave
+pub room-spread-started : (s : State) (spread : ℕ) (g : Rng) (n : ℕ)
+    → queueRoom n (spreadStarted spread g s) ≡ queueRoom (length (s .servers) + n) s
+unfolding spreadStarted
+room-spread-started s spread g n =
+    ap (queueRoom n) (spread-starts-are (length (s .servers)) spread 0 g s)
+    ∙ room-pushed-all (startEvents spread 0 (length (s .servers)) g) s n
+    ∙ ap (λ (m : ℕ). queueRoom (m + n) s) (starts-length spread (length (s .servers)) 0 g)
 
 -- ---- the loop of push_first_sends
 
@@ -143,17 +167,20 @@ module _ (b : List ℕ) (F : Capacity) where
   }
 
   module _ (time : SimTime) (b₁ : List ℕ) (c : ℕ) (p : Sending b F time b₁ c) where
-    pub sending-turn : (b₂ : List ℕ) → c < F .clients → length b₂ ≡ length b₁ → Changes b₁ b₂ F (pushed (plain time (event.ClientSend c))) → Sending b F time b₂ (c + 1)
+    pub sending-turn : (b₂ : List ℕ) → c < F .clients → length b₂ ≡ length b₁ → Changes b₁ b₂ F (pushed (plain time (event.ClientSend c)))
+        → Sending b F time b₂ (c + 1)
     unfolding sendEvents
     sending-turn b₂ k l q =
         let last : sendEvents time 0 (c + 1) ≡ sendEvents time 0 c ++ plain time (event.ClientSend c) ∷ [] =
-        ap (sendEvents time 0) (add-one c) ∙ listFrom-snoc (λ j. plain time (event.ClientSend j)) 0 c ∙ ap (λ (j : ℕ). sendEvents time 0 c ++ plain time (event.ClientSend j) ∷ []) (zero-add c) in
+        ap (sendEvents time 0) (add-one c) ∙ listFrom-snoc (λ j. plain time (event.ClientSend j)) 0 c
+        ∙ ap (λ (j : ℕ). sendEvents time 0 c ++ plain time (event.ClientSend j) ∷ []) (zero-add c) in
         record {
           inside = inside-after b₁ b₂ F (p .inside) l;
           long = l ∙ p .long;
           few = omega arith;
           time-is = p .time-is;
-          changes = subst (λ (es : List Scheduled). Changes b b₂ F (pushedAll es)) (sym last) (pushed-more (sendEvents time 0 c) (plain time (event.ClientSend c)) (p .changes) q);
+          changes =
+              subst (λ (es : List Scheduled). Changes b b₂ F (pushedAll es)) (sym last) (pushed-more (sendEvents time 0 c) (plain time (event.ClientSend c)) (p .changes) q);
         }
 
     pub sending-done : F .clients ≤ c → Changes b b₁ F firstSent
@@ -163,6 +190,59 @@ module _ (b : List ℕ) (F : Capacity) where
           let n : c ≡ length (s .clients) =
           omega (arith, p .few, eqb-true (length (s .clients)) (s .config .clients) (fits-test s (area-fits (h .area)) 9), ap (λ (G : Capacity). G .clients) (h .capacity)) in
           let same : pushedAll (sendEvents time 0 c) s ≡ firstSends s 0 (length (s .clients)) =
-          ap₂ (λ (u : SimTime) (m : ℕ). pushedAll (sendEvents u 0 m) s) (p .time-is .to s (h .area) (h .capacity)) n ∙ sym (first-sends-are (length (s .clients)) 0 s) in
+          ap₂ (λ (u : SimTime) (m : ℕ). pushedAll (sendEvents u 0 m) s) (p .time-is .to s (h .area) (h .capacity)) n
+          ∙ sym (first-sends-are (length (s .clients)) 0 s) in
+          subst (AreaOf b₁ r F) same (p .changes .to s r h (ap stateFits same ∙ t));
+    }
+
+-- ---- the loop of push_spread_starts
+
+module _ (b : List ℕ) (F : Capacity) (spread : ℕ) (g : Rng) where
+  pub starting-start : Inside b F → Starting b F spread g b g 0
+  unfolding pushedAll
+  starting-start i = record {
+    inside = i;
+    long = refl;
+    few = omega arith;
+    pushes = [];
+    changes = record { to = λ s r h t. h };
+    rest = ap (λ (n : ℕ). startEvents spread 0 n g) (let e : F .servers - 0 ≡ F .servers = omega arith in e);
+  }
+
+  module _ (b₁ : List ℕ) (next : Rng) (slot : ℕ) (p : Starting b F spread g b₁ next slot) where
+    pub starting-turn : (b₂ : List ℕ) (d : Drawn) → slot < F .servers → length b₂ ≡ length b₁ → d ≡ under next spread
+        → Changes b₁ b₂ F (pushed (plain (record { 0 = d .value }) (event.Start slot)))
+        → Starting b F spread g b₂ (d .next) (slot + 1)
+    unfolding startEvents
+    starting-turn b₂ d k l e q =
+        let n : F .servers - slot ≡ suc (F .servers - (slot + 1)) = omega arith in
+        let x : Scheduled = plain (record { 0 = d .value }) (event.Start slot) in
+        let left : startEvents spread slot (F .servers - slot) next ≡ x ∷ startEvents spread (slot + 1) (F .servers - (slot + 1)) (d .next) =
+        ap (λ (m : ℕ). startEvents spread slot m next) n
+        ∙ ap (λ (y : Drawn). plain (record { 0 = y .value }) (event.Start slot) ∷ startEvents spread (suc slot) (F .servers - (slot + 1)) (y .next)) (sym e)
+        ∙ ap (λ (m : ℕ). x ∷ startEvents spread m (F .servers - (slot + 1)) (d .next)) (sym (add-one slot)) in
+        record {
+          inside = inside-after b₁ b₂ F (p .inside) l;
+          long = l ∙ p .long;
+          few = omega arith;
+          pushes = p .pushes ++ x ∷ [];
+          changes = pushed-more (p .pushes) x (p .changes) q;
+          rest =
+              append-assoc (p .pushes) (x ∷ []) (startEvents spread (slot + 1) (F .servers - (slot + 1)) (d .next))
+              ∙ ap (λ (es : List Scheduled). p .pushes ++ es) (sym left) ∙ p .rest;
+        }
+
+    pub starting-done : F .servers ≤ slot → Changes b b₁ F (spreadStarted spread g)
+    unfolding spreadStarted startEvents
+    starting-done k = record {
+      to = λ s r h t.
+          let n : F .servers ≡ length (s .servers) =
+          ap (λ (G : Capacity). G .servers) (h .capacity) ∙ sym (server-count s (area-fits (h .area))) in
+          let z : F .servers - slot ≡ 0 = omega arith in
+          let whole : p .pushes ≡ startEvents spread 0 (length (s .servers)) g =
+          sym (append-nil (p .pushes)) ∙ ap (λ (m : ℕ). p .pushes ++ startEvents spread slot m next) (sym z) ∙ p .rest
+          ∙ ap (λ (m : ℕ). startEvents spread 0 m g) n in
+          let same : pushedAll (p .pushes) s ≡ spreadStarts s spread 0 (length (s .servers)) g =
+          ap (λ (es : List Scheduled). pushedAll es s) whole ∙ sym (spread-starts-are (length (s .servers)) spread 0 g s) in
           subst (AreaOf b₁ r F) same (p .changes .to s r h (ap stateFits same ∙ t));
     }

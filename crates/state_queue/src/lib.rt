@@ -1,13 +1,22 @@
 // The event queue of the state that an area holds, read and written in place.
-ghost use mathlib.Core.Path.{_≡_};
-ghost use mathlib.Core.List.{[]};
-ghost use Prim.Native.Nat.{_≤_};
+ghost use Prim.Native.Nat.{_≤_, _<_};
 ghost use lib.ListN.{length};
 ghost use Rattle.state.specs.Changes.{Inside, Changes, Reads};
-ghost use Rattle.state_queue.specs.Events.{queueLength, queueRoom, nextEvent, CopiesMessage, dequeued, pushed, plain, firstSent};
+ghost use Rattle.state_queue.specs.Events.{
+  queueLength,
+  queueRoom,
+  nextEvent,
+  CopiesMessage,
+  dequeued,
+  pushed,
+  plain,
+  firstSent,
+  spreadStarted,
+};
 use queue::Event;
 use queue::table;
 use queue::table::Earliest;
+use rng::Rng;
 use state::Capacity;
 use state::sizes;
 use units::SimTime;
@@ -137,5 +146,21 @@ pub fn push_first_sends(area: &mut [u8], f: Capacity)
     while c < f.clients {
         push_plain(area, f, now, Event::ClientSend { client: c });
         c += 1;
+    }
+}
+
+// A Start event for each server, at times drawn below a spread, where there is room for all.
+pub fn push_spread_starts(area: &mut [u8], f: Capacity, spread: u64, g: Rng)
+    requires { ⌜ Inside (now area) f ⌝ }
+    requires { ⌜ 0 < spread ⌝ }
+    ensures { λ _. ⌜ Changes (now (area .entry)) (now (area .exit)) f (spreadStarted spread g) ⌝ }
+{
+    let mut next = g;
+    let mut slot = 0;
+    while slot < f.servers {
+        let d = rng::drawn_under(next, spread);
+        push_plain(area, f, SimTime(d.value), Event::Start { slot });
+        next = d.next;
+        slot += 1;
     }
 }

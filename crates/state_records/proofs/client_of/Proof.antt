@@ -1,5 +1,5 @@
--- Made by tools/uniform from proofs.txt, not by hand: 2c681bf07ea965ea
-use Rattle.state_records.specs.Laws.{client-read, clients-end, clients-within}
+-- Made by tools/uniform from proofs.txt, not by hand: f05db10d3c3b6881
+use Rattle.state_records.specs.ClientRows.{client-read, clients-end, clients-within}
 use borrow.Author.Needs.{needs}
 use Rattle.state_records.proofs.client_of.Statement.{statement}
 use Rattle.state_records.proofs.client_of.Tie as tie

@@ -1,5 +1,5 @@
--- Made by tools/uniform from proofs.txt, not by hand: 79e44ae534ef33bf
-use Rattle.state_records.specs.Laws.{client-put, clients-end, clients-within}
+-- Made by tools/uniform from proofs.txt, not by hand: 58a6303e8ef19680
+use Rattle.state_records.specs.ClientRows.{client-put, clients-end, clients-within}
 use borrow.Author.Needs.{needs}
 use Rattle.state_records.proofs.set_client.Statement.{statement}
 use Rattle.state_records.proofs.set_client.Tie as tie
