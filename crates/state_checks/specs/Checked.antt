@@ -6,18 +6,23 @@ use Prim.Native.Nat.{ℕ, _*_}
 use lib.ListN.{getD}
 use lib.Seq.{sets}
 use Rattle.laws.specs.Lists.{isSome}
-use Rattle.laws.specs.Order.{numbers, lookup}
+use Rattle.laws.specs.Order.{numbers, pairs, lookup}
 use Rattle.words.specs.Words.{bytesOf}
 use Rattle.units.specs.Types.{Payload}
 use Rattle.units.specs.declared.NodeId.{NodeId}
 use Rattle.units.specs.declared.Term.{Term}
+use Rattle.units.specs.declared.LogIndex.{LogIndex}
 use Rattle.units.specs.declared.SimTime.{SimTime}
 use Rattle.checks.specs.declared.Check.{Check}
-use Rattle.checks.specs.Checks.{reportIf, leaderKey}
-use Rattle.checks.specs.Asked.{appendIf, insertLeaderIf}
+use Rattle.checks.specs.Checks.{reportIf, leaderKey, seenKey}
+use Rattle.checks.specs.Asked.{appendIf, insertLeaderIf, insertSeenIf}
+use Rattle.layout.specs.Tables.{Holds}
 use Rattle.layout.specs.Parts.{lentRow, backRow}
+use Rattle.layout.specs.Payload.{payload}
 use Rattle.model.specs.State.{State}
 use Rattle.model.specs.Fields.{withChecker}
+use Rattle.state.specs.declared.Capacity.{Capacity}
+use Rattle.state.specs.Changes.{Changes}
 use Rattle.state.specs.Parts.{countsWords}
 use Rattle.state.specs.Area.{countsOf}
 
@@ -40,6 +45,18 @@ ledIf due term server s = withChecker s (insertLeaderIf due (record { term = ter
 -- Whether a term has no leader.
 unfoldable pub leaderless : Term → State → Bool
 leaderless term s = not (isSome (lookup numbers leaderKey (term .0) (s .checker .leaders)))
+
+-- An entry seen, where a test is true and none was under its index and term.
+unfoldable pub seenIf : Bool → LogIndex → Term → Payload → State → State
+seenIf due index term x s = withChecker s (insertSeenIf due (record { index = index; term = term; payload = x }) (s .checker))
+
+-- Whether no entry was seen under an index and a term.
+unfoldable pub unseen : LogIndex → Term → State → Bool
+unseen index term s = not (isSome (lookup pairs seenKey (index .0, term .0) (s .checker .entries)))
+
+-- Whatever payload the words of a row hold: an entry with it was seen, where a test is true and none was under its index and term.
+pub record Sees (b b′ row : List ℕ) (F : Capacity) (due : Bool) (index : LogIndex) (term : Term) : Type 0 where
+  pub to : (x : Payload) → Holds (payload (F .limits .payload)) row x → Changes b b′ F (seenIf due index term x)
 
 -- ---- a table and its count
 

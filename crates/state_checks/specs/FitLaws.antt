@@ -9,14 +9,15 @@ use lib.ListN.{length, getD, set, length-append}
 use borrow.Author.Tests.{lt-ltb, le-ltb, le-leb, lt-leb, ltb-true, ltb-false, leb-true}
 use Rattle.laws.specs.Bools.{pick, cases, _and_, allb, and-left, and-right, and-both, no-and, and-assoc, and-true, true-and, every, every-append}
 use Rattle.units.specs.Types.{Payload}
-use Rattle.laws.specs.Order.{numbers, insertBy}
+use Rattle.laws.specs.Order.{numbers, pairs, insertBy}
 use Rattle.units.specs.declared.NodeId.{NodeId}
 use Rattle.units.specs.declared.Term.{Term}
+use Rattle.units.specs.declared.LogIndex.{LogIndex}
 use Rattle.units.specs.declared.SimTime.{SimTime}
 use Rattle.queue.specs.Range.{word}
 use Rattle.checks.specs.declared.Check.{Check}
 use Rattle.checks.specs.declared.TermLeader.{TermLeader}
-use Rattle.checks.specs.Checks.{Checker, Violation, maxRecorded, report, withApplied, withLeaders, leaderKey}
+use Rattle.checks.specs.Checks.{Checker, Violation, Seen, maxRecorded, report, withApplied, withLeaders, withEntries, leaderKey, seenKey}
 use Rattle.checks.specs.Violations.{violationRow, violations}
 use Rattle.checks.specs.Leaders.{leaders}
 use Rattle.checks.specs.Entries.{seenIn}
@@ -27,7 +28,7 @@ use Rattle.model.specs.State.{State}
 use Rattle.model.specs.Fields.{withChecker}
 use Rattle.model.specs.Fits.{stateFits, stateTests, checkerFits, tableFits}
 use Rattle.state.specs.FitsBy.{allb-one}
-use Rattle.state_checks.specs.Checked.{reportedIf, appliedIf, ledIf}
+use Rattle.state_checks.specs.Checked.{reportedIf, appliedIf, ledIf, seenIf}
 use Rattle.state_checks.specs.TestLaws.{and-swap, allb-more, table-every, append-fits, insertFits, insert-fits}
 
 -- ---- what the checks remember
@@ -126,3 +127,18 @@ module _ (s : State) (term : Term) (server : NodeId) (h : tableFits (leaders (s 
       fits-checker-one s (withLeaders (s .checker) (insertBy numbers leaderKey l (s .checker .leaders))) 0 (leadFits term server s) (omega arith) h
       (ap (λ (u : Bool). set (checkerTests s (s .checker)) 0 u) (insert-fits numbers leaderKey (leaders (s .config .servers)) (s .limits .history) l (s .checker .leaders) (λ y. refl) h))
   fits-led false = sym (true-and (stateFits s))
+
+-- ---- an entry seen
+
+-- An entry in range: one was seen under its index and term; or there is room, its index is a place of the log, and its payload is short enough.
+abbrev pub seeFits : LogIndex → Term → Payload → State → Bool
+seeFits index term x s = insertFits pairs seenKey (seenIn (s .limits .«log_indexes») (s .limits .payload)) (s .limits .history) (record { index = index; term = term; payload = x }) (s .checker .entries)
+
+module _ (s : State) (index : LogIndex) (term : Term) (x : Payload) (h : tableFits (seenIn (s .limits .«log_indexes») (s .limits .payload)) (s .limits .history) (s .checker .entries) ≡ true) where
+  pub fits-seen : (due : Bool) → stateFits (seenIf due index term x s) ≡ (pick due (seeFits index term x s) true and stateFits s)
+  unfolding seenIf
+  fits-seen true =
+      let e : Seen = record { index = index; term = term; payload = x } in
+      fits-checker-one s (withEntries (s .checker) (insertBy pairs seenKey e (s .checker .entries))) 2 (seeFits index term x s) (omega arith) h
+      (ap (λ (u : Bool). set (checkerTests s (s .checker)) 2 u) (insert-fits pairs seenKey (seenIn (s .limits .«log_indexes») (s .limits .payload)) (s .limits .history) e (s .checker .entries) (λ y. refl) h))
+  fits-seen false = sym (true-and (stateFits s))

@@ -4,3 +4,4 @@ pub mod FitLaws
 pub mod KeepLaws
 pub mod TableLaws
 pub mod LeaderLaws
+pub mod EntryLaws

@@ -4,19 +4,25 @@ ghost use Prim.Native.Nat.{_+_, _*_, _≤_, _<_};
 ghost use lib.ListN.{length};
 ghost use Rattle.units.specs.Types.{payloadOf};
 ghost use Rattle.layout.specs.Tables.{Becomes, append};
+ghost use Rattle.layout.specs.Marked.{wordsFor};
 ghost use Rattle.layout.specs.Applied.{applied};
 ghost use Rattle.checks.specs.Violations.{detailOf};
 ghost use Rattle.checks.specs.Leaders.{InsertsLeader};
-ghost use Rattle.state.specs.Sizes.{leadersAt, appliedAt, appliedWords};
+ghost use Rattle.checks.specs.Entries.{InsertsSeen};
+ghost use Rattle.state.specs.Sizes.{seenAt, seenWords, leadersAt, appliedAt, appliedWords};
 ghost use Rattle.state.specs.Changes.{Inside, Changes, Reads};
-ghost use Rattle.state_checks.specs.Checked.{countAt, reportedIf, appliedIf, ledIf, leaderless, Stored};
+ghost use Rattle.state_checks.specs.Checked.{countAt, reportedIf, appliedIf, ledIf, leaderless, unseen, Sees, Stored};
 use checks::Check;
+use checks::entries;
 use checks::leaders;
 use checks::violations;
 use checks::violations::Detail;
 use layout::applied;
+use layout::rows;
+use layout::rows::Found;
 use state::Capacity;
 use state::sizes;
+use units::LogIndex;
 use units::NodeId;
 use units::SimTime;
 use units::Term;
@@ -132,4 +138,71 @@ pub fn lead(area: &mut [u8], f: Capacity, due: bool, term: Term, server: NodeId)
         return;
     }
     insert_leader(area, f, n as usize, term, server);
+}
+
+// ---- entries seen
+
+// Whether no entry was seen under an index and a term among the n of the table.
+fn is_unseen(area: &[u8], f: Capacity, n: usize, index: LogIndex, term: Term) -> bool
+    requires { ⌜ Inside (now area) f ⌝ }
+    requires { ⌜ n < f .limits .history ⌝ }
+    requires { ⌜ Reads (now area) f n (countAt 1) ⌝ }
+    ensures { λ r. ⌜ Reads (now (area .entry)) f r (unseen index term) ⌝ }
+{
+    let limits = f.limits;
+    let at = sizes::seen_at(f);
+    let all = sizes::seen_words(f);
+    let a = 8 * at;
+    let e = 8 * (at + all);
+    let w = 3 + (limits.payload as usize + 7) / 8;
+    match rows::find2(&area[a..e], n, w, index.0, term.0) {
+        Found::At(_) => false,
+        Found::Absent(_) => true,
+    }
+}
+
+// One entry more in the table of n, and its count. Its payload is lent in words.
+fn insert_entry(area: &mut [u8], f: Capacity, n: usize, index: LogIndex, term: Term, content: &[u8])
+    requires { ⌜ Inside (now area) f ⌝ }
+    requires { ⌜ n < f .limits .history ⌝ }
+    requires { ⌜ length (now content) ≡ 8 * (1 + wordsFor (f .limits .payload)) ⌝ }
+    ensures { λ _. ⌜ Stored (now (area .entry)) (now (area .exit)) (seenAt f) (seenWords f) 84 (n + 1)
+        (InsertsSeen (f .limits .payload) index term (now (content .entry)) n) ⌝ }
+{
+    let limits = f.limits;
+    let at = sizes::seen_at(f);
+    let all = sizes::seen_words(f);
+    let a = 8 * at;
+    let e = 8 * (at + all);
+    let p = limits.payload as usize;
+    entries::insert(&mut area[a..e], n, p, index, term, content);
+    words::store(area, 84, n as u64 + 1);
+}
+
+// An entry seen, where it is due and none was under its index and term. Its payload is lent in words. Nothing is written where no row is
+// left.
+pub fn see_entry(
+    area: &mut [u8],
+    f: Capacity,
+    due: bool,
+    index: LogIndex,
+    term: Term,
+    content: &[u8],
+)
+    requires { ⌜ Inside (now area) f ⌝ }
+    requires { ⌜ length (now content) ≡ 8 * (1 + wordsFor (f .limits .payload)) ⌝ }
+    ensures { λ _. ⌜ Sees (now (area .entry)) (now (area .exit)) (now (content .entry)) f due index term ⌝ }
+{
+    if !due {
+        return;
+    }
+    let limits = f.limits;
+    let n = count_of(area, f, 1);
+    if limits.history <= n {
+        return;
+    }
+    if !is_unseen(area, f, n as usize, index, term) {
+        return;
+    }
+    insert_entry(area, f, n as usize, index, term, content);
 }
