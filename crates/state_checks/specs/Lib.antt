@@ -5,3 +5,4 @@ pub mod KeepLaws
 pub mod TableLaws
 pub mod LeaderLaws
 pub mod EntryLaws
+pub mod LogLaws

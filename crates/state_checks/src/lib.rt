@@ -1,5 +1,6 @@
 // What the checks write, over the whole area: a violation kept, an entry seen, a leader of a term, an applied payload.
 ghost use mathlib.Core.Path.{_≡_};
+ghost use mathlib.Core.Bool.{true};
 ghost use Prim.Native.Nat.{_+_, _*_, _≤_, _<_};
 ghost use lib.ListN.{length};
 ghost use Rattle.units.specs.Types.{payloadOf};
@@ -11,7 +12,7 @@ ghost use Rattle.checks.specs.Leaders.{InsertsLeader};
 ghost use Rattle.checks.specs.Entries.{InsertsSeen};
 ghost use Rattle.state.specs.Sizes.{seenAt, seenWords, leadersAt, appliedAt, appliedWords};
 ghost use Rattle.state.specs.Changes.{Inside, Changes, Reads};
-ghost use Rattle.state_checks.specs.Checked.{countAt, reportedIf, appliedIf, ledIf, leaderless, unseen, Sees, Stored};
+ghost use Rattle.state_checks.specs.Checked.{countAt, reportedIf, appliedIf, ledIf, leaderless, unseen, Sees, seenOfIf, CopiesRow, CopiesEntry, Stored};
 use checks::Check;
 use checks::entries;
 use checks::leaders;
@@ -205,4 +206,71 @@ pub fn see_entry(
         return;
     }
     insert_entry(area, f, n as usize, index, term, content);
+}
+
+// ---- entries of a server's log
+
+// Copies the words of the payload at an index of a log of l places; false where no entry is there.
+fn copy_row(log: &[u8], l: usize, p: usize, index: LogIndex, row: &mut [u8]) -> bool
+    requires { ⌜ p ≤ 256 ⌝ }
+    requires { ⌜ 8 * (l * (2 + wordsFor p)) ≤ length (now log) ⌝ }
+    requires { ⌜ length (now row) ≡ 8 * (1 + wordsFor p) ⌝ }
+    ensures { λ r. ⌜ CopiesRow p l (index .0) r (now (log .entry)) (now (row .exit)) ⌝ }
+{
+    let i = index.0 as usize;
+    if i < 1 {
+        return false;
+    }
+    if l < i {
+        return false;
+    }
+    let w = 1 + (p + 7) / 8;
+    let at = rows::start_of(i - 1, l, w + 1);
+    let a = 8 * at;
+    let e = 8 * (at + w);
+    words::copy_from(row, 0, &log[a..e]);
+    0 < words::load(row, 0)
+}
+
+// Copies the words of the payload at an index of the current log of the server at a place; false where no entry is there.
+fn copy_entry(area: &[u8], f: Capacity, k: usize, index: LogIndex, row: &mut [u8]) -> bool
+    requires { ⌜ Inside (now area) f ⌝ }
+    requires { ⌜ k < f .servers ⌝ }
+    requires { ⌜ length (now row) ≡ 8 * (1 + wordsFor (f .limits .payload)) ⌝ }
+    ensures { λ r. ⌜ CopiesEntry (now (area .entry)) f k index r (now (row .exit)) ⌝ }
+{
+    let limits = f.limits;
+    let at = sizes::block_at(f, k);
+    let w = sizes::log_words(f);
+    let a = 8 * (at + 64);
+    let e = 8 * (at + 64 + w);
+    let l = limits.log_indexes as usize;
+    copy_row(&area[a..e], l, limits.payload as usize, index, row)
+}
+
+// The entry at an index of the current log of the server at a place seen, where it is there and none was seen under its index and the term.
+// The words of its payload are copied into `row`.
+fn see_copied(area: &mut [u8], f: Capacity, k: usize, index: LogIndex, term: Term, row: &mut [u8])
+    requires { ⌜ Inside (now area) f ⌝ }
+    requires { ⌜ k < f .servers ⌝ }
+    requires { ⌜ length (now row) ≡ 8 * (1 + wordsFor (f .limits .payload)) ⌝ }
+    ensures { λ _. ⌜ Changes (now (area .entry)) (now (area .exit)) f (seenOfIf true k index term) ⌝ }
+{
+    if copy_entry(area, f, k, index, row) {
+        see_entry(area, f, true, index, term, row);
+    }
+}
+
+// The same where it is due.
+pub fn see_entry_of(area: &mut [u8], f: Capacity, due: bool, k: usize, index: LogIndex, term: Term)
+    requires { ⌜ Inside (now area) f ⌝ }
+    requires { ⌜ k < f .servers ⌝ }
+    ensures { λ _. ⌜ Changes (now (area .entry)) (now (area .exit)) f (seenOfIf due k index term) ⌝ }
+{
+    if due {
+        let limits = f.limits;
+        let n = 8 * (1 + (limits.payload as usize + 7) / 8);
+        let mut row = [0u8; 264];
+        see_copied(area, f, k, index, term, &mut row[0..n]);
+    }
 }
