@@ -2,13 +2,14 @@
 use mathlib.Core.Path.{_≡_, refl, sym, ap, ap₂, _∙_}
 use mathlib.Core.Bool.{Bool, true, false}
 use mathlib.Core.List.{List, [], _∷_, _++_}
-use Prim.Native.Nat.{ℕ, zero, suc, _+_, _≤_, _<_}
+use Prim.Native.Nat.{ℕ, zero, suc, _+_, _^_, _≤_, _<_}
 use native.Mathlib.Omega.{arith}
 use lib.Dec.{leb, ltb}
 use lib.ListN.{length, getD, set, length-append}
 use borrow.Author.Tests.{lt-ltb, le-ltb, le-leb, lt-leb, ltb-true, ltb-false, leb-true}
-use Rattle.laws.specs.Bools.{pick, cases, _and_, allb, and-left, and-right, and-both, no-and, and-assoc, and-true, true-and, every, every-append}
-use Rattle.units.specs.Types.{Payload}
+use Rattle.laws.specs.Bools.{pick, pick-both, cases, _and_, allb, and-left, and-right, and-both, no-and, and-assoc, and-true, true-and, every, every-append}
+use mathlib.Core.Option.{Option, none, some}
+use Rattle.units.specs.Types.{Payload, Entry}
 use Rattle.laws.specs.Order.{numbers, pairs, insertBy}
 use Rattle.units.specs.declared.NodeId.{NodeId}
 use Rattle.units.specs.declared.Term.{Term}
@@ -28,8 +29,8 @@ use Rattle.model.specs.State.{State}
 use Rattle.model.specs.Fields.{withChecker}
 use Rattle.model.specs.Fits.{stateFits, stateTests, checkerFits, tableFits}
 use Rattle.state.specs.FitsBy.{allb-one}
-use Rattle.state_checks.specs.Checked.{reportedIf, appliedIf, ledIf, seenIf}
-use Rattle.state_checks.specs.TestLaws.{and-swap, allb-more, table-every, append-fits, insertFits, insert-fits}
+use Rattle.state_checks.specs.Checked.{reportedIf, appliedIf, ledIf, seenIf, entryOf, seenMaybe, seenOfIf}
+use Rattle.state_checks.specs.TestLaws.{and-swap, allb-more, allb-before, table-room, table-every, append-fits, insertFits, insert-fits}
 
 -- ---- what the checks remember
 
@@ -96,6 +97,33 @@ module _ (s : State) (time : SimTime) (check : Check) (numbers : List ℕ) (h : 
   fits-reported true = fits-report
   fits-reported false = sym (true-and (stateFits s))
 
+-- a state fits that fits with one report more
+module _ (s : State) (time : SimTime) (check : Check) (numbers : List ℕ) where
+  before-violations : tableFits violations maxRecorded (report (s .checker) time check numbers .violations) ≡ true → tableFits violations maxRecorded (s .checker .violations) ≡ true
+  unfolding report
+  before-violations h = by (ltb (length (s .checker .violations)) maxRecorded) h
+    where
+      v : Violation
+      v = record { time = time; check = check; detail = numbers }
+
+      by : (t : Bool) → tableFits violations maxRecorded (pick t (s .checker .violations ++ v ∷ []) (s .checker .violations)) ≡ true → tableFits violations maxRecorded (s .checker .violations) ≡ true
+      by true k =
+          let xs : List Violation = s .checker .violations in
+          let l : leb (length xs) maxRecorded ≡ true = le-leb (length xs) maxRecorded (omega (arith, table-room violations maxRecorded (xs ++ v ∷ []) k, length-append xs (v ∷ []))) in
+          and-both _ _ l (and-both _ _ (and-left _ _ (sym (every-append (violationRow .good) xs (v ∷ [])) ∙ table-every violations maxRecorded (xs ++ v ∷ []) k)) l)
+      by false k = k
+
+  pub before-reported : (due : Bool) → stateFits (reportedIf due time check numbers s) ≡ true → stateFits s ≡ true
+  unfolding stateFits reportedIf report
+  before-reported true h =
+      let c : Checker = report (s .checker) time check numbers in
+      let bs : List Bool = checkerTests s (s .checker) in
+      let w : Bool = word (s .checker .total + 1) in
+      allb-before (stateTests s) 13 (allb (checkerTests s c)) (omega arith)
+      (λ k. allb-before bs 3 (tableFits violations maxRecorded (c .violations)) (omega arith) before-violations
+      (allb-before (set bs 3 (tableFits violations maxRecorded (c .violations))) 4 w (omega arith) (λ y. let m : s .checker .total + 1 < 2 ^ 64 = ltb-true _ _ y in lt-ltb (s .checker .total) (2 ^ 64) (omega arith)) k)) h
+  before-reported false h = h
+
 -- ---- a payload applied
 
 -- An applied payload in range: there is a place for it, and it is short enough.
@@ -142,3 +170,17 @@ module _ (s : State) (index : LogIndex) (term : Term) (x : Payload) (h : tableFi
       fits-checker-one s (withEntries (s .checker) (insertBy pairs seenKey e (s .checker .entries))) 2 (seeFits index term x s) (omega arith) h
       (ap (λ (u : Bool). set (checkerTests s (s .checker)) 2 u) (insert-fits pairs seenKey (seenIn (s .limits .«log_indexes») (s .limits .payload)) (s .limits .history) e (s .checker .entries) (λ y. refl) h))
   fits-seen false = sym (true-and (stateFits s))
+
+-- The same of an entry that may be there.
+abbrev pub seeMaybeFits : Option Entry → LogIndex → Term → State → Bool
+seeMaybeFits none index term s = true
+seeMaybeFits (some e) index term s = seeFits index term (e .payload) s
+
+module _ (s : State) (k : ℕ) (index : LogIndex) (term : Term) (h : tableFits (seenIn (s .limits .«log_indexes») (s .limits .payload)) (s .limits .history) (s .checker .entries) ≡ true) where
+  pub fits-seen-of : (due : Bool) → stateFits (seenOfIf due k index term s) ≡ (pick due (seeMaybeFits (entryOf k index s) index term s) true and stateFits s)
+  unfolding seenOfIf
+  fits-seen-of due = by (entryOf k index s)
+    where
+      by : (o : Option Entry) → stateFits (seenMaybe o due index term s) ≡ (pick due (seeMaybeFits o index term s) true and stateFits s)
+      by none = sym (ap (λ (u : Bool). u and stateFits s) (pick-both (λ (u : Bool). u ≡ true) due refl refl) ∙ true-and _)
+      by (some e) = fits-seen s index term (e .payload) h due

@@ -6,3 +6,5 @@ pub mod TableLaws
 pub mod LeaderLaws
 pub mod EntryLaws
 pub mod LogLaws
+pub mod Acts
+pub mod ActLaws

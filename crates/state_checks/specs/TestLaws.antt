@@ -8,7 +8,7 @@ use native.Mathlib.Omega.{arith}
 use lib.Dec.{leb, ltb}
 use lib.ListN.{length, getD, set, length-append}
 use borrow.Author.Tests.{le-leb, lt-leb, ltb-true, ltb-false, leb-true}
-use Rattle.laws.specs.Bools.{pick, cases, _and_, allb, and-left, and-right, no-and, and-assoc, and-true, true-and, every, every-append}
+use Rattle.laws.specs.Bools.{pick, cases, _and_, allb, and-left, and-right, and-both, no-and, and-assoc, and-true, true-and, every, every-append}
 use Rattle.laws.specs.Decides.{false-true}
 use Rattle.laws.specs.Lists.{isSome}
 use Rattle.laws.specs.Order.{Order, rising, lookup, insertBy}
@@ -31,6 +31,12 @@ pub allb-more : (bs : List Bool) (i : ℕ) (t : Bool) → i < length bs → allb
 allb-more [] i t k = absurd (omega arith)
 allb-more (b ∷ bs) zero t k = and-assoc t b (allb bs)
 allb-more (b ∷ bs) (suc i) t k = ap (λ (u : Bool). b and u) (allb-more bs i t (omega arith)) ∙ and-swap b t (allb bs)
+
+-- one test that is another, where the new one follows: all were true before
+pub allb-before : (bs : List Bool) (i : ℕ) (t : Bool) → i < length bs → (t ≡ true → getD bs i true ≡ true) → allb (set bs i t) ≡ true → allb bs ≡ true
+allb-before [] i t k f h = absurd (omega arith)
+allb-before (b ∷ bs) zero t k f h = and-both _ _ (f (and-left _ _ h)) (and-right _ _ h)
+allb-before (b ∷ bs) (suc i) t k f h = and-both _ _ (and-left _ _ h) (allb-before bs i t (omega arith) f (and-right _ _ h))
 
 -- ---- tables
 

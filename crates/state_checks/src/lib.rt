@@ -28,6 +28,8 @@ use units::NodeId;
 use units::SimTime;
 use units::Term;
 
+pub mod acts; // each check acted on
+
 // Word j of the counts of rows.
 fn count_of(area: &[u8], f: Capacity, j: usize) -> u64
     requires { ⌜ Inside (now area) f ⌝ }
