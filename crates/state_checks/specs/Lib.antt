@@ -4,3 +4,7 @@ pub mod FitLaws
 pub mod KeepLaws
 pub mod TableLaws
 pub mod LeaderLaws
+pub mod EntryLaws
+pub mod LogLaws
+pub mod Acts
+pub mod ActLaws

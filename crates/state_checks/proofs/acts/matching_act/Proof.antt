@@ -1,0 +1,16 @@
+-- Made by tools/uniform from proofs.txt, not by hand: e5842cf90a3b5576
+use Rattle.state_checks.specs.ActLaws.{mismatches}
+use borrow.Author.Needs.{needs}
+use Rattle.state_checks.proofs.acts.matching_act.Statement.{statement}
+use Rattle.state_checks.proofs.acts.matching_act.Tie as tie
+
+pub matching-act-spec : {M : Type 1} → statement M
+matching-act-spec =
+    tie.close
+    (tie.spec
+    (λ c. search (mismatches, needs))  -- enum-told
+    (λ c. search (mismatches, needs))  -- enum-known-found
+    (λ c κs. search (mismatches, needs))  -- keep-requires
+    (λ c. search (mismatches, needs))  -- returns
+    (λ c. search (mismatches, needs))  -- same-length
+    (λ c. search (mismatches, needs)))  -- returns-2

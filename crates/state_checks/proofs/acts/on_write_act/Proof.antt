@@ -1,0 +1,16 @@
+-- Made by tools/uniform from proofs.txt, not by hand: fa836f4f1e1ad0b2
+use Rattle.state.specs.Exits.{inside-after}
+use Rattle.state_checks.specs.ActLaws.{write-acted}
+use borrow.Author.Needs.{needs}
+use Rattle.state_checks.proofs.acts.on_write_act.Statement.{statement}
+use Rattle.state_checks.proofs.acts.on_write_act.Tie as tie
+
+pub on-write-act-spec : {M : Type 1} → statement M
+on-write-act-spec =
+    tie.close
+    (tie.spec
+    (λ c. search (write-acted, inside-after, needs))  -- add-t10
+    (λ c κs. search (write-acted, inside-after, needs))  -- keep-requires
+    (λ c κs. search (write-acted, inside-after, needs))  -- see-entry-of-requires
+    (λ c. search (write-acted, inside-after, needs))  -- same-length
+    (λ c. search (write-acted, inside-after, needs)))  -- returns
