@@ -3,3 +3,4 @@ pub mod Lent
 pub mod Rows
 pub mod Laws
 pub mod ApplyLaws
+pub mod StatusLaws

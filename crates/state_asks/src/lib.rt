@@ -1,3 +1,4 @@
 // The questions of checks.rs over the state that an area holds. Nothing is written: a call asks, and then acts.
 pub mod numbers; // counts and numbers of servers that questions ask for
 pub mod apply; // a payload applied
+pub mod status; // a status
