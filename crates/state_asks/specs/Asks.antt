@@ -14,10 +14,15 @@ use Rattle.units.specs.declared.TermOption.{TermOption}
 use Rattle.protocol.specs.declared.Status.{Status}
 use Rattle.layout.specs.Tables.{Holds}
 use Rattle.layout.specs.Payload.{payload}
-use Rattle.log.specs.Log.{Log}
-use Rattle.checks.specs.Checks.{Checker, Led, leaderKey, onApply, onStatus}
+use Rattle.log.specs.Log.{Log, entryAt}
+use Rattle.storage.specs.Storage.{Write, written}
+use Rattle.checks.specs.Checks.{Checker, Led, leaderKey, onApply, onWrites, onStatus}
 use Rattle.checks_on_apply.specs.declared.ApplyAsked.{ApplyAsked}
 use Rattle.checks_on_apply.specs.OnApply.{applyActs}
+use Rattle.checks_on_write.specs.declared.WriteAsked.{WriteAsked}
+use Rattle.checks_on_write.specs.declared.WritesAsked.{WritesAsked}
+use Rattle.checks_on_write.specs.OnWrite.{writeAsked}
+use Rattle.checks_on_write.specs.OnWrites.{indexOf}
 use Rattle.checks_on_status.specs.declared.StatusAsked.{StatusAsked}
 use Rattle.checks_on_status.specs.OnStatus.{statusActs}
 use Rattle.model.specs.State.{State, serverAt, idOf}
@@ -97,3 +102,35 @@ pub record StatusTold (k : ℕ) (status : Status) (r : StatusAsked) (s : State) 
 pub record StatusGiven (leaders applied total : ℕ) (raftChecks : Bool) (leading : TermOption) (k : ℕ) (status : Status) (r : StatusAsked) (s : State) : Type 0 where
   pub to : leaders ≡ length (s .checker .leaders) → applied ≡ length (s .checker .applied) → total ≡ s .checker .total → raftChecks ≡ raftChecksOf s
       → leading ≡ leadingOf k s → StatusTold k status r s
+
+-- ---- writes
+
+-- The waiting writes of the server at a place.
+unfoldable pub waitingOf : ℕ → State → List Write
+waitingOf k s = serverAt s k .storage .waiting
+
+-- How many there are.
+unfoldable pub writeCountOf : ℕ → State → ℕ
+writeCountOf k s = length (waitingOf k s)
+
+-- The index of write i where it is a put, else 0, where no entry is.
+unfoldable pub writtenIndexOf : ℕ → ℕ → State → LogIndex
+writtenIndexOf k i s = indexOf i (waitingOf k s)
+
+-- What the entry at an index of the log of the server at a place gives, against the entries seen.
+unfoldable pub writeAskedOf : ℕ → LogIndex → State → WriteAsked
+writeAskedOf k index s = writeAsked (entryAt (logOf k s) (index .0)) index (s .checker .entries)
+
+-- The checks after all waiting writes of the server at a place.
+unfoldable pub afterWrites : ℕ → State → Checker
+afterWrites k s = onWrites (s .checker) (s .now) (idOf k) (logOf k s) (written (waitingOf k s))
+
+-- The answer for a state: 10 exactly where what the definition gives does not fit, how many entries are new, and how many reports are due.
+pub record WritesTold (k : ℕ) (r : WritesAsked) (s : State) : Type 0 where
+  pub code : r .code ≡ checkerCode s (afterWrites k s)
+  pub added : length (afterWrites k s .entries) ≡ length (s .checker .entries) + r .added
+  pub reports : afterWrites k s .total ≡ s .checker .total + r .reports
+
+-- The same where the numbers are the state's: how many writes wait, how many entries were seen, and the total of violations.
+pub record WritesGiven (writes seen total k : ℕ) (r : WritesAsked) (s : State) : Type 0 where
+  pub to : writes ≡ writeCountOf k s → seen ≡ length (s .checker .entries) → total ≡ s .checker .total → WritesTold k r s

@@ -4,3 +4,4 @@ pub mod Rows
 pub mod Laws
 pub mod ApplyLaws
 pub mod StatusLaws
+pub mod WriteLaws

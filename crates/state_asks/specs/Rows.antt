@@ -6,7 +6,7 @@ use Prim.Native.Nat.{ℕ, _+_, _^_, _≤_, _<_}
 use native.Mathlib.Omega.{arith}
 use lib.Dec.{leb, ltb}
 use lib.ListN.{length, length-append}
-use borrow.Author.Tests.{leb-true, le-leb, lt-ltb, ltb-true}
+use borrow.Author.Tests.{leb-true, le-leb, lt-ltb, ltb-true, eqb-true}
 use Rattle.laws.specs.Bools.{pick, _and_, and-left, and-right, and-both, and-true, true-and, allb, allb-in, every, every-append}
 use Rattle.laws.specs.Order.{numbers, pairs, rising, insertBy}
 use Rattle.laws.specs.OrderLaws.{every-insert}
@@ -16,6 +16,7 @@ use Rattle.layout.specs.UpTo.{is64}
 use Rattle.layout.specs.Payload.{payload}
 use Rattle.layout.specs.Sorted.{rising-insert}
 use Rattle.queue.specs.Range.{word}
+use Rattle.log.specs.Places.{place}
 use Rattle.config.specs.declared.SimConfig.{SimConfig}
 use Rattle.config.specs.declared.Limits.{Limits}
 use Rattle.checks.specs.declared.Check.{Check}
@@ -27,7 +28,7 @@ use Rattle.checks.specs.Entries.{seenIn}
 use Rattle.checks.specs.Violations.{violations, violationRow}
 use Rattle.checks.specs.Asked.{countsCode}
 use Rattle.model.specs.State.{State, serverAt}
-use Rattle.model.specs.Fits.{checkerFits, tableFits, serverFits, serverTests}
+use Rattle.model.specs.Fits.{checkerFits, tableFits, serverFits, serverTests, storageFits}
 use Rattle.state.specs.Area.{Area}
 use Rattle.state.specs.Fitting.{area-fits, laid-limits}
 use Rattle.state.specs.FitsBy.{fits-test, server-fits-at}
@@ -226,3 +227,15 @@ module _ {b : List ℕ} {s : State} (h : Area b s) where
 
     pub next-fits : is64 (serverAt s k .nextApply) ≡ true
     next-fits = lt-ltb (serverAt s k .nextApply) (2 ^ 64) (omega (arith, next-few, laid-limits (h .laid) .log-indexes))
+
+    storage-tests : storageFits (s .config) (s .limits) (serverAt s k .storage) ≡ true
+    storage-tests = allb-in (serverTests (s .config) (s .limits) (serverAt s k)) server-tests 1
+
+    pub log-long : length (serverAt s k .storage .current .log) ≡ s .limits .«log_indexes»
+    log-long = eqb-true _ _ (and-left _ _ (and-right _ _ (and-left _ _ storage-tests)))
+
+    pub log-good : every (place (s .limits .payload) .good) (serverAt s k .storage .current .log) ≡ true
+    log-good = and-right _ _ (and-right _ _ (and-left _ _ storage-tests))
+
+    pub few-writes : length (serverAt s k .storage .waiting) ≤ s .limits .writes
+    few-writes = leb-true _ _ (and-left _ _ (and-left _ _ (and-right _ _ (and-right _ _ storage-tests))))

@@ -2,3 +2,4 @@
 pub mod numbers; // counts and numbers of servers that questions ask for
 pub mod apply; // a payload applied
 pub mod status; // a status
+pub mod writes; // writes
