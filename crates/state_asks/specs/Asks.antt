@@ -2,7 +2,7 @@
 use mathlib.Core.Path.{_≡_}
 use mathlib.Core.Bool.{Bool, true}
 use mathlib.Core.List.{List}
-use mathlib.Core.Option.{none, some}
+use mathlib.Core.Option.{Option, none, some}
 use Prim.Native.Nat.{ℕ, _+_, _*_, _≤_}
 use lib.Dec.{eqb}
 use lib.ListN.{length}
@@ -16,7 +16,7 @@ use Rattle.layout.specs.Tables.{Holds}
 use Rattle.layout.specs.Payload.{payload}
 use Rattle.log.specs.Log.{Log, entryAt}
 use Rattle.storage.specs.Storage.{Write, written}
-use Rattle.checks.specs.Checks.{Checker, Led, leaderKey, onApply, onWrites, onStatus}
+use Rattle.checks.specs.Checks.{Checker, Led, Mismatch, leaderKey, onApply, onWrites, onStatus, logMatchingFailure, checkLogMatching}
 use Rattle.checks_on_apply.specs.declared.ApplyAsked.{ApplyAsked}
 use Rattle.checks_on_apply.specs.OnApply.{applyActs}
 use Rattle.checks_on_write.specs.declared.WriteAsked.{WriteAsked}
@@ -25,7 +25,9 @@ use Rattle.checks_on_write.specs.OnWrite.{writeAsked}
 use Rattle.checks_on_write.specs.OnWrites.{indexOf}
 use Rattle.checks_on_status.specs.declared.StatusAsked.{StatusAsked}
 use Rattle.checks_on_status.specs.OnStatus.{statusActs}
+use Rattle.checks_log_matching.specs.declared.pairs.MatchingAsked.{MatchingAsked}
 use Rattle.model.specs.State.{State, serverAt, idOf}
+use Rattle.model.specs.Calls.{logsFrom}
 use Rattle.model.specs.Fits.{checkerFits}
 use Rattle.state.specs.declared.Capacity.{Capacity}
 use Rattle.state.specs.Server.{optionTerm}
@@ -134,3 +136,22 @@ pub record WritesTold (k : ℕ) (r : WritesAsked) (s : State) : Type 0 where
 -- The same where the numbers are the state's: how many writes wait, how many entries were seen, and the total of violations.
 pub record WritesGiven (writes seen total k : ℕ) (r : WritesAsked) (s : State) : Type 0 where
   pub to : writes ≡ writeCountOf k s → seen ≡ length (s .checker .entries) → total ≡ s .checker .total → WritesTold k r s
+
+-- ---- log matching
+
+-- How the current logs of the servers at two places break log matching.
+unfoldable pub mismatchBetween : ℕ → ℕ → State → Option Mismatch
+mismatchBetween i j s = logMatchingFailure (logOf i s) (logOf j s)
+
+-- The checks after every pair of logs is checked.
+unfoldable pub afterMatching : State → Checker
+afterMatching s = checkLogMatching (s .checker) (s .now) (logsFrom 0 (s .servers))
+
+-- The answer for a state: 10 exactly where what the definition gives does not fit, and how many reports are due.
+pub record MatchingTold (r : MatchingAsked) (s : State) : Type 0 where
+  pub code : r .code ≡ checkerCode s (afterMatching s)
+  pub reports : afterMatching s .total ≡ s .checker .total + r .reports
+
+-- The same where the total of violations is the state's.
+pub record MatchingGiven (total : ℕ) (r : MatchingAsked) (s : State) : Type 0 where
+  pub to : total ≡ s .checker .total → MatchingTold r s

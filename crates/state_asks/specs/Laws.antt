@@ -10,7 +10,7 @@ use Rattle.layout.specs.Parts.{lentRow, length-lentRow}
 use Rattle.layout.specs.Rows.{row-start}
 use Rattle.model.specs.State.{State}
 use Rattle.state.specs.declared.Capacity.{Capacity}
-use Rattle.state.specs.Sizes.{blockWords, seenWords, appliedWords, seenAt, leadersAt, repliesAt, appliedAt, wholeWords, Counted, BlockAt}
+use Rattle.state.specs.Sizes.{blockWords, queueWords, seenWords, appliedWords, queueAt, seenAt, leadersAt, repliesAt, appliedAt, wholeWords, Counted, BlockAt}
 use Rattle.state.specs.SizeLaws.{room}
 use Rattle.state.specs.Area.{Area, capacityOf}
 use Rattle.state.specs.Changes.{Inside, Reads}
@@ -33,6 +33,9 @@ module _ (b : List ℕ) (F : Capacity) (i : Inside b F) (r : ℕ) where
 
   pub block-begins : (k : ℕ) → k < F .servers → BlockAt F k r → Begins b r (512 + k * blockWords F) (blockWords F)
   block-begins k j p = record { is = p .is; ends = omega (arith, fits, p .ends) }
+
+  pub queue-begins : Counted r (queueAt F) → Begins b r (queueAt F) (queueWords F)
+  queue-begins p = record { is = p .is; ends = omega (arith, fits, p .is) }
 
   pub seen-begins : Counted r (seenAt F) → Begins b r (seenAt F) (seenWords F)
   seen-begins p = record { is = p .is; ends = omega (arith, fits, p .is) }

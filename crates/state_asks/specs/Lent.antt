@@ -27,11 +27,11 @@ use Rattle.state.specs.Area.{Area, capacityOf, servers}
 -- ---- words from a word on
 
 -- w words at a word are the bytes from its first
-lent-is : (at w : ℕ) (b : List ℕ) → lentRow at w b ≡ take (8 * w) (drop (8 * at) b)
+pub lent-is : (at w : ℕ) (b : List ℕ) → lentRow at w b ≡ take (8 * w) (drop (8 * at) b)
 lent-is at w b = let e : 8 * (at + w) - 8 * at ≡ 8 * w = omega arith in ap (λ (n : ℕ). take n (drop (8 * at) b)) e
 
 -- words of lent words
-lent-lent : (at z c w : ℕ) (b : List ℕ) → c + w ≤ z → lentRow (at + c) w b ≡ take (8 * w) (drop (8 * c) (lentRow at z b))
+pub lent-lent : (at z c w : ℕ) (b : List ℕ) → c + w ≤ z → lentRow (at + c) w b ≡ take (8 * w) (drop (8 * c) (lentRow at z b))
 lent-lent at z c w b h =
     let e : 8 * (at + c) ≡ 8 * at + 8 * c = omega arith in
     lent-is (at + c) w b ∙ ap (λ (n : ℕ). take (8 * w) (drop n b)) e ∙ part-part (8 * at) (8 * z) (8 * c) (8 * w) b (omega arith)

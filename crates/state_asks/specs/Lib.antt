@@ -5,3 +5,4 @@ pub mod Laws
 pub mod ApplyLaws
 pub mod StatusLaws
 pub mod WriteLaws
+pub mod MatchingLaws

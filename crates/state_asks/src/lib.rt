@@ -3,3 +3,4 @@ pub mod numbers; // counts and numbers of servers that questions ask for
 pub mod apply; // a payload applied
 pub mod status; // a status
 pub mod writes; // writes
+pub mod matching; // every pair of logs
