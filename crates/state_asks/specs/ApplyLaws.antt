@@ -2,18 +2,16 @@
 use mathlib.Core.Path.{_≡_, refl, sym, ap, ap₂, subst, _∙_}
 use mathlib.Core.Bool.{Bool, true, false}
 use mathlib.Core.List.{List, [], _∷_}
-use Prim.Native.Nat.{ℕ, _+_, _-_, _*_, _≤_, _<_}
+use Prim.Native.Nat.{ℕ, _+_, _-_, _*_, _^_, _≤_, _<_}
 use native.Mathlib.Omega.{arith}
 use lib.Dec.{leb}
 use lib.ListN.{length}
-use mir.Syntax.{w64}
-use mir.Val.{Fits}
-use borrow.Author.Tests.{leb-true}
+use borrow.Author.Tests.{leb-true, lt-ltb}
 use Rattle.laws.specs.Bools.{and-both}
 use Rattle.words.specs.Words.{Bytes}
 use Rattle.units.specs.Types.{Payload, payloadOf}
 use Rattle.units.specs.declared.LogIndex.{LogIndex}
-use Rattle.layout.specs.UpTo.{is64, is64-fits}
+use Rattle.layout.specs.UpTo.{is64}
 use Rattle.layout.specs.Tables.{Holds, Held}
 use Rattle.layout.specs.Parts.{lentRow}
 use Rattle.layout.specs.Marked.{wordsFor, sounds}
@@ -34,13 +32,13 @@ use Rattle.state.specs.declared.TableCounts.{TableCounts}
 use Rattle.state.specs.Sizes.{appliedWords, appliedAt, Within, Counted}
 use Rattle.state.specs.Area.{Area, capacityOf, countsOf}
 use Rattle.state.specs.Changes.{Inside, Reads}
-use Rattle.state_asks.specs.Asks.{Rows, Begins, nextApplyOf, checkerCode, afterApply, AsksApply, AsksRow}
+use Rattle.state_asks.specs.Asks.{Rows, Begins, nextApplyOf, checkerCode, Asks, afterApply, ApplyTold, AsksRow}
 use Rattle.state_asks.specs.Lent.{applied-lent}
 use Rattle.state_asks.specs.Rows.{Sound, detailFits, sound-if, sound-append, code-applied, area-sound, few-leaders, few-applied, few-entries, now-fits, id-fits, next-fits}
 
 -- ---- what the acts leave fits but for the payloads' count and the total
 
-module _ {b : List ℕ} {s : State} (h : Area b s) (k : ℕ) (i : k < s .config .servers) (index : LogIndex) (f : Fits w64 (index .0)) (x : Payload)
+module _ {b : List ℕ} {s : State} (h : Area b s) (k : ℕ) (i : k < s .config .servers) (index : LogIndex) (f : index .0 < 2 ^ 64) (x : Payload)
     (g : payload (s .limits .payload) .good x ≡ true) (r : ApplyAsked) where
   abbrev late : List ℕ
   late = (k + 1) ∷ index .0 ∷ serverAt s k .nextApply ∷ []
@@ -59,11 +57,11 @@ module _ {b : List ℕ} {s : State} (h : Area b s) (k : ℕ) (i : k < s .config 
 
   late-fits : detailFits late ≡ true
   unfolding detailFits
-  late-fits = and-both _ _ refl (and-both _ _ (id-fits h k i) (and-both _ _ (is64-fits (index .0) f) (and-both _ _ (next-fits h k i) refl)))
+  late-fits = and-both _ _ refl (and-both _ _ (id-fits h k i) (and-both _ _ (lt-ltb (index .0) (2 ^ 64) f) (and-both _ _ (next-fits h k i) refl)))
 
   other-fits : detailFits other ≡ true
   unfolding detailFits
-  other-fits = and-both _ _ refl (and-both _ _ (id-fits h k i) (and-both _ _ (is64-fits (index .0) f) refl))
+  other-fits = and-both _ _ refl (and-both _ _ (id-fits h k i) (and-both _ _ (lt-ltb (index .0) (2 ^ 64) f) refl))
 
   compared-sound : Sound (s .config .servers) (s .limits .«log_indexes») (s .limits .payload) compared
   compared-sound = sound-if (sound-if (area-sound h) (s .now) ApplyOrder late (now-fits h) late-fits (r .late)) (s .now) StateMachineSafety other (now-fits h) other-fits (r .other)
@@ -95,7 +93,7 @@ record Learnt (F : Capacity) (b : List ℕ) (k : ℕ) (index : LogIndex) (conten
   words : w ≡ appliedWords F
   asked : region.AsksApply (record { applied = lentRow at w b; count = n; room = F .limits .«log_indexes»; longest = F .limits .payload; total = counts .total; index = index; expected = expected; content = content }) r
 
-module _ {b : List ℕ} {k : ℕ} {index : LogIndex} {content : List ℕ} {expected n at w : ℕ} {counts : TableCounts} {r : ApplyAsked} (f : Fits w64 (index .0)) {s : State} (h : Area b s)
+module _ {b : List ℕ} {k : ℕ} {index : LogIndex} {content : List ℕ} {expected n at w : ℕ} {counts : TableCounts} {r : ApplyAsked} (f : index .0 < 2 ^ 64) {s : State} (h : Area b s)
     (q : Learnt (capacityOf s) b k index content expected n at w counts r) (ex : expected ≡ serverAt s k .nextApply) (ec : counts ≡ countsOf s) (x : Payload)
     (hx : Holds (payload (s .limits .payload)) content x) where
   abbrev after : ℕ → Checker
@@ -122,29 +120,31 @@ module _ {b : List ℕ} {k : ℕ} {index : LogIndex} {content : List ℕ} {expec
       ∙ ap (λ (d : Checker). countsCode (length (d .applied)) (s .limits .«log_indexes») (d .total)) told-does
       ∙ sym (acted-code h k (q .place) index f x (hx .good) r) ∙ ap (checkerCode s) (sym told-does)
 
-pub row-asked : {b : List ℕ} {F : Capacity} {k : ℕ} {index : LogIndex} {content : List ℕ} {expected n at w : ℕ} {counts : TableCounts} {r : ApplyAsked}
+pub row-asked : {b : List ℕ} {F : Capacity} {k : ℕ} {index : LogIndex} {content : List ℕ} {expected n at w : ℕ} {counts : TableCounts} {r : ApplyAsked} → index .0 < 2 ^ 64
     → k < F .servers → Reads b F expected (nextApplyOf k) → Reads b F counts countsOf
     → Rows (counts .applied) (F .limits .«log_indexes») (1 + wordsFor (F .limits .payload)) n → Begins b at (appliedAt F) (appliedWords F) → Counted w (appliedWords F)
     → region.AsksApply (record { applied = lentRow at w b; count = n; room = F .limits .«log_indexes»; longest = F .limits .payload; total = counts .total; index = index; expected = expected; content = content }) r
     → AsksRow b F k index content r
 unfolding afterApply nextApplyOf
-row-asked {b} {F} {k} {index} {content} {expected} {n} {at} {w} {counts} {r} i re rc rows pa pw q =
+row-asked {b} {F} {k} {index} {content} {expected} {n} {at} {w} {counts} {r} f i re rc rows pa pw q =
     let learnt : Learnt F b k index content expected n at w counts r = record { place = i; rows = rows; begins = pa .is; words = pw .is; asked = q } in
     let here : (s : State) → F ≡ capacityOf s → Learnt (capacityOf s) b k index content expected n at w counts r =
     λ s e. subst (λ (G : Capacity). Learnt G b k index content expected n at w counts r) e learnt in
     let row : (x : Payload) → Holds (payload (F .limits .payload)) content x → (s : State) → F ≡ capacityOf s → Holds (payload (s .limits .payload)) content x =
     λ x hx s e. subst (λ (G : Capacity). Holds (payload (G .limits .payload)) content x) e hx in
     record {
-      to = λ x hx f. record {
-        code = λ s h e. told-code f h (here s e) (re .to s h e) (rc .to s h e) x (row x hx s e);
-        does = λ s h e. told-does f h (here s e) (re .to s h e) (rc .to s h e) x (row x hx s e);
+      to = λ x hx. record {
+        to = λ s h e. record {
+          code = told-code f h (here s e) (re .to s h e) (rc .to s h e) x (row x hx s e);
+          does = told-does f h (here s e) (re .to s h e) (rc .to s h e) x (row x hx s e);
+        };
       };
     }
 
 -- ---- payload_asked
 
 pub payload-asked : {b : List ℕ} {F : Capacity} {k : ℕ} {index : LogIndex} (kind : ℕ) (src : List ℕ) {content content′ : List ℕ} {r : ApplyAsked} → Inside b F → kind ≤ 1
-    → length src ≤ 256 * kind → length src ≤ F .limits .payload → Bytes src → Fits w64 (index .0) → length content ≡ 8 * (1 + wordsFor (F .limits .payload))
-    → Puts payloadMarking (payloadOf kind src) content content′ → AsksRow b F k index content′ r → AsksApply b F k index (payloadOf kind src) r
-payload-asked {F = F} kind src i hk hl hp hb f lc p q =
-    q .to (payloadOf kind src) (p .to (F .limits .payload) lc (sounds payloadMarking (F .limits .payload) (payloadOf kind src) (kind-sound kind src hk hl (F .limits .payload) hp (i .within .limits .payload) hb))) f
+    → length src ≤ 256 * kind → length src ≤ F .limits .payload → Bytes src → length content ≡ 8 * (1 + wordsFor (F .limits .payload))
+    → Puts payloadMarking (payloadOf kind src) content content′ → AsksRow b F k index content′ r → Asks b F (ApplyTold k index (payloadOf kind src) r)
+payload-asked {F = F} kind src i hk hl hp hb lc p q =
+    q .to (payloadOf kind src) (p .to (F .limits .payload) lc (sounds payloadMarking (F .limits .payload) (payloadOf kind src) (kind-sound kind src hk hl (F .limits .payload) hp (i .within .limits .payload) hb)))

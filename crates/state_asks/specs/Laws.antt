@@ -6,11 +6,11 @@ use native.Mathlib.Omega.{arith}
 use lib.ListN.{length, getD, take, drop}
 use Rattle.words.specs.Words.{W}
 use Rattle.layout.specs.Contents.{holds-W}
-use Rattle.layout.specs.Parts.{lentRow}
+use Rattle.layout.specs.Parts.{lentRow, length-lentRow}
 use Rattle.layout.specs.Rows.{row-start}
 use Rattle.model.specs.State.{State}
 use Rattle.state.specs.declared.Capacity.{Capacity}
-use Rattle.state.specs.Sizes.{blockWords, seenWords, appliedWords, seenAt, leadersAt, repliesAt, appliedAt, wholeWords, Counted, BlockAt}
+use Rattle.state.specs.Sizes.{blockWords, queueWords, seenWords, appliedWords, queueAt, seenAt, leadersAt, repliesAt, appliedAt, wholeWords, Counted, BlockAt}
 use Rattle.state.specs.SizeLaws.{room}
 use Rattle.state.specs.Area.{Area, capacityOf}
 use Rattle.state.specs.Changes.{Inside, Reads}
@@ -22,8 +22,8 @@ use Rattle.state_asks.specs.Lent.{state-lent}
 pub rows-all : (n room w : ℕ) → n ≤ room → Rows n room w n
 rows-all n room w h = record { is = λ _. refl; few = h; bytes = omega (arith, row-start n room w h) }
 
-pub rows-room : (n room w : ℕ) → room < n → Rows n room w room
-rows-room n room w h = record { is = λ q. absurd (omega arith); few = omega arith; bytes = omega arith }
+pub rows-most : (n room w : ℕ) → room < n → Rows n room w room
+rows-most n room w h = record { is = λ q. absurd (omega arith); few = omega arith; bytes = omega arith }
 
 -- ---- where regions begin
 
@@ -33,6 +33,9 @@ module _ (b : List ℕ) (F : Capacity) (i : Inside b F) (r : ℕ) where
 
   pub block-begins : (k : ℕ) → k < F .servers → BlockAt F k r → Begins b r (512 + k * blockWords F) (blockWords F)
   block-begins k j p = record { is = p .is; ends = omega (arith, fits, p .ends) }
+
+  pub queue-begins : Counted r (queueAt F) → Begins b r (queueAt F) (queueWords F)
+  queue-begins p = record { is = p .is; ends = omega (arith, fits, p .is) }
 
   pub seen-begins : Counted r (seenAt F) → Begins b r (seenAt F) (seenWords F)
   seen-begins p = record { is = p .is; ends = omega (arith, fits, p .is) }
@@ -45,6 +48,19 @@ module _ (b : List ℕ) (F : Capacity) (i : Inside b F) (r : ℕ) where
 
   pub applied-begins : Counted r (appliedAt F) → Begins b r (appliedAt F) (appliedWords F)
   applied-begins p = record { is = p .is; ends = omega (arith, fits, p .is) }
+
+-- ---- rows have room in the region that is lent
+
+pub rows-room : {b : List ℕ} {n room w r at z v : ℕ} → Rows n room w r → Begins b at z (room * w) → v ≡ room * w → 8 * (r * w) ≤ length (lentRow at v b)
+rows-room {b} {n} {room} {w} {r} {at} {z} {v} q p e = let l : 8 * (at + v) ≤ length b = omega (arith, p .ends, e) in omega (arith, length-lentRow at v b l, q .bytes, e)
+
+pub log-room : {b : List ℕ} {to z l v : ℕ} (more : ℕ) → Begins b to z (64 + (l + more)) → v ≡ l → 8 * l ≤ length (lentRow (to + 64) v b)
+log-room {b} {to} {z} {l} {v} more p e = let m : 8 * (to + 64 + v) ≤ length b = omega (arith, p .ends, e) in omega (arith, length-lentRow (to + 64) v b m, e)
+
+pub waiting-room : {b : List ℕ} {n room w r to z l x v : ℕ} (more : ℕ) → Rows n room w r → Begins b to z (64 + (l + (l + (room * w + more)))) → x ≡ l → v ≡ room * w
+    → 8 * (r * w) ≤ length (lentRow (to + (64 + 2 * x)) v b)
+waiting-room {b} {n} {room} {w} {r} {to} {z} {l} {x} {v} more q p ex ev =
+    let m : 8 * (to + (64 + 2 * x) + v) ≤ length b = omega (arith, p .ends, ex, ev) in omega (arith, length-lentRow (to + (64 + 2 * x)) v b m, q .bytes, ev)
 
 -- ---- next_apply_of
 

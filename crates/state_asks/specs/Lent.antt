@@ -21,17 +21,17 @@ use Rattle.state.specs.declared.Capacity.{Capacity}
 use Rattle.state.specs.Sizes.{sizes, blockWords, logWords, waitingWords, seenWords, appliedWords, seenAt, leadersAt, repliesAt, appliedAt}
 use Rattle.state.specs.Server.{serverCode, stateOfServer, storageOfServer}
 use Rattle.state.specs.Block.{Serves, block, blockSizes, serves}
-use Rattle.state.specs.Parts.{serverStateCode, storageStateCode}
+use Rattle.state.specs.Parts.{settingsCode, serverStateCode, storageStateCode}
 use Rattle.state.specs.Area.{Area, capacityOf, servers}
 
 -- ---- words from a word on
 
 -- w words at a word are the bytes from its first
-lent-is : (at w : ℕ) (b : List ℕ) → lentRow at w b ≡ take (8 * w) (drop (8 * at) b)
+pub lent-is : (at w : ℕ) (b : List ℕ) → lentRow at w b ≡ take (8 * w) (drop (8 * at) b)
 lent-is at w b = let e : 8 * (at + w) - 8 * at ≡ 8 * w = omega arith in ap (λ (n : ℕ). take n (drop (8 * at) b)) e
 
 -- words of lent words
-lent-lent : (at z c w : ℕ) (b : List ℕ) → c + w ≤ z → lentRow (at + c) w b ≡ take (8 * w) (drop (8 * c) (lentRow at z b))
+pub lent-lent : (at z c w : ℕ) (b : List ℕ) → c + w ≤ z → lentRow (at + c) w b ≡ take (8 * w) (drop (8 * c) (lentRow at z b))
 lent-lent at z c w b h =
     let e : 8 * (at + c) ≡ 8 * at + 8 * c = omega arith in
     lent-is (at + c) w b ∙ ap (λ (n : ℕ). take (8 * w) (drop n b)) e ∙ part-part (8 * at) (8 * z) (8 * c) (8 * w) b (omega arith)
@@ -50,6 +50,9 @@ cut-lent ns b i at w k ea ew h = record {
 module _ {b : List ℕ} {s : State} (h : Area b s) where
   abbrev F : Capacity
   F = capacityOf s
+
+  pub settings-lent : Holds (settingsCode F) (take (248 - 152) (drop 152 b)) (s .config)
+  settings-lent = record { good = h .laid .settings .good; is = region (sizes F) b 1 (omega arith) ∙ h .laid .settings .is }
 
   pub seen-lent : (at w : ℕ) → at ≡ seenAt F → w ≡ seenWords F
       → Held (seenIn (F .limits .«log_indexes») (F .limits .payload)) (seenWords F) (length (s .checker .entries)) (lentRow at w b) (s .checker .entries)
@@ -98,3 +101,15 @@ module _ {b : List ℕ} {s : State} (h : Area b s) where
 
     pub state-lent : Holds (serverStateCode (F .limits .«log_indexes»)) (lentRow (at + 8) 14 b) (stateOfServer v)
     state-lent = part-lent 1 8 14 (omega arith) (omega arith) (omega arith) (omega arith) (block-serves .state)
+
+    pub storage-lent : Holds storageStateCode (lentRow at 8 b) (storageOfServer v)
+    storage-lent =
+        let e : at + 0 ≡ at = omega arith in
+        subst (λ (n : ℕ). Holds storageStateCode (lentRow n 8 b) (storageOfServer v)) e (part-lent 0 0 8 (omega arith) (omega arith) (omega arith) (omega arith) (block-serves .disk))
+
+    pub log-lent : (w : ℕ) → w ≡ logWords F → Held (places (F .limits .payload)) (logWords F) (F .limits .«log_indexes») (lentRow (at + 64) w b) (v .storage .current .log)
+    log-lent w ew = record { holds = part-lent 3 64 w (omega arith) (omega arith) (omega (arith, ew)) (omega (arith, ew)) (block-serves .current .holds) }
+
+    pub waiting-lent : (l w : ℕ) → l ≡ logWords F → w ≡ waitingWords F
+        → Held (waitingIn (F .limits .«log_indexes») (F .limits .payload)) (waitingWords F) (length (v .storage .waiting)) (lentRow (at + (64 + 2 * l)) w b) (v .storage .waiting)
+    waiting-lent l w el ew = record { holds = part-lent 5 (64 + 2 * l) w (omega arith) (omega (arith, el)) (omega (arith, ew)) (omega (arith, el, ew)) (block-serves .waiting .holds) }

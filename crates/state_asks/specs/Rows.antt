@@ -6,7 +6,7 @@ use Prim.Native.Nat.{ℕ, _+_, _^_, _≤_, _<_}
 use native.Mathlib.Omega.{arith}
 use lib.Dec.{leb, ltb}
 use lib.ListN.{length, length-append}
-use borrow.Author.Tests.{leb-true, le-leb, lt-ltb, ltb-true}
+use borrow.Author.Tests.{leb-true, le-leb, lt-ltb, ltb-true, eqb-true}
 use Rattle.laws.specs.Bools.{pick, _and_, and-left, and-right, and-both, and-true, true-and, allb, allb-in, every, every-append}
 use Rattle.laws.specs.Order.{numbers, pairs, rising, insertBy}
 use Rattle.laws.specs.OrderLaws.{every-insert}
@@ -16,6 +16,7 @@ use Rattle.layout.specs.UpTo.{is64}
 use Rattle.layout.specs.Payload.{payload}
 use Rattle.layout.specs.Sorted.{rising-insert}
 use Rattle.queue.specs.Range.{word}
+use Rattle.log.specs.Places.{place}
 use Rattle.config.specs.declared.SimConfig.{SimConfig}
 use Rattle.config.specs.declared.Limits.{Limits}
 use Rattle.checks.specs.declared.Check.{Check}
@@ -26,8 +27,9 @@ use Rattle.checks.specs.Leaders.{leaders}
 use Rattle.checks.specs.Entries.{seenIn}
 use Rattle.checks.specs.Violations.{violations, violationRow}
 use Rattle.checks.specs.Asked.{countsCode}
+use Rattle.checks.specs.Reports.{leaders-if, applied-if, entries-if}
 use Rattle.model.specs.State.{State, serverAt}
-use Rattle.model.specs.Fits.{checkerFits, tableFits, serverFits, serverTests}
+use Rattle.model.specs.Fits.{checkerFits, tableFits, serverFits, serverTests, storageFits}
 use Rattle.state.specs.Area.{Area}
 use Rattle.state.specs.Fitting.{area-fits, laid-limits}
 use Rattle.state.specs.FitsBy.{fits-test, server-fits-at}
@@ -156,6 +158,26 @@ module _ {S L P : ℕ} {c : Checker} (q : Sound S L P c) where
     violations = q .violations;
   }
 
+-- ---- checks that only report
+
+-- The checks d have sound rows, and the tables of c.
+pub record Reported (S L P : ℕ) (c d : Checker) : Type 0 where
+  pub sound : Sound S L P d
+  pub leaders : d .leaders ≡ c .leaders
+  pub applied : d .applied ≡ c .applied
+  pub entries : d .entries ≡ c .entries
+
+module _ {S L P : ℕ} where
+  pub reported-none : {c : Checker} → Sound S L P c → Reported S L P c c
+  reported-none q = record { sound = q; leaders = refl; applied = refl; entries = refl }
+
+  pub reported-if : {c : Checker} → Sound S L P c → (time : SimTime) (k : Check) (d : List ℕ) → word (time .0) ≡ true → detailFits d ≡ true → (t : Bool)
+      → Reported S L P c (reportIf t c time k d)
+  reported-if {c} q time k d ht hd t = record { sound = sound-if q time k d ht hd t; leaders = leaders-if t c time k d; applied = applied-if t c time k d; entries = entries-if t c time k d }
+
+  pub reported-then : {a b c : Checker} → Reported S L P a b → Reported S L P b c → Reported S L P a c
+  reported-then p q = record { sound = q .sound; leaders = q .leaders ∙ p .leaders; applied = q .applied ∙ p .applied; entries = q .entries ∙ p .entries }
+
 -- ---- the codes of questions that count one table
 
 module _ (s : State) (d : Checker) (q : Sound (s .config .servers) (s .limits .«log_indexes») (s .limits .payload) d) where
@@ -226,3 +248,21 @@ module _ {b : List ℕ} {s : State} (h : Area b s) where
 
     pub next-fits : is64 (serverAt s k .nextApply) ≡ true
     next-fits = lt-ltb (serverAt s k .nextApply) (2 ^ 64) (omega (arith, next-few, laid-limits (h .laid) .log-indexes))
+
+    storage-tests : storageFits (s .config) (s .limits) (serverAt s k .storage) ≡ true
+    storage-tests = allb-in (serverTests (s .config) (s .limits) (serverAt s k)) server-tests 1
+
+    pub log-long : length (serverAt s k .storage .current .log) ≡ s .limits .«log_indexes»
+    log-long = eqb-true _ _ (and-left _ _ (and-right _ _ (and-left _ _ storage-tests)))
+
+    pub log-good : every (place (s .limits .payload) .good) (serverAt s k .storage .current .log) ≡ true
+    log-good = and-right _ _ (and-right _ _ (and-left _ _ storage-tests))
+
+    pub few-writes : length (serverAt s k .storage .waiting) ≤ s .limits .writes
+    few-writes = leb-true _ _ (and-left _ _ (and-left _ _ (and-right _ _ (and-right _ _ storage-tests))))
+
+  -- what only reports has a code of the total alone
+  pub reported-code : {d : Checker} → Reported (s .config .servers) (s .limits .«log_indexes») (s .limits .payload) c d → checkerCode s d ≡ pick (word (d .total)) 0 10
+  reported-code {d} q =
+      code-total s d (q .sound) (ap (λ (x : List TermLeader). leb (length x) (s .limits .history)) (q .leaders) ∙ few-leaders) (ap (λ (x : List Payload). leb (length x) (s .limits .«log_indexes»)) (q .applied) ∙ few-applied)
+      (ap (λ (x : List Seen). leb (length x) (s .limits .history)) (q .entries) ∙ few-entries)

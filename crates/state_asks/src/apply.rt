@@ -5,7 +5,7 @@ ghost use lib.ListN.{length};
 ghost use Rattle.units.specs.Types.{payloadOf};
 ghost use Rattle.layout.specs.Marked.{wordsFor};
 ghost use Rattle.state.specs.Changes.{Inside};
-ghost use Rattle.state_asks.specs.Asks.{AsksApply, AsksRow};
+ghost use Rattle.state_asks.specs.Asks.{Asks, ApplyTold, AsksRow};
 use crate::numbers;
 use checks_on_apply::ApplyAsked;
 use layout::marked;
@@ -56,7 +56,7 @@ fn payload_asked(
     requires { ⌜ length (now src) ≤ 256 * kind ⌝ }
     requires { ⌜ length (now src) ≤ f .limits .payload ⌝ }
     requires { ⌜ length (now content) ≡ 8 * (1 + wordsFor (f .limits .payload)) ⌝ }
-    ensures { λ r. ⌜ AsksApply (now (area .entry)) f k index (payloadOf kind (now (src .entry))) r ⌝ }
+    ensures { λ r. ⌜ Asks (now (area .entry)) f (ApplyTold k index (payloadOf kind (now (src .entry))) r) ⌝ }
 {
     marked::put_payload(content, kind, src);
     row_asked(area, f, k, index, content)
@@ -76,7 +76,7 @@ pub fn apply_asked(
     requires { ⌜ kind ≤ 1 ⌝ }
     requires { ⌜ length (now src) ≤ 256 * kind ⌝ }
     requires { ⌜ length (now src) ≤ f .limits .payload ⌝ }
-    ensures { λ r. ⌜ AsksApply (now (area .entry)) f k index (payloadOf kind (now (src .entry))) r ⌝ }
+    ensures { λ r. ⌜ Asks (now (area .entry)) f (ApplyTold k index (payloadOf kind (now (src .entry))) r) ⌝ }
 {
     let limits = f.limits;
     let end = 8 * (1 + (limits.payload as usize + 7) / 8);

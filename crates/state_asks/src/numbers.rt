@@ -1,7 +1,7 @@
 // Counts and numbers of servers that questions ask for.
 ghost use mathlib.Core.Path.{_≡_};
 ghost use Prim.Native.Nat.{_+_, _*_, _<_};
-ghost use Rattle.state.specs.Sizes.{blockWords, seenWords, appliedWords, seenAt, leadersAt, repliesAt, appliedAt};
+ghost use Rattle.state.specs.Sizes.{blockWords, queueWords, seenWords, appliedWords, queueAt, seenAt, leadersAt, repliesAt, appliedAt};
 ghost use Rattle.state.specs.Changes.{Inside, Reads};
 ghost use Rattle.state_asks.specs.Asks.{Rows, Begins, nextApplyOf};
 use state::Capacity;
@@ -23,6 +23,14 @@ pub fn block_at(area: &[u8], f: Capacity, k: usize) -> usize
     ensures { λ r. ⌜ Begins (now (area .entry)) r (512 + k * blockWords f) (blockWords f) ⌝ }
 {
     sizes::block_at(f, k)
+}
+
+// The queue, behind the servers.
+pub fn queue_at(area: &[u8], f: Capacity) -> usize
+    requires { ⌜ Inside (now area) f ⌝ }
+    ensures { λ r. ⌜ Begins (now (area .entry)) r (queueAt f) (queueWords f) ⌝ }
+{
+    sizes::queue_at(f)
 }
 
 // The entries seen.

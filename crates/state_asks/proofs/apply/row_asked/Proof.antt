@@ -1,4 +1,4 @@
--- Made by tools/uniform from proofs.txt, not by hand: 4f4c2728fe5d6317
+-- Made by tools/uniform from proofs.txt, not by hand: ace5b3024dd7a0c6
 use Rattle.state_asks.specs.ApplyLaws.{row-asked}
 use borrow.Author.Needs.{needs}
 use Rattle.state_asks.proofs.apply.row_asked.Statement.{statement}
@@ -22,4 +22,4 @@ row-asked-spec =
     (λ c. search needs)  -- part-on-apply-start
     (λ c. search needs)  -- part-on-apply-end
     (λ c κs. search needs)  -- on-apply-requires
-    (λ c. row-asked (c .before .before .before .before .before .before .before .before .before .before .pre .1 .0) (c .before .before .before .before .before .before .next-apply-of .ensures) (c .before .before .before .before .before .counts-of .ensures) (c .before .before .before .before .rows-of .ensures) (c .before .before .before .applied-at .ensures) (c .before .before .applied-words .ensures) (c .on-apply .ensures)))  -- returns
+    (λ c. row-asked (c .before .before .before .before .before .before .before .before .before .before .good .1 .1 .1 .0 .1 .1 .0 .1) (c .before .before .before .before .before .before .before .before .before .before .pre .1 .0) (c .before .before .before .before .before .before .next-apply-of .ensures) (c .before .before .before .before .before .counts-of .ensures) (c .before .before .before .before .rows-of .ensures) (c .before .before .before .applied-at .ensures) (c .before .before .applied-words .ensures) (c .on-apply .ensures)))  -- returns
