@@ -10,6 +10,7 @@ ghost use Rattle.layout.specs.Marked.{wordsFor};
 ghost use Rattle.log.specs.Places.{Truncates};
 ghost use Rattle.queue.specs.declared.Event.the-variants as events;
 ghost use Rattle.queue.specs.Table.{Pushes, Removes};
+ghost use Rattle.state.specs.Decode.{gate};
 use protocol::Timer;
 use queue::Event;
 use queue::table;
@@ -63,4 +64,12 @@ pub extern "C" fn bench_truncate(s: &mut [u8], n: usize, p: usize, from: u64) ->
     ensures { λ r. ⌜ Truncates p n from r (now (s .entry)) (now (s .exit)) ⌝ }
 {
     log::truncate(s, n, p, LogIndex(from))
+}
+
+// Questions 4 and 5 of an area: 4, 5, or 0.
+#[no_mangle]
+pub extern "C" fn bench_gate(area: &[u8]) -> u64
+    ensures { λ r. ⌜ r ≡ gate (now (area .entry)) ⌝ }
+{
+    state_gate::gate(area).refusal
 }

@@ -3,7 +3,7 @@ use mathlib.Core.Path.{_≡_, refl, sym, ap, ap₂, _∙_, subst}
 use mathlib.Core.Bool.{Bool, true, false, not}
 use mathlib.Core.List.{List, [], _∷_, _++_}
 use mathlib.Core.Option.{Option, none, some}
-use Prim.Native.Nat.{ℕ, zero, suc, _+_, _-_, _*_, _^_, _≤_, _<_}
+use Prim.Native.Nat.{ℕ, zero, suc, _+_, _-_, _*_, _/_, _%_, _^_, _≤_, _<_}
 use native.Mathlib.Nat.{add-zero}
 use native.Mathlib.Omega.{arith}
 use lib.Dec.{eqb, leb}
@@ -11,20 +11,21 @@ use lib.ListN.{length, getD, set, take, drop, replicate, length-replicate, drop-
 use lib.Seq.{sets, getD-at, take-all, take-suc, getD-drop, length-take-le}
 use mir.Syntax.{w64}
 use mir.Val.{Fits}
-use borrow.Author.Tests.{eq-eqb, ne-eqb, eqb-true, lt-ltb, leb-true, leb-false}
-use Rattle.laws.specs.Bools.{pick, cases, and-left, and-both, and-true}
+use borrow.Author.Tests.{eq-eqb, ne-eqb, eqb-true, lt-ltb, leb-true, leb-false, not-false}
+use Rattle.laws.specs.Bools.{pick, cases, and-left, and-right, and-both, and-true}
 use Rattle.laws.specs.Lists.{isSome, sameList}
 use Rattle.laws.specs.ListLaws.{drop-next, list-itself, list-equal}
-use Rattle.laws.specs.Decides.{Decides, false-true, decided}
+use Rattle.laws.specs.Decides.{Decides, false-true, holds, decided}
 use Rattle.units.specs.Types.{Payload, noop, command, payloadOf, Entry, samePayload}
 use Rattle.units.specs.PayloadLaws.{payload-itself, payload-equal}
 use Rattle.units.specs.declared.Term.{Term}
 use Rattle.units.specs.declared.TermOption.the-variants.{Some as SomeTerm}
 use Rattle.words.specs.Words.{bytes, bytesOf, W, Bytes, allz}
+use Rattle.words.specs.Zero.{zeros-allz}
 use Rattle.words.specs.Sets.{sets-append, sets-all, part-part}
 use Rattle.words.specs.Lift.{bytes-append, bytes-one, length-bytes, length-W, W-fit, W-whole, allz-bytes}
 use Rattle.layout.specs.Code.{zeros}
-use Rattle.layout.specs.Tables.{Holds, Held, Becomes, Gives, rowsIn, fillFrom}
+use Rattle.layout.specs.Tables.{Holds, Held, Tabled, Becomes, Gives, rowsIn, fillFrom, padded}
 use Rattle.layout.specs.Contents.{decides-same}
 use Rattle.layout.specs.Rows.{row-end}
 use Rattle.layout.specs.TableLaws.{row-word, row-held, row-parsed, length-rowsIn, fill-held, blank-held, puts, rowed-start, rowed-done, held-rows}
@@ -521,5 +522,14 @@ place-entry p m s r B l e h z =
     ∙ sym (ap (λ (b : Bool). pick b (allz (take (2 + wordsFor p) (W s))) (entryCode p .ok (W s))) (ne-eqb (getD (W s) 0 0) 0 (omega arith)))
 
 pub ruleset place-tests = (place-zeros, place-entry)
+
+-- a log with no entry
+pub empty-log : (p n : ℕ) (s : List ℕ) (t z : Bool) → t ≡ padded (2 + wordsFor p) n s → not t ≡ false → z ≡ allz s → z ≡ true → Decides true (Tabled (places p) n s)
+unfolding padded
+empty-log p n s t z et y ez e =
+    let q = sym et ∙ not-false t y in
+    let m : length s % 8 ≡ 0 = eqb-true _ 0 (and-left _ _ q) in
+    let r : n * (2 + wordsFor p) ≤ length s / 8 = leb-true _ _ (and-left _ _ (and-right _ _ q)) in
+    holds (record { words = length s / 8; value = replicate n none; held = blank-held (places p) (length s / 8) n none s (omega arith) r refl refl refl (zeros-allz s (sym ez ∙ e)) })
 
 pub ruleset place-rows = (rowed-start, lent-fine, lent-fails, rowed-done)

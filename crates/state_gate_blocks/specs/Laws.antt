@@ -199,9 +199,16 @@ all-blocks F ws =
     alone : (t : Bool) → ((true and (t and true)) and true) ≡ t
     alone t = simp (true-and, and-true)
 
-module _ (F : Capacity) (s : List ℕ) (w i : ℕ) (p : Counted w (blockWords F)) (r : Rowed (serverCode F) (F .servers) (W s) i) where
+-- The blocks before block i are contents.
+pub record Checked (F : Capacity) (s : List ℕ) (i : ℕ) : Type 0 where
+  pub rowed : Rowed (serverCode F) (F .servers) (W s) i
+
+pub blocks-start : (F : Capacity) (s : List ℕ) → Checked F s 0
+blocks-start F s = record { rowed = rowed-start (serverCode F) (F .servers) (W s) }
+
+module _ (F : Capacity) (s : List ℕ) (w i : ℕ) (p : Counted w (blockWords F)) (k : Checked F s i) where
   pub blocks-done : F .servers ≤ i → true ≡ serversOk F (W s)
-  blocks-done h = rowed-done (serverCode F) (F .servers) (W s) i r h ∙ all-blocks F (W s)
+  blocks-done h = rowed-done (serverCode F) (F .servers) (W s) i (k .rowed) h ∙ all-blocks F (W s)
 
   module _ (x : ℕ) (q : Bool) (l : length s ≡ 8 * (F .servers * blockWords F)) (h : i < F .servers) (B : Bytes s) (e : BlockAt F i x)
       (t : q ≡ serverOk F (W (take (8 * (x - 512 + w) - 8 * (x - 512)) (drop (8 * (x - 512)) s)))) where
@@ -212,8 +219,8 @@ module _ (F : Capacity) (s : List ℕ) (w i : ℕ) (p : Counted w (blockWords F)
     there : x - 512 ≡ i * blockWords F
     there = omega (arith, e .is)
 
-    pub block-fine : not q ≡ false → Rowed (serverCode F) (F .servers) (W s) (i + 1)
-    block-fine f = lent-fine (serverCode F) (F .servers) s i (x - 512) q r h B there (omega (arith, l)) here f
+    pub block-fine : not q ≡ false → Checked F s (i + 1)
+    block-fine f = record { rowed = lent-fine (serverCode F) (F .servers) s i (x - 512) q (k .rowed) h B there (omega (arith, l)) here f }
 
     pub block-fails : not q ≡ true → false ≡ serversOk F (W s)
-    block-fails f = lent-fails (serverCode F) (F .servers) s i (x - 512) q r h B there (omega (arith, l)) here f ∙ all-blocks F (W s)
+    block-fails f = lent-fails (serverCode F) (F .servers) s i (x - 512) q (k .rowed) h B there (omega (arith, l)) here f ∙ all-blocks F (W s)

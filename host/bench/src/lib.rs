@@ -1,5 +1,8 @@
 //! What the benchmarks of the reference and of the proved code share.
 
+pub mod area;
+
+use std::hint::black_box;
 use std::time::Duration;
 
 /// Times each measurement is made; the fastest counts.
@@ -16,4 +19,11 @@ pub fn fastest(mut measure: impl FnMut() -> (u64, Duration)) -> (u64, Duration) 
     let rounds = (0..ROUNDS).map(|_| measure());
     let least = rounds.min_by_key(|(_, time)| *time);
     least.expect("there is a round")
+}
+
+/// So many zeros that were written, so that they are memory and not the one page of zeros.
+pub fn zeros(bytes: usize) -> Vec<u8> {
+    let mut s = vec![1; bytes];
+    black_box(&mut s).fill(0);
+    s
 }

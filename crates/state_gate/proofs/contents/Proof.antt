@@ -1,4 +1,4 @@
--- Made by tools/uniform from proofs.txt, not by hand: 8287351ae78fb775
+-- Made by tools/uniform from proofs.txt, not by hand: 80575d513a156e15
 use Rattle.state_gate.specs.Laws.{all-ok}
 use borrow.Author.Needs.{needs}
 use Rattle.state_gate.proofs.contents.Statement.{statement}
@@ -8,8 +8,8 @@ pub contents-spec : {M : Type 1} → statement M
 contents-spec =
     tie.close
     (tie.spec
-    (λ c κs. search (all-ok, needs))  -- header-requires
-    (λ c κs. search (all-ok, needs))  -- servers-requires
-    (λ c κs. search (all-ok, needs))  -- tables-requires
-    (λ c κs. search (all-ok, needs))  -- spare-requires
-    (λ c. search (all-ok, needs)))  -- returns
+    (λ c κs. search needs)  -- header-requires
+    (λ c κs. search needs)  -- servers-requires
+    (λ c κs. search needs)  -- tables-requires
+    (λ c κs. search needs)  -- spare-requires
+    (λ c. all-ok _ _ _ _ _ _ (c .before .before .before .header .ensures) (c .before .before .servers .ensures) (c .before .tables .ensures) (c .spare .ensures)))  -- returns

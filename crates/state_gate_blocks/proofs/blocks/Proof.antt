@@ -1,15 +1,12 @@
--- Made by tools/uniform from proofs.txt, not by hand: 9ba789731a4d46b0
+-- Made by tools/uniform from proofs.txt, not by hand: 4a04d263639de844
 use Prim.Native.Nat.{_-_}
-use Rattle.words.specs.Words.{W}
-use Rattle.layout.specs.TableLaws.{Rowed, rowed-start}
-use Rattle.state.specs.Server.{serverCode}
-use Rattle.state_gate_blocks.specs.Laws.{blocks-done, block-fine, block-fails}
+use Rattle.state_gate_blocks.specs.Laws.{Checked, blocks-start, blocks-done, block-fine, block-fails}
 use borrow.Author.Needs.{needs}
 use Rattle.state_gate_blocks.proofs.blocks.Statement.{statement}
 use Rattle.state_gate_blocks.proofs.blocks.Tie as tie
 
 abbrev Inv-loop : tie.InvT-loop
-Inv-loop s f n w i₀ i = Rowed (serverCode f) (f .servers) (W s) i
+Inv-loop s f n w i₀ i = Checked f s i
 
 abbrev μ-loop : tie.MeasureT-loop
 μ-loop s f n w i₀ i = f .servers - i
@@ -20,19 +17,19 @@ blocks-spec =
     (tie.spec
     Inv-loop
     μ-loop
-    (λ c κs. search (blocks-done, block-fine, block-fails, rowed-start, needs))  -- block-words-requires
-    (λ c. search (blocks-done, block-fine, block-fails, rowed-start, needs))  -- loop-holds
-    (λ c κs. search (blocks-done, block-fine, block-fails, rowed-start, needs))  -- block-at-requires
-    (λ c. search (blocks-done, block-fine, block-fails, rowed-start, needs))  -- sub-at
-    (λ c. search (blocks-done, block-fine, block-fails, rowed-start, needs))  -- mul-a
-    (λ c. search (blocks-done, block-fine, block-fails, rowed-start, needs))  -- add-e
-    (λ c. search (blocks-done, block-fine, block-fails, rowed-start, needs))  -- mul-e
-    (λ c. search (blocks-done, block-fine, block-fails, rowed-start, needs))  -- sub-block
-    (λ c. search (blocks-done, block-fine, block-fails, rowed-start, needs))  -- part-block-start
-    (λ c. search (blocks-done, block-fine, block-fails, rowed-start, needs))  -- part-block-end
-    (λ c κs. search (blocks-done, block-fine, block-fails, rowed-start, needs))  -- block-requires
-    (λ c. search (blocks-done, block-fine, block-fails, rowed-start, needs))  -- returns
-    (λ c. search (blocks-done, block-fine, block-fails, rowed-start, needs))  -- add-i
-    (λ c. search (blocks-done, block-fine, block-fails, rowed-start, needs))  -- loop-less
-    (λ c. search (blocks-done, block-fine, block-fails, rowed-start, needs))  -- loop-again
-    (λ c. search (blocks-done, block-fine, block-fails, rowed-start, needs)))  -- returns-2
+    (λ c κs. search (blocks-start, needs))  -- block-words-requires
+    (λ c. search (blocks-start, needs))  -- loop-holds
+    (λ c κs. search (blocks-start, needs))  -- block-at-requires
+    (λ c. search (blocks-start, needs))  -- sub-at
+    (λ c. search (blocks-start, needs))  -- mul-a
+    (λ c. search (blocks-start, needs))  -- add-e
+    (λ c. search (blocks-start, needs))  -- mul-e
+    (λ c. search (blocks-start, needs))  -- sub-block
+    (λ c. search (blocks-start, needs))  -- part-block-start
+    (λ c. search (blocks-start, needs))  -- part-block-end
+    (λ c κs. search (blocks-start, needs))  -- block-requires
+    (λ c. let t = c .before .before .before .before in let l = t .before in let w = l .before in let s = w .before in block-fails _ _ _ _ (w .block-words .ensures) (l .loop .inv) _ _ (s .before .pre .1) (t .loop-test .taken) (s .shared-slice-known .given) (c .before .before .before .block-at .ensures) (c .before .block .ensures) (c .if1 .taken))  -- returns
+    (λ c. search (blocks-start, needs))  -- add-i
+    (λ c. search (blocks-start, needs))  -- loop-less
+    (λ c. let t = c .before .before .before .before in let l = t .before in let w = l .before in let s = w .before in block-fine _ _ _ _ (w .block-words .ensures) (l .loop .inv) _ _ (s .before .pre .1) (t .loop-test .taken) (s .shared-slice-known .given) (c .before .before .before .block-at .ensures) (c .before .block .ensures) (c .if1 .left))  -- loop-again
+    (λ c. blocks-done _ _ _ _ (c .before .before .block-words .ensures) (c .before .loop .inv) (c .loop-test .left)))  -- returns-2

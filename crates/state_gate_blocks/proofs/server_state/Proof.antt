@@ -1,4 +1,4 @@
--- Made by tools/uniform from proofs.txt, not by hand: f1ac09a060d4adf3
+-- Made by tools/uniform from proofs.txt, not by hand: 976cb8de2421af5b
 use Rattle.state_gate_blocks.specs.Laws.{server-told}
 use borrow.Author.Needs.{needs}
 use Rattle.state_gate_blocks.proofs.server_state.Statement.{statement}
@@ -8,12 +8,12 @@ pub server-state-spec : {M : Type 1} → statement M
 server-state-spec =
     tie.close
     (tie.spec
-    (λ c κs. search (server-told, needs))  -- status-requires
-    (λ c κs. search (server-told, needs))  -- load-requires
-    (λ c κs. search (server-told, needs))  -- load-requires-2
-    (λ c κs. search (server-told, needs))  -- load-requires-3
-    (λ c κs. search (server-told, needs))  -- load-requires-4
-    (λ c κs. search (server-told, needs))  -- load-requires-5
-    (λ c κs. search (server-told, needs))  -- flagged-requires
-    (λ c. search (server-told, needs))  -- add-result
-    (λ c. search (server-told, needs)))  -- returns
+    (λ c κs. search needs)  -- status-requires
+    (λ c κs. search needs)  -- load-requires
+    (λ c κs. search needs)  -- load-requires-2
+    (λ c κs. search needs)  -- load-requires-3
+    (λ c κs. search needs)  -- load-requires-4
+    (λ c κs. search needs)  -- load-requires-5
+    (λ c κs. search needs)  -- flagged-requires
+    (λ c. search needs)  -- add-result
+    (λ c. server-told _ _ _ _ _ _ _ _ _ (c .before .before .before .before .before .before .status .ensures) (c .before .before .before .before .before .load .ensures) (c .before .before .before .before .load2 .ensures) (c .before .before .before .load3 .ensures) (c .before .before .load4 .ensures) (c .before .load5 .ensures) (c .flagged .ensures)))  -- returns

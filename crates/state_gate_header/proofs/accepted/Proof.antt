@@ -1,4 +1,4 @@
--- Made by tools/uniform from proofs.txt, not by hand: b406167f79ab6f52
+-- Made by tools/uniform from proofs.txt, not by hand: d0e053f3566aecf3
 use Rattle.state_gate_header.specs.Laws.{accepted-ok}
 use borrow.Author.Needs.{needs}
 use Rattle.state_gate_header.proofs.accepted.Statement.{statement}
@@ -8,6 +8,6 @@ pub accepted-spec : {M : Type 1} → statement M
 accepted-spec =
     tie.close
     (tie.spec
-    (λ c κs. search (accepted-ok, needs))  -- judge-requires
-    (λ c κs. search (accepted-ok, needs))  -- number-requires
-    (λ c. search (accepted-ok, needs)))  -- returns
+    (λ c κs. search needs)  -- judge-requires
+    (λ c κs. search needs)  -- number-requires
+    (λ c. accepted-ok _ _ _ _ (c .before .judge .ensures) (c .number .ensures)))  -- returns

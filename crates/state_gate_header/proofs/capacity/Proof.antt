@@ -1,4 +1,4 @@
--- Made by tools/uniform from proofs.txt, not by hand: 29a7107c39ba1f9b
+-- Made by tools/uniform from proofs.txt, not by hand: dd0a917ff8221c65
 use Rattle.state_gate_header.specs.Laws.{capacity-ok}
 use borrow.Author.Needs.{needs}
 use Rattle.state_gate_header.proofs.capacity.Statement.{statement}
@@ -8,6 +8,6 @@ pub capacity-spec : {M : Type 1} → statement M
 capacity-spec =
     tie.close
     (tie.spec
-    (λ c κs. search (capacity-ok, needs))  -- first-offsets-requires
-    (λ c κs. search (capacity-ok, needs))  -- last-offsets-requires
-    (λ c. search (capacity-ok, needs)))  -- returns
+    (λ c κs. search needs)  -- first-offsets-requires
+    (λ c κs. search needs)  -- last-offsets-requires
+    (λ c. capacity-ok _ _ (c .before .before .before .pre .0) (c .before .before .shared-slice-known .given) _ _ (c .before .before .before .pre .1) (c .before .first-offsets .ensures) (c .last-offsets .ensures)))  -- returns

@@ -1,4 +1,4 @@
--- Made by tools/uniform from proofs.txt, not by hand: 9785bf5812703f2c
+-- Made by tools/uniform from proofs.txt, not by hand: 4798cadec7522de3
 use Rattle.state_gate_header.specs.Laws.{first-offsets}
 use borrow.Author.Needs.{needs}
 use Rattle.state_gate_header.proofs.first_offsets.Statement.{statement}
@@ -8,17 +8,17 @@ pub first-offsets-spec : {M : Type 1} → statement M
 first-offsets-spec =
     tie.close
     (tie.spec
-    (λ c κs. search (first-offsets, needs))  -- block-words-requires
-    (λ c κs. search (first-offsets, needs))  -- queue-at-requires
-    (λ c κs. search (first-offsets, needs))  -- seen-at-requires
-    (λ c κs. search (first-offsets, needs))  -- leaders-at-requires
-    (λ c κs. search (first-offsets, needs))  -- load-requires
-    (λ c κs. search (first-offsets, needs))  -- load-requires-2
-    (λ c. search (first-offsets, needs))  -- mul-result
-    (λ c κs. search (first-offsets, needs))  -- load-requires-3
-    (λ c. search (first-offsets, needs))  -- mul-result-2
-    (λ c κs. search (first-offsets, needs))  -- load-requires-4
-    (λ c. search (first-offsets, needs))  -- mul-result-3
-    (λ c κs. search (first-offsets, needs))  -- load-requires-5
-    (λ c. search (first-offsets, needs))  -- mul-result-4
-    (λ c. search (first-offsets, needs)))  -- returns
+    (λ c κs. search needs)  -- block-words-requires
+    (λ c κs. search needs)  -- queue-at-requires
+    (λ c κs. search needs)  -- seen-at-requires
+    (λ c κs. search needs)  -- leaders-at-requires
+    (λ c κs. search needs)  -- load-requires
+    (λ c κs. search needs)  -- load-requires-2
+    (λ c. search needs)  -- mul-result
+    (λ c κs. search needs)  -- load-requires-3
+    (λ c. search needs)  -- mul-result-2
+    (λ c κs. search needs)  -- load-requires-4
+    (λ c. search needs)  -- mul-result-3
+    (λ c κs. search needs)  -- load-requires-5
+    (λ c. search needs)  -- mul-result-4
+    (λ c. first-offsets _ _ _ _ _ _ _ _ _ _ _ (c .before .before .before .before .load .ensures) (c .before .before .before .load2 .ensures) (c .before .before .load3 .ensures) (c .before .load4 .ensures) (c .load5 .ensures) (c .before .before .before .before .before .before .before .before .block-words .ensures) (c .before .before .before .before .before .before .before .queue-at .ensures) (c .before .before .before .before .before .before .seen-at .ensures) (c .before .before .before .before .before .leaders-at .ensures)))  -- returns

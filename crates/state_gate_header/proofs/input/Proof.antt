@@ -1,4 +1,4 @@
--- Made by tools/uniform from proofs.txt, not by hand: 681db9293ec2f7c7
+-- Made by tools/uniform from proofs.txt, not by hand: d59389dd9784b39a
 use Rattle.state_gate_header.specs.PhaseLaws.{input-client, input-other}
 use borrow.Author.Needs.{needs}
 use Rattle.state_gate_header.proofs.input.Statement.{statement}
@@ -8,5 +8,5 @@ pub input-spec : {M : Type 1} → statement M
 input-spec =
     tie.close
     (tie.spec
-    (λ c. search (input-client, input-other, needs))  -- returns
-    (λ c. search (input-client, input-other, needs)))  -- returns-2
+    (λ c. input-client _ _ _ _ _ (c .if1 .taken))  -- returns
+    (λ c. input-other _ _ _ _ _ (c .if1 .left)))  -- returns-2

@@ -1,4 +1,4 @@
--- Made by tools/uniform from proofs.txt, not by hand: cfc8737e421860e0
+-- Made by tools/uniform from proofs.txt, not by hand: 4f7f27b77d42c713
 use Rattle.state_gate_header.specs.PhaseLaws.{open-closed, open-writing, open-sending}
 use borrow.Author.Needs.{needs}
 use Rattle.state_gate_header.proofs.open.Statement.{statement}
@@ -8,9 +8,9 @@ pub open-spec : {M : Type 1} → statement M
 open-spec =
     tie.close
     (tie.spec
-    (λ c. search (open-closed, open-writing, open-sending, needs))  -- returns
-    (λ c κs. search (open-closed, open-writing, open-sending, needs))  -- input-requires
-    (λ c κs. search (open-closed, open-writing, open-sending, needs))  -- owed-requires
-    (λ c. search (open-closed, open-writing, open-sending, needs))  -- returns-2
-    (λ c κs. search (open-closed, open-writing, open-sending, needs))  -- verdict-requires
-    (λ c. search (open-closed, open-writing, open-sending, needs)))  -- returns-3
+    (λ c. open-closed _ _ _ (c .before .before .before .before .before .before .before .before .before .if1 .taken))  -- returns
+    (λ c κs. search needs)  -- input-requires
+    (λ c κs. search needs)  -- owed-requires
+    (λ c. open-writing _ _ _ _ _ (c .before .before .before .before .before .before .input .ensures) (c .before .before .before .before .before .owed .ensures) (c .before .before .before .before .before .before .before .if1 .left) (c .before .before .before .if2 .taken))  -- returns-2
+    (λ c κs. search needs)  -- verdict-requires
+    (λ c. open-sending _ _ _ _ _ (c .before .before .before .before .before .before .input .ensures) (c .before .before .before .before .before .owed .ensures) (c .before .before .before .before .before .before .before .if1 .left) _ (c .before .before .before .if2 .left) (c .before .before .verdict .ensures)))  -- returns-3

@@ -1,4 +1,4 @@
--- Made by tools/uniform from proofs.txt, not by hand: d6a0aed87ec48e03
+-- Made by tools/uniform from proofs.txt, not by hand: 642dcfc89ab5be44
 use Rattle.state_gate_header.specs.PhaseLaws.{owed-nothing, owed-something}
 use borrow.Author.Needs.{needs}
 use Rattle.state_gate_header.proofs.owed.Statement.{statement}
@@ -8,5 +8,5 @@ pub owed-spec : {M : Type 1} → statement M
 owed-spec =
     tie.close
     (tie.spec
-    (λ c. search (owed-nothing, owed-something, needs))  -- returns
-    (λ c. search (owed-nothing, owed-something, needs)))  -- returns-2
+    (λ c. owed-nothing _ _ _ (c .if1 .taken))  -- returns
+    (λ c. owed-something _ _ _ (c .if1 .left)))  -- returns-2

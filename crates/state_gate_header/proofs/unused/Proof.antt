@@ -1,4 +1,4 @@
--- Made by tools/uniform from proofs.txt, not by hand: dbe35d3d81715925
+-- Made by tools/uniform from proofs.txt, not by hand: 26c41bb1faca271a
 use Rattle.state_gate_header.specs.Laws.{unused-ok}
 use borrow.Author.Needs.{needs}
 use Rattle.state_gate_header.proofs.unused.Statement.{statement}
@@ -8,8 +8,8 @@ pub unused-spec : {M : Type 1} → statement M
 unused-spec =
     tie.close
     (tie.spec
-    (λ c. search (unused-ok, needs))  -- sub-all-zero
-    (λ c. search (unused-ok, needs))  -- part-all-zero-start
-    (λ c. search (unused-ok, needs))  -- part-all-zero-end
-    (λ c κs. search (unused-ok, needs))  -- all-zero-requires
-    (λ c. search (unused-ok, needs)))  -- returns
+    (λ c. search needs)  -- sub-all-zero
+    (λ c. search needs)  -- part-all-zero-start
+    (λ c. search needs)  -- part-all-zero-end
+    (λ c κs. search needs)  -- all-zero-requires
+    (λ c. unused-ok _ _ (c .before .before .before .pre) (c .before .before .shared-slice-known .given) _ (c .all-zero .ensures)))  -- returns

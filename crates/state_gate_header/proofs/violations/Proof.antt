@@ -1,4 +1,4 @@
--- Made by tools/uniform from proofs.txt, not by hand: 7b74a03069498eb6
+-- Made by tools/uniform from proofs.txt, not by hand: 65c78fa4cdfc7e55
 use Rattle.state_gate_header.specs.Laws.{violations-ok}
 use borrow.Author.Needs.{needs}
 use Rattle.state_gate_header.proofs.violations.Statement.{statement}
@@ -8,12 +8,12 @@ pub violations-spec : {M : Type 1} → statement M
 violations-spec =
     tie.close
     (tie.spec
-    (λ c. search (violations-ok, needs))  -- sub-load
-    (λ c. search (violations-ok, needs))  -- part-load-start
-    (λ c. search (violations-ok, needs))  -- part-load-end
-    (λ c κs. search (violations-ok, needs))  -- load-requires
-    (λ c. search (violations-ok, needs))  -- sub-check
-    (λ c. search (violations-ok, needs))  -- part-check-start
-    (λ c. search (violations-ok, needs))  -- part-check-end
-    (λ c κs. search (violations-ok, needs))  -- check-requires
-    (λ c. search (violations-ok, needs)))  -- returns
+    (λ c. search needs)  -- sub-load
+    (λ c. search needs)  -- part-load-start
+    (λ c. search needs)  -- part-load-end
+    (λ c κs. search needs)  -- load-requires
+    (λ c. search needs)  -- sub-check
+    (λ c. search needs)  -- part-check-start
+    (λ c. search needs)  -- part-check-end
+    (λ c κs. search needs)  -- check-requires
+    (λ c. violations-ok _ _ (c .before .before .before .before .before .pre) (c .before .before .before .before .shared-slice-known .given) _ _ (c .before .before .load .ensures) (c .check .ensures)))  -- returns

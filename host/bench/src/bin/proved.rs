@@ -3,7 +3,8 @@
 use std::hint::black_box;
 use std::time::{Duration, Instant};
 
-use bench::{ENTRIES, QUEUED, fastest};
+use bench::area::{Counts, area};
+use bench::{ENTRIES, QUEUED, fastest, zeros};
 use consensus::Rng;
 
 /// The exported functions of the crate `bench` of Rattle: a slice goes as its address and its length.
@@ -16,6 +17,7 @@ mod exported {
         fn bench_push(s: *mut u8, length: usize, n: usize, m: usize, time: u64, generation: u64);
         fn bench_remove_first(s: *mut u8, length: usize, n: usize, m: usize);
         fn bench_truncate(s: *mut u8, length: usize, n: usize, p: usize, from: u64) -> u64;
+        fn bench_gate(area: *const u8, length: usize) -> u64;
     }
 
     /// Are all bytes zero?
@@ -55,6 +57,11 @@ mod exported {
         assert!(p <= 256 && 8 * n * entry_words(p) <= s.len());
         unsafe { bench_truncate(s.as_mut_ptr(), s.len(), n, p, from) }
     }
+
+    /// Questions 4 and 5 of an area: 4, 5, or 0.
+    pub fn gate(area: &[u8]) -> u64 {
+        unsafe { bench_gate(area.as_ptr(), area.len()) }
+    }
 }
 
 /// Bytes that no cache holds.
@@ -79,6 +86,7 @@ fn main() {
             time.as_nanos() as f64 / 1_000.0 / truncations as f64
         );
     }
+    gates();
 }
 
 /// GB/s over so many bytes.
@@ -93,16 +101,9 @@ fn timed(bytes: usize, test: impl FnOnce() -> bool) -> (u64, Duration) {
     (bytes as u64, begun.elapsed())
 }
 
-/// A large slice of zeros that were written, so that it is memory and not the one page of zeros.
-fn zeros() -> Vec<u8> {
-    let mut s = vec![1; LARGE];
-    black_box(&mut s).fill(0);
-    s
-}
-
 /// The zero test, beside a loop that leaves at the first byte that is not zero.
 fn zero_test() {
-    let s = zeros();
+    let s = zeros(LARGE);
     let ours = fastest(|| timed(LARGE, || exported::all_zero(black_box(&s))));
     let plain = fastest(|| timed(LARGE, || black_box(&s).iter().all(|byte| *byte == 0)));
     println!(
@@ -114,7 +115,7 @@ fn zero_test() {
 
 /// The comparison of two slices, beside a loop that leaves at the first difference, and beside `==`.
 fn comparison() {
-    let (a, b) = (zeros(), zeros());
+    let (a, b) = (zeros(LARGE), zeros(LARGE));
     let both = 2 * LARGE;
     let ours = fastest(|| timed(both, || exported::equal(black_box(&a), black_box(&b))));
     let plain = fastest(|| {
@@ -167,4 +168,61 @@ fn truncations(p: usize) -> (u64, Duration) {
         assert_eq!(removed, ENTRIES);
     }
     (TIMES, time)
+}
+
+/// The counts of an area of 404 KB.
+const SMALL: Counts = Counts {
+    servers: 3,
+    clients: 3,
+    indexes: 256,
+    payload: 64,
+    message: 512,
+    events: 256,
+    writes: 32,
+    history: 256,
+};
+
+/// Those of an area that no cache holds.
+const VAST: Counts = Counts {
+    message: 4_096,
+    events: 65_536,
+    ..SMALL
+};
+
+/// The gate over areas, beside the zero test of as many bytes.
+fn gates() {
+    println!();
+    println!("| gate: area, tables | µs | GB/s | zero test, µs | times the zero test |");
+    println!("|---|---|---|---|---|");
+    for (counts, halves, name) in [
+        (SMALL, 0, "empty"),
+        (SMALL, 1, "half full"),
+        (SMALL, 2, "full"),
+        (VAST, 0, "empty"),
+    ] {
+        let area = area(&counts, halves);
+        let bytes = area.len();
+        let zeros = zeros(bytes);
+        let times = if bytes < 1 << 20 { 400 } else { 2 };
+        let gate = micros(times, || exported::gate(black_box(&area)) == 0);
+        let zero = micros(times, || exported::all_zero(black_box(&zeros)));
+        println!(
+            "| {} KB, {name} | {gate:.1} | {:.1} | {zero:.1} | {:.2} |",
+            bytes / 1_000,
+            bytes as f64 / 1_000.0 / gate,
+            gate / zero
+        );
+    }
+}
+
+/// The µs that a test takes, which must hold: the least of five rounds of so many.
+fn micros(times: u32, test: impl Fn() -> bool) -> f64 {
+    let (_, time) = fastest(|| {
+        let begun = Instant::now();
+        for _ in 0..times {
+            assert!(black_box(test()));
+        }
+        (0, begun.elapsed())
+    });
+    time.as_nanos() as f64 / 1_000.0 / f64::from(times)
 }

@@ -1,4 +1,4 @@
--- Made by tools/uniform from proofs.txt, not by hand: 59d068f7a1d40844
+-- Made by tools/uniform from proofs.txt, not by hand: 803bfa93771baf94
 use Rattle.state_gate.specs.TableLaws.{ends, applied-ok}
 use borrow.Author.Needs.{needs}
 use Rattle.state_gate.proofs.tables.applied.Statement.{statement}
@@ -8,16 +8,16 @@ pub applied-spec : {M : Type 1} → statement M
 applied-spec =
     tie.close
     (tie.spec
-    (λ c. search (ends, applied-ok, needs))  -- sub-load
-    (λ c. search (ends, applied-ok, needs))  -- part-load-start
-    (λ c. search (ends, applied-ok, needs))  -- part-load-end
-    (λ c κs. search (ends, applied-ok, needs))  -- load-requires
-    (λ c κs. search (ends, applied-ok, needs))  -- applied-at-requires
-    (λ c. search (ends, applied-ok, needs))  -- mul-a
-    (λ c κs. search (ends, applied-ok, needs))  -- clients-at-requires
-    (λ c. search (ends, applied-ok, needs))  -- mul-e
-    (λ c. search (ends, applied-ok, needs))  -- sub-check
-    (λ c. search (ends, applied-ok, needs))  -- part-check-start
-    (λ c. search (ends, applied-ok, needs))  -- part-check-end
-    (λ c κs. search (ends, applied-ok, needs))  -- check-requires
-    (λ c. search (ends, applied-ok, needs)))  -- returns
+    (λ c. search (ends, needs))  -- sub-load
+    (λ c. search (ends, needs))  -- part-load-start
+    (λ c. search (ends, needs))  -- part-load-end
+    (λ c κs. search (ends, needs))  -- load-requires
+    (λ c κs. search (ends, needs))  -- applied-at-requires
+    (λ c. search (ends, needs))  -- mul-a
+    (λ c κs. search (ends, needs))  -- clients-at-requires
+    (λ c. search (ends, needs))  -- mul-e
+    (λ c. search (ends, needs))  -- sub-check
+    (λ c. search (ends, needs))  -- part-check-start
+    (λ c. search (ends, needs))  -- part-check-end
+    (λ c κs. search (ends, needs))  -- check-requires
+    (λ c. let e = c .before .before in let a = e .before in let n = a .before in let s = n .before .before .before in applied-ok _ _ (s .before .pre) (s .shared-slice-known .given) _ _ _ _ (n .load .ensures) (a .applied-at .ensures) (e .clients-at .ensures) (c .check .ensures)))  -- returns

@@ -1,4 +1,4 @@
--- Made by tools/uniform from proofs.txt, not by hand: 6cba577222d88b95
+-- Made by tools/uniform from proofs.txt, not by hand: d1da3fb27af165b6
 use Rattle.state_gate.specs.TableLaws.{ends, queue-ok}
 use borrow.Author.Needs.{needs}
 use Rattle.state_gate.proofs.tables.queue.Statement.{statement}
@@ -8,16 +8,16 @@ pub queue-spec : {M : Type 1} → statement M
 queue-spec =
     tie.close
     (tie.spec
-    (λ c. search (ends, queue-ok, needs))  -- sub-load
-    (λ c. search (ends, queue-ok, needs))  -- part-load-start
-    (λ c. search (ends, queue-ok, needs))  -- part-load-end
-    (λ c κs. search (ends, queue-ok, needs))  -- load-requires
-    (λ c κs. search (ends, queue-ok, needs))  -- queue-at-requires
-    (λ c. search (ends, queue-ok, needs))  -- mul-a
-    (λ c κs. search (ends, queue-ok, needs))  -- seen-at-requires
-    (λ c. search (ends, queue-ok, needs))  -- mul-e
-    (λ c. search (ends, queue-ok, needs))  -- sub-check
-    (λ c. search (ends, queue-ok, needs))  -- part-check-start
-    (λ c. search (ends, queue-ok, needs))  -- part-check-end
-    (λ c κs. search (ends, queue-ok, needs))  -- check-requires
-    (λ c. search (ends, queue-ok, needs)))  -- returns
+    (λ c. search (ends, needs))  -- sub-load
+    (λ c. search (ends, needs))  -- part-load-start
+    (λ c. search (ends, needs))  -- part-load-end
+    (λ c κs. search (ends, needs))  -- load-requires
+    (λ c κs. search (ends, needs))  -- queue-at-requires
+    (λ c. search (ends, needs))  -- mul-a
+    (λ c κs. search (ends, needs))  -- seen-at-requires
+    (λ c. search (ends, needs))  -- mul-e
+    (λ c. search (ends, needs))  -- sub-check
+    (λ c. search (ends, needs))  -- part-check-start
+    (λ c. search (ends, needs))  -- part-check-end
+    (λ c κs. search (ends, needs))  -- check-requires
+    (λ c. let e = c .before .before in let a = e .before in let n = a .before in let s = n .before .before .before in queue-ok _ _ (s .before .pre) (s .shared-slice-known .given) _ _ _ _ (n .load .ensures) (a .queue-at .ensures) (e .seen-at .ensures) (c .check .ensures)))  -- returns

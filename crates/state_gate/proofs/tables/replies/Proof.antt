@@ -1,4 +1,4 @@
--- Made by tools/uniform from proofs.txt, not by hand: 32c29834b142e89b
+-- Made by tools/uniform from proofs.txt, not by hand: ffc3ed7d84222aae
 use Rattle.state_gate.specs.TableLaws.{ends, replies-ok}
 use borrow.Author.Needs.{needs}
 use Rattle.state_gate.proofs.tables.replies.Statement.{statement}
@@ -8,16 +8,16 @@ pub replies-spec : {M : Type 1} → statement M
 replies-spec =
     tie.close
     (tie.spec
-    (λ c. search (ends, replies-ok, needs))  -- sub-load
-    (λ c. search (ends, replies-ok, needs))  -- part-load-start
-    (λ c. search (ends, replies-ok, needs))  -- part-load-end
-    (λ c κs. search (ends, replies-ok, needs))  -- load-requires
-    (λ c κs. search (ends, replies-ok, needs))  -- replies-at-requires
-    (λ c. search (ends, replies-ok, needs))  -- mul-a
-    (λ c κs. search (ends, replies-ok, needs))  -- confirmations-at-requires
-    (λ c. search (ends, replies-ok, needs))  -- mul-e
-    (λ c. search (ends, replies-ok, needs))  -- sub-check
-    (λ c. search (ends, replies-ok, needs))  -- part-check-start
-    (λ c. search (ends, replies-ok, needs))  -- part-check-end
-    (λ c κs. search (ends, replies-ok, needs))  -- check-requires
-    (λ c. search (ends, replies-ok, needs)))  -- returns
+    (λ c. search (ends, needs))  -- sub-load
+    (λ c. search (ends, needs))  -- part-load-start
+    (λ c. search (ends, needs))  -- part-load-end
+    (λ c κs. search (ends, needs))  -- load-requires
+    (λ c κs. search (ends, needs))  -- replies-at-requires
+    (λ c. search (ends, needs))  -- mul-a
+    (λ c κs. search (ends, needs))  -- confirmations-at-requires
+    (λ c. search (ends, needs))  -- mul-e
+    (λ c. search (ends, needs))  -- sub-check
+    (λ c. search (ends, needs))  -- part-check-start
+    (λ c. search (ends, needs))  -- part-check-end
+    (λ c κs. search (ends, needs))  -- check-requires
+    (λ c. let e = c .before .before in let a = e .before in let n = a .before in let s = n .before .before .before in replies-ok _ _ (s .before .pre) (s .shared-slice-known .given) _ _ _ _ (n .load .ensures) (a .replies-at .ensures) (e .confirmations-at .ensures) (c .check .ensures)))  -- returns
