@@ -90,11 +90,11 @@ leaderless-read b F n at term server q r p pa a e = record {
 
 -- ---- a leader added
 
-pub leader-stored : (b ys b₂ : List ℕ) (F : Capacity) (at n : ℕ) (term : Term) (server : NodeId) → Counted at (leadersAt F)
+pub leader-stored : (b ys b₂ : List ℕ) (F : Capacity) (at n : ℕ) (term : Term) (server : NodeId) → Inside b F → Counted at (leadersAt F)
     → InsertsLeader term server n (lentRow at (F .limits .history * 2) b) ys
     → b₂ ≡ sets (backRow at (F .limits .history * 2) b ys) (8 * 85) (bytesOfNumber 8 (n + 1))
     → Stored b b₂ (leadersAt F) (F .limits .history * 2) 85 (n + 1) (InsertsLeader term server n)
-leader-stored b ys b₂ F at n term server p q e =
+leader-stored b ys b₂ F at n term server i p q e =
     subst (λ (a : ℕ). Stored b b₂ a (F .limits .history * 2) 85 (n + 1) (InsertsLeader term server n)) (p .is)
     (record { rows = ys; put = q; is = e })
 
