@@ -4,6 +4,7 @@ use mathlib.Core.Bool.{Bool, true, false}
 use mathlib.Core.List.{List, [], _∷_}
 use mathlib.Core.Option.{Option, none, some}
 use Prim.Native.Nat.{ℕ, _+_}
+use lib.Dec.{ltb}
 use Rattle.laws.specs.Bools.{_and_}
 use Rattle.units.specs.Types.{Payload, Entry}
 use Rattle.units.specs.declared.NodeId.{NodeId}
@@ -13,7 +14,7 @@ use Rattle.units.specs.declared.SimTime.{SimTime}
 use Rattle.protocol.specs.declared.Status.{Status}
 use Rattle.log.specs.Log.{Log, entryAt}
 use Rattle.checks.specs.declared.Check.the-variants.{ElectionSafety, StateMachineSafety, ApplyOrder, UniqueEntries, LogMatching}
-use Rattle.checks.specs.declared.Check.the-variants.{LeaderCompleteness}
+use Rattle.checks.specs.declared.Check.the-variants.{LeaderCompleteness, Durability}
 use Rattle.checks.specs.Checks.{Checker, Seen, Mismatch, reportIf, onApply, onWrite, onStatus}
 use Rattle.checks.specs.Asked.{insertSeenIf}
 use Rattle.checks_on_apply.specs.declared.ApplyAsked.{ApplyAsked}
@@ -33,7 +34,7 @@ use Rattle.state.specs.Changes.{AreaOf, Changes}
 use Rattle.state_checks.specs.Checked.{reportedIf, appliedIf, ledIf, seenIf, entryOf, seenMaybe, seenOfIf}
 use Rattle.state_checks.specs.FitLaws.{fits-checks, before-reported, before-applied, before-led, before-seen-of}
 use Rattle.state_checks.specs.Acts.{ChangesWhere, applyChecked, ApplyFlags, writeChecked, WriteFlags, statusChecked, StatusFlags}
-use Rattle.state_checks.specs.Acts.{ActsStatus, mismatchReported}
+use Rattle.state_checks.specs.Acts.{ActsStatus, mismatchReported, missingReported, behindReported}
 
 -- ---- a payload applied
 
@@ -193,6 +194,30 @@ unfolding mismatchReported reportedMismatch reportedIf
 before-mismatch none time i j s u = u
 before-mismatch (some m) time i j s u = before-reported s time LogMatching (i .0 ∷ j .0 ∷ m .term ∷ m .index ∷ m .difference ∷ []) true u
 
+-- ---- durability
+
+module _ (b b₁ : List ℕ) (F : Capacity) (time : SimTime) where
+  pub missing-acted : (missing : Bool) (index : LogIndex) → Changes b b₁ F (reportedIf missing time Durability (index .0 ∷ []))
+      → Changes b b₁ F (missingReported missing time index)
+  unfolding reportedIf missingReported
+  missing-acted missing index p = record { to = p .to }
+
+  pub behind-acted : (server : NodeId) (upTo highest : ℕ)
+      → Changes b b₁ F (reportedIf (ltb upTo highest) time Durability (server .0 ∷ upTo ∷ highest ∷ []))
+      → Changes b b₁ F (behindReported time server upTo highest)
+  unfolding reportedIf behindReported
+  behind-acted server upTo highest p = record { to = p .to }
+
+module _ (s : State) (time : SimTime) where
+  pub before-missing : (missing : Bool) (index : LogIndex) → stateFits (missingReported missing time index s) ≡ true → stateFits s ≡ true
+  unfolding reportedIf missingReported
+  before-missing missing index u = before-reported s time Durability (index .0 ∷ []) missing u
+
+  pub before-behind : (server : NodeId) (upTo highest : ℕ) → stateFits (behindReported time server upTo highest s) ≡ true
+      → stateFits s ≡ true
+  unfolding reportedIf behindReported
+  before-behind server upTo highest u = before-reported s time Durability (server .0 ∷ upTo ∷ highest ∷ []) (ltb upTo highest) u
+
 -- ---- question 10 of a check as a whole: that of what it remembers, and all tests that were before
 
 module _ (s : State) (h : checkerFits (s .config) (s .limits) (s .checker) ≡ true) where
@@ -221,3 +246,17 @@ module _ (s : State) (h : checkerFits (s .config) (s .limits) (s .checker) ≡ t
       ≡ (checkerFits (s .config) (s .limits) (reportedMismatch m time i j (s .checker)) and stateFits s)
   unfolding mismatchReported
   fits-mismatch m time i j = fits-checks s (reportedMismatch m time i j (s .checker)) h
+
+  pub fits-missing : (missing : Bool) (time : SimTime) (index : LogIndex)
+      → stateFits (missingReported missing time index s)
+      ≡ (checkerFits (s .config) (s .limits) (reportIf missing (s .checker) time Durability (index .0 ∷ [])) and stateFits s)
+  unfolding missingReported
+  fits-missing missing time index = fits-checks s (reportIf missing (s .checker) time Durability (index .0 ∷ [])) h
+
+  pub fits-behind : (time : SimTime) (server : NodeId) (upTo highest : ℕ)
+      → (let d : List ℕ = server .0 ∷ upTo ∷ highest ∷ [] in
+      stateFits (behindReported time server upTo highest s)
+      ≡ (checkerFits (s .config) (s .limits) (reportIf (ltb upTo highest) (s .checker) time Durability d) and stateFits s))
+  unfolding behindReported
+  fits-behind time server upTo highest =
+      fits-checks s (reportIf (ltb upTo highest) (s .checker) time Durability (server .0 ∷ upTo ∷ highest ∷ [])) h

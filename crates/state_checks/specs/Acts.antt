@@ -1,9 +1,10 @@
 -- Each check acted on, where its question answered flags: what contracts cite. Assumes nothing.
 use mathlib.Core.Path.{_≡_}
 use mathlib.Core.Bool.{Bool, true}
-use mathlib.Core.List.{List}
+use mathlib.Core.List.{List, [], _∷_}
 use mathlib.Core.Option.{Option}
 use Prim.Native.Nat.{ℕ}
+use lib.Dec.{ltb}
 use Rattle.units.specs.Types.{Payload}
 use Rattle.units.specs.declared.NodeId.{NodeId}
 use Rattle.units.specs.declared.Term.{Term}
@@ -11,7 +12,8 @@ use Rattle.units.specs.declared.LogIndex.{LogIndex}
 use Rattle.units.specs.declared.SimTime.{SimTime}
 use Rattle.protocol.specs.declared.Status.{Status}
 use Rattle.log.specs.Log.{Log}
-use Rattle.checks.specs.Checks.{Mismatch, onApply, onWrite, onStatus}
+use Rattle.checks.specs.declared.Check.the-variants.{Durability}
+use Rattle.checks.specs.Checks.{Mismatch, reportIf, onApply, onWrite, onStatus}
 use Rattle.checks_on_apply.specs.declared.ApplyAsked.{ApplyAsked}
 use Rattle.checks_on_apply.specs.OnApply.{applyActs}
 use Rattle.checks_on_write.specs.declared.WriteAsked.{WriteAsked}
@@ -74,3 +76,14 @@ pub record ActsStatus (b b′ : List ℕ) (F : Capacity) (r : StatusAsked) (time
 -- The state with the mismatch of two servers' logs reported, if there is one.
 unfoldable pub mismatchReported : Option Mismatch → SimTime → NodeId → NodeId → State → State
 mismatchReported found time a b s = withChecker s (reportedMismatch found time a b (s .checker))
+
+-- ---- durability
+
+-- The state with an acknowledged command reported, where it is not the payload applied at its index.
+unfoldable pub missingReported : Bool → SimTime → LogIndex → State → State
+missingReported missing time index s = withChecker s (reportIf missing (s .checker) time Durability (index .0 ∷ []))
+
+-- The state with a server reported that has applied less than the highest acknowledged index.
+unfoldable pub behindReported : SimTime → NodeId → ℕ → ℕ → State → State
+behindReported time server upTo highest s =
+    withChecker s (reportIf (ltb upTo highest) (s .checker) time Durability (server .0 ∷ upTo ∷ highest ∷ []))
