@@ -84,11 +84,12 @@ pub record CopiesRow (p l i : ℕ) (r : Bool) (b row : List ℕ) : Type 0 where
 -- The same of the current log of the server at place k, whatever state with these counts the bytes b hold.
 pub record CopiesEntry (b : List ℕ) (F : Capacity) (k : ℕ) (index : LogIndex) (r : Bool) (row : List ℕ) : Type 0 where
   pub there : (s : State) → Area b s → F ≡ capacityOf s → r ≡ isSome (entryOf k index s)
-  pub held : (s : State) → Area b s → F ≡ capacityOf s → (e : Entry) → entryOf k index s ≡ some e → Holds (payload (F .limits .payload)) row (e .payload)
+  pub held : (s : State) → Area b s → F ≡ capacityOf s → (e : Entry) → entryOf k index s ≡ some e
+      → Holds (payload (F .limits .payload)) row (e .payload)
 
 -- ---- a table and its count
 
--- The w words of b from word `at` on were lent and came back as rows of which `does` says what became of them, and word k of the whole is v.
+-- The w words of b from word `at` on were lent and came back as `rows`, `does` says of both what became of them, and word k became v.
 pub record Stored (b b′ : List ℕ) (at w k v : ℕ) (does : List ℕ → List ℕ → Type 0) : Type 0 where
   pub rows : List ℕ
   pub put : does (lentRow at w b) rows

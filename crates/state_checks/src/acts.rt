@@ -1,15 +1,13 @@
 // Each check acted on, where its question answered flags: violations reported in the order of the definition, and what is remembered.
 ghost use mathlib.Core.Path.{_≡_};
-ghost use mathlib.Core.List.{[], _∷_};
 ghost use Prim.Native.Nat.{_*_, _≤_, _<_};
-ghost use lib.Dec.{ltb};
 ghost use lib.ListN.{length};
 ghost use Rattle.units.specs.Types.{payloadOf};
-ghost use Rattle.checks.specs.declared.Check.the-variants.{Durability};
 ghost use Rattle.checks_log_matching.specs.Matching.{mismatchOf};
 ghost use Rattle.state.specs.Changes.{Inside, Changes};
-ghost use Rattle.state_checks.specs.Checked.{reportedIf};
-ghost use Rattle.state_checks.specs.Acts.{ChangesWhere, ApplyFlags, applyChecked, WriteFlags, writeChecked, ActsStatus, mismatchReported};
+ghost use Rattle.state_checks.specs.Acts.{ChangesWhere, ApplyFlags, applyChecked};
+ghost use Rattle.state_checks.specs.Acts.{WriteFlags, writeChecked, ActsStatus, mismatchReported, missingReported};
+ghost use Rattle.state_checks.specs.Acts.{behindReported};
 use checks::Check;
 use checks::violations::Detail;
 use checks_log_matching::MismatchOption;
@@ -114,7 +112,7 @@ pub fn matching_act(
 // An acknowledged command that is not the payload applied at its index (one reply of check_durability).
 pub fn acknowledged_act(area: &mut [u8], f: Capacity, time: SimTime, missing: bool, index: LogIndex)
     requires { ⌜ Inside (now area) f ⌝ }
-    ensures { λ _. ⌜ Changes (now (area .entry)) (now (area .exit)) f (reportedIf missing time Durability (index .0 ∷ [])) ⌝ }
+    ensures { λ _. ⌜ Changes (now (area .entry)) (now (area .exit)) f (missingReported missing time index) ⌝ }
 {
     let detail = Detail::One(index.0);
     crate::keep(area, f, missing, time, Check::Durability, detail);
@@ -130,8 +128,7 @@ pub fn applied_up_to_act(
     highest: u64,
 )
     requires { ⌜ Inside (now area) f ⌝ }
-    ensures { λ _. ⌜ Changes (now (area .entry)) (now (area .exit)) f
-        (reportedIf (ltb «up_to» highest) time Durability (server .0 ∷ «up_to» ∷ highest ∷ [])) ⌝ }
+    ensures { λ _. ⌜ Changes (now (area .entry)) (now (area .exit)) f (behindReported time server «up_to» highest) ⌝ }
 {
     let detail = Detail::Three(server.0, up_to, highest);
     crate::keep(area, f, up_to < highest, time, Check::Durability, detail);

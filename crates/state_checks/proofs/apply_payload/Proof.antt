@@ -1,5 +1,5 @@
--- Made by tools/uniform from proofs.txt, not by hand: 71f415c1fda3aba7
-use Rattle.state_checks.specs.TableLaws.{applying}
+-- Made by tools/uniform from proofs.txt, not by hand: c9d733524463d476
+use Rattle.state_checks.specs.TableLaws.{applying, applied-full, applied-put}
 use borrow.Author.Needs.{needs}
 use Rattle.state_checks.proofs.apply_payload.Statement.{statement}
 use Rattle.state_checks.proofs.apply_payload.Tie as tie
@@ -11,7 +11,7 @@ apply-payload-spec =
     (λ c. search (applying, needs))  -- returns
     (λ c κs. search (applying, needs))  -- count-of-requires
     (λ c. search (applying, needs))  -- same-length
-    (λ c. search (applying, needs))  -- returns-2
+    (λ c. applied-full _ _ _ _ (search needs) _ (c .before .before .count-of .ensures) (search needs))  -- returns-2
     (λ c κs. search (applying, needs))  -- append-payload-requires
     (λ c. search (applying, needs))  -- same-length-2
-    (λ c. search (applying, needs)))  -- returns-3
+    (λ c. applied-put _ _ _ _ (search needs) _ (c .before .before .before .before .before .before .count-of .ensures) _ (c .before .before .append-payload .ensures)))  -- returns-3

@@ -1,4 +1,4 @@
--- Made by tools/uniform from proofs.txt, not by hand: 1247c8c25a15051c
+-- Made by tools/uniform from proofs.txt, not by hand: 416bc70fa10221fc
 use Rattle.state_checks.specs.LogLaws.{copies-entry, log-inside, log-room}
 use borrow.Author.Needs.{needs}
 use Rattle.state_checks.proofs.copy_entry.Statement.{statement}
@@ -20,4 +20,4 @@ copy-entry-spec =
     (λ c. search (copies-entry, log-inside, log-room, needs))  -- part-copy-row-end
     (λ c κs. search (copies-entry, log-inside, log-room, needs))  -- copy-row-requires
     (λ c. search (copies-entry, log-inside, log-room, needs))  -- same-length
-    (λ c. search (copies-entry, log-inside, log-room, needs)))  -- returns
+    (λ c. copies-entry _ _ _ _ _ _ _ _ (search needs) (search needs) (c .before .before .before .before .before .before .block-at .ensures) (c .before .before .before .before .before .log-words .ensures) (c .before .before .copy-row .ensures)))  -- returns

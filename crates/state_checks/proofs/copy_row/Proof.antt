@@ -1,5 +1,5 @@
--- Made by tools/uniform from proofs.txt, not by hand: 21009b19c5cf9a67
-use Rattle.state_checks.specs.LogLaws.{copying}
+-- Made by tools/uniform from proofs.txt, not by hand: 0eee6d48016723da
+use Rattle.state_checks.specs.LogLaws.{copying, copies-row}
 use borrow.Author.Needs.{needs}
 use Rattle.state_checks.proofs.copy_row.Statement.{statement}
 use Rattle.state_checks.proofs.copy_row.Tie as tie
@@ -23,4 +23,4 @@ copy-row-spec =
     (λ c κs. search (copying, needs))  -- copy-from-requires
     (λ c κs. search (copying, needs))  -- load-requires
     (λ c. search (copying, needs))  -- same-length
-    (λ c. search (copying, needs)))  -- returns-3
+    (λ c. copies-row _ _ _ _ _ _ _ _ (search needs) (search needs) (search needs) (search needs) (c .before .before .before .before .before .before .before .start-of .ensures .0) (c .before .before .before .before .copy-from .ensures) (c .load .ensures)))  -- returns-3

@@ -1,4 +1,4 @@
--- Made by tools/uniform from proofs.txt, not by hand: d303fa9e31be4ee8
+-- Made by tools/uniform from proofs.txt, not by hand: 9a51305e51577133
 use Rattle.state_checks.specs.EntryLaws.{entry-stored, seen-inside, seen-room}
 use borrow.Author.Needs.{needs}
 use Rattle.state_checks.proofs.insert_entry.Statement.{statement}
@@ -20,4 +20,4 @@ insert-entry-spec =
     (λ c. search (entry-stored, seen-inside, seen-room, needs))  -- add-store
     (λ c κs. search (entry-stored, seen-inside, seen-room, needs))  -- store-requires
     (λ c. search (entry-stored, seen-inside, seen-room, needs))  -- same-length
-    (λ c. search (entry-stored, seen-inside, seen-room, needs)))  -- returns
+    (λ c. entry-stored _ _ _ _ _ _ _ _ _ _ (c .before .before .before .before .before .before .before .before .before .before .before .before .before .pre .0) (c .before .before .before .before .before .before .before .before .before .seen-at .ensures) (c .before .before .before .before .before .before .before .before .seen-words .ensures) (c .before .before .before .before .before .before .insert .ensures) (c .before .before .store .ensures)))  -- returns

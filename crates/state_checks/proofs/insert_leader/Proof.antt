@@ -1,4 +1,4 @@
--- Made by tools/uniform from proofs.txt, not by hand: be6359abc8113232
+-- Made by tools/uniform from proofs.txt, not by hand: f54e2b59dcf8595d
 use Rattle.state_checks.specs.LeaderLaws.{leader-stored, leaders-inside}
 use borrow.Author.Needs.{needs}
 use Rattle.state_checks.proofs.insert_leader.Statement.{statement}
@@ -20,4 +20,4 @@ insert-leader-spec =
     (λ c. search (leader-stored, leaders-inside, needs))  -- add-store
     (λ c κs. search (leader-stored, leaders-inside, needs))  -- store-requires
     (λ c. search (leader-stored, leaders-inside, needs))  -- same-length
-    (λ c. search (leader-stored, leaders-inside, needs)))  -- returns
+    (λ c. leader-stored _ _ _ _ _ _ _ _ (c .before .before .before .before .before .before .before .before .before .before .before .pre .0) (c .before .before .before .before .before .before .before .before .leaders-at .ensures) (c .before .before .before .before .before .before .insert .ensures) (c .before .before .store .ensures)))  -- returns

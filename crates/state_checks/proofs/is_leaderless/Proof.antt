@@ -1,4 +1,4 @@
--- Made by tools/uniform from proofs.txt, not by hand: cd780befa1fe2212
+-- Made by tools/uniform from proofs.txt, not by hand: fe6f6f9c664f6d71
 use Rattle.state_checks.specs.LeaderLaws.{leaderless-read, leaders-inside}
 use borrow.Author.Needs.{needs}
 use Rattle.state_checks.proofs.is_leaderless.Statement.{statement}
@@ -18,4 +18,4 @@ is-leaderless-spec =
     (λ c. search (leaderless-read, leaders-inside, needs))  -- part-ask-end
     (λ c κs. search (leaderless-read, leaders-inside, needs))  -- ask-requires
     (λ c κs. search (leaderless-read, leaders-inside, needs))  -- is-new-requires
-    (λ c. search (leaderless-read, leaders-inside, needs)))  -- returns
+    (λ c. leaderless-read _ _ _ _ _ _ _ _ (search needs) (c .before .before .before .leaders-at .ensures) (c .before .ask .ensures) (c .is-new .ensures)))  -- returns

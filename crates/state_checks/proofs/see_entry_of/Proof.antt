@@ -1,5 +1,5 @@
--- Made by tools/uniform from proofs.txt, not by hand: d36c1026d0202ce1
-use Rattle.state_checks.specs.LogLaws.{due-seen}
+-- Made by tools/uniform from proofs.txt, not by hand: 0e206c7d98b1ed0d
+use Rattle.state_checks.specs.LogLaws.{due-seen, is-due}
 use borrow.Author.Needs.{needs}
 use Rattle.state_checks.proofs.see_entry_of.Statement.{statement}
 use Rattle.state_checks.proofs.see_entry_of.Tie as tie
@@ -16,5 +16,5 @@ see-entry-of-spec =
     (λ c. search (due-seen, needs))  -- part-row-end
     (λ c κs. search (due-seen, needs))  -- see-copied-requires
     (λ c. search (due-seen, needs))  -- same-length
-    (λ c. search (due-seen, needs))  -- returns
+    (λ c. is-due _ _ _ _ _ _ _ (search needs) (c .before .before .before .see-copied .ensures))  -- returns
     (λ c. search (due-seen, needs)))  -- returns-2

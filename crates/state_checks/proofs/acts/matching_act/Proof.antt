@@ -1,5 +1,5 @@
--- Made by tools/uniform from proofs.txt, not by hand: e5842cf90a3b5576
-use Rattle.state_checks.specs.ActLaws.{mismatches}
+-- Made by tools/uniform from proofs.txt, not by hand: 30c064545858b3c2
+use Rattle.state_checks.specs.ActLaws.{mismatches, mismatch-reported}
 use borrow.Author.Needs.{needs}
 use Rattle.state_checks.proofs.acts.matching_act.Statement.{statement}
 use Rattle.state_checks.proofs.acts.matching_act.Tie as tie
@@ -13,4 +13,4 @@ matching-act-spec =
     (λ c κs. search (mismatches, needs))  -- keep-requires
     (λ c. search (mismatches, needs))  -- returns
     (λ c. search (mismatches, needs))  -- same-length
-    (λ c. search (mismatches, needs)))  -- returns-2
+    (λ c. mismatch-reported _ _ _ _ _ _ _ _ _ _ (search needs) (c .before .before .keep .ensures)))  -- returns-2

@@ -1,4 +1,4 @@
--- Made by tools/uniform from proofs.txt, not by hand: 983ce47392d97abd
+-- Made by tools/uniform from proofs.txt, not by hand: 1e5444482d3113a9
 use Rattle.state.specs.Exits.{inside-after}
 use Rattle.state_checks.specs.ActLaws.{apply-acted}
 use borrow.Author.Needs.{needs}
@@ -13,4 +13,4 @@ on-apply-act-spec =
     (λ c κs. search (apply-acted, inside-after, needs))  -- keep-requires-2
     (λ c κs. search (apply-acted, inside-after, needs))  -- apply-payload-requires
     (λ c. search (apply-acted, inside-after, needs))  -- same-length
-    (λ c. search (apply-acted, inside-after, needs)))  -- returns
+    (λ c. apply-acted _ _ _ _ _ _ _ _ _ _ _ (c .before .before .before .before .before .before .before .before .before .before .keep .ensures) (c .before .before .before .before .before .before .keep2 .ensures) (c .before .before .apply-payload .ensures)))  -- returns

@@ -1,4 +1,4 @@
--- Made by tools/uniform from proofs.txt, not by hand: b799d70e5968b0fc
+-- Made by tools/uniform from proofs.txt, not by hand: 4a92ec64ce403ad0
 use Rattle.state.specs.Exits.{inside-after}
 use Rattle.state_checks.specs.ActLaws.{status-acted}
 use borrow.Author.Needs.{needs}
@@ -13,4 +13,4 @@ on-status-act-spec =
     (λ c κs. search (status-acted, inside-after, needs))  -- lead-requires
     (λ c κs. search (status-acted, inside-after, needs))  -- keep-requires-2
     (λ c. search (status-acted, inside-after, needs))  -- same-length
-    (λ c. search (status-acted, inside-after, needs)))  -- returns
+    (λ c. status-acted _ _ _ _ _ _ _ _ _ (c .before .before .before .before .before .before .before .before .before .before .keep .ensures) (c .before .before .before .before .before .before .lead .ensures) (c .before .before .keep2 .ensures)))  -- returns

@@ -1,4 +1,4 @@
--- Made by tools/uniform from proofs.txt, not by hand: fa836f4f1e1ad0b2
+-- Made by tools/uniform from proofs.txt, not by hand: 2bc8cc94707cdb96
 use Rattle.state.specs.Exits.{inside-after}
 use Rattle.state_checks.specs.ActLaws.{write-acted}
 use borrow.Author.Needs.{needs}
@@ -13,4 +13,4 @@ on-write-act-spec =
     (λ c κs. search (write-acted, inside-after, needs))  -- keep-requires
     (λ c κs. search (write-acted, inside-after, needs))  -- see-entry-of-requires
     (λ c. search (write-acted, inside-after, needs))  -- same-length
-    (λ c. search (write-acted, inside-after, needs)))  -- returns
+    (λ c. write-acted _ _ _ _ _ _ _ _ (c .before .before .before .before .before .before .keep .ensures) (c .before .before .see-entry-of .ensures)))  -- returns
