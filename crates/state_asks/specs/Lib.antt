@@ -6,3 +6,4 @@ pub mod ApplyLaws
 pub mod StatusLaws
 pub mod WriteLaws
 pub mod MatchingLaws
+pub mod DurabilityLaws

@@ -4,3 +4,4 @@ pub mod apply; // a payload applied
 pub mod status; // a status
 pub mod writes; // writes
 pub mod matching; // every pair of logs
+pub mod durability; // every acknowledged command on every server
