@@ -9,7 +9,7 @@ use lib.ListN.{length}
 use Rattle.laws.specs.Bools.{pick}
 use Rattle.laws.specs.Lists.{at}
 use Rattle.laws.specs.Order.{numbers, lookup}
-use Rattle.units.specs.Types.{Payload}
+use Rattle.units.specs.Types.{Payload, Entry}
 use Rattle.units.specs.declared.LogIndex.{LogIndex}
 use Rattle.units.specs.declared.TermOption.{TermOption}
 use Rattle.protocol.specs.declared.Status.{Status}
@@ -131,6 +131,10 @@ writtenIndexOf k i s = indexOf i (waitingOf k s)
 -- What the entry at an index of the log of the server at a place gives, against the entries seen.
 unfoldable pub writeAskedOf : ℕ → LogIndex → State → WriteAsked
 writeAskedOf k index s = writeAsked (entryAt (logOf k s) (index .0)) index (s .checker .entries)
+
+-- The words hold the payload of the entry at an index of the log of the server at a place, where there is one.
+pub record PayloadTold (k : ℕ) (index : LogIndex) (content : List ℕ) (s : State) : Type 0 where
+  pub to : (e : Entry) → entryAt (logOf k s) (index .0) ≡ some e → Holds (payload (s .limits .payload)) content (e .payload)
 
 -- The checks after all waiting writes of the server at a place.
 unfoldable pub afterWrites : ℕ → State → Checker

@@ -8,24 +8,27 @@ use native.Mathlib.Numerals.{add-one}
 use native.Mathlib.Omega.{arith}
 use lib.Dec.{leb, ltb}
 use lib.ListN.{length, getD, take, drop, drop-of-length-le, List·getD-eq-default}
-use lib.Seq.{drop-cons}
+use lib.Seq.{sets, drop-cons}
 use borrow.Author.Tests.{leb-true, le-leb, lt-ltb, ltb-true, ltb-false}
 use Rattle.laws.specs.Bools.{pick, and-left, and-right, and-both, every, every-get}
 use Rattle.laws.specs.Order.{pairs, lookup}
 use Rattle.words.specs.Words.{W}
+use Rattle.words.specs.Sets.{sets-all}
 use Rattle.units.specs.Types.{Payload, noop, command, Entry, samePayload}
 use Rattle.units.specs.declared.NodeId.{NodeId}
 use Rattle.units.specs.declared.LogIndex.{LogIndex}
 use Rattle.units.specs.declared.SimTime.{SimTime}
 use Rattle.layout.specs.UpTo.{is64}
-use Rattle.layout.specs.Tables.{Held}
+use Rattle.layout.specs.Tables.{Holds, Held}
 use Rattle.layout.specs.TableLaws.{such-plain}
 use Rattle.layout.specs.Contents.{holds-W}
-use Rattle.layout.specs.Parts.{lentRow}
+use Rattle.layout.specs.Parts.{lentRow, length-lentRow}
+use Rattle.layout.specs.Rows.{row-end}
 use Rattle.layout.specs.Marked.{wordsFor}
 use Rattle.layout.specs.Payload.{payload}
 use Rattle.log.specs.Log.{Log, entryAt}
 use Rattle.log.specs.Places.{place}
+use Rattle.log.specs.Payloads.{entry-place, place-start, entry-held}
 use Rattle.storage.specs.declared.waiting.Shape.{Shape}
 use Rattle.storage.specs.Storage.{Write, writeHardState, writePut, writeTruncate, putIndex, written}
 use Rattle.storage.specs.Waiting.{waiting as waitingTable, putWithin, entryShape, shapeOf, shapeAt, nothing, Shows}
@@ -48,8 +51,8 @@ use Rattle.state.specs.Sizes.{blockWords, logWords, waitingWords, seenWords, se
 use Rattle.state.specs.Area.{Area, capacityOf, countsOf}
 use Rattle.state.specs.Fitting.{laid-limits}
 use Rattle.state.specs.Changes.{Reads}
-use Rattle.state_asks.specs.Asks.{Rows, Begins, Asks, logOf, waitingOf, writeCountOf, writtenIndexOf, writeAskedOf, afterWrites, WritesTold, WritesGiven}
-use Rattle.state_asks.specs.Lent.{seen-lent, storage-lent, log-lent, waiting-lent}
+use Rattle.state_asks.specs.Asks.{Rows, Begins, Asks, logOf, waitingOf, writeCountOf, writtenIndexOf, writeAskedOf, PayloadTold, afterWrites, WritesTold, WritesGiven}
+use Rattle.state_asks.specs.Lent.{lent-is, lent-lent, seen-lent, storage-lent, log-lent, waiting-lent}
 use Rattle.state_asks.specs.Rows.{Sound, detailFits, sound-if, sound-seen, code-entries, area-sound, few-leaders, few-applied, few-entries, now-fits, id-fits, log-long, log-good, few-writes}
 
 -- ---- what all writes leave is sound
@@ -255,6 +258,68 @@ write-asked {b} {F} {k} {index} {n} {to} {at} {l} {v} {counts} {r} i rc rs pb ps
       y .asked .to (seenWords (capacityOf s)) (logWords (capacityOf s)) (s .checker .entries) (serverAt s k .storage .current .log) (seen-held h k (y .place) (y .seen-rows) es (y .seen-begins) (y .seen-words))
       (log-lent h k (y .place) to (y .block-begins) l (y .log-words));
 }
+
+-- ---- copy_payload
+
+module _ {b : List ℕ} {F : Capacity} (k : ℕ) {index : LogIndex} {content : List ℕ} where
+  no-entry : ((s : State) → Area b s → F ≡ capacityOf s → (e : Entry) → EntryGood (F .limits .«log_indexes») (F .limits .payload) (index .0) e → ⊥) → k < F .servers
+      → Asks b F (PayloadTold k index content)
+  unfolding logOf
+  no-entry f i = record {
+    to = λ s h ef. record {
+      to = λ e q.
+          let j : k < s .config .servers = subst (λ (G : Capacity). k < G .servers) ef i in
+          let g : EntryGood (s .limits .«log_indexes») (s .limits .payload) (index .0) e =
+          entry-good (s .limits .«log_indexes») (s .limits .payload) (serverAt s k .storage .current .log) (log-long h k j) (log-good h k j) (index .0) e q in
+          absurd (f s h ef e (subst (λ (G : Capacity). EntryGood (G .limits .«log_indexes») (G .limits .payload) (index .0) e) (sym ef) g));
+    };
+  }
+
+  pub payload-zero : k < F .servers → index .0 < 1 → Asks b F (PayloadTold k index content)
+  payload-zero i l = no-entry (λ s h ef e g. omega (arith, g .low)) i
+
+  pub payload-past : k < F .servers → F .limits .«log_indexes» < index .0 → Asks b F (PayloadTold k index content)
+  payload-past i l = no-entry (λ s h ef e g. omega (arith, g .high)) i
+
+-- What the function has of an area of these counts when it has copied.
+record Copying (F : Capacity) (b : List ℕ) (k : ℕ) (index : LogIndex) (content content′ : List ℕ) (to row : ℕ) : Type 0 where
+  place : k < F .servers
+  high : index .0 ≤ F .limits .«log_indexes»
+  long : length content ≡ 8 * (1 + wordsFor (F .limits .payload))
+  block-begins : to ≡ 512 + k * blockWords F
+  room : 8 * (to + blockWords F) ≤ length b
+  start : row ≡ (index .0 - 1) * (1 + wordsFor (F .limits .payload) + 1)
+  is : content′ ≡ sets content 0 (lentRow (to + 64 + row) (1 + wordsFor (F .limits .payload)) b)
+
+pub payload-copied : {b : List ℕ} {F : Capacity} (k : ℕ) {index : LogIndex} (content : List ℕ) {content′ : List ℕ} {to row : ℕ} → k < F .servers → 1 ≤ index .0 → index .0 ≤ F .limits .«log_indexes»
+    → length content ≡ 8 * (1 + wordsFor (F .limits .payload)) → Begins b to (512 + k * blockWords F) (blockWords F)
+    → row ≡ (index .0 - 1) * (1 + wordsFor (F .limits .payload) + 1) → content′ ≡ sets content 0 (lentRow (to + 64 + row) (1 + wordsFor (F .limits .payload)) b)
+    → Asks b F (PayloadTold k index content′)
+unfolding logOf
+payload-copied {b} {F} k {index} content {content′} {to} {row} i lo hi lc pb er ec = record {
+  to = λ s h ef. record { to = λ e q. copied s h (subst (λ (G : Capacity). Copying G b k index content content′ to row) ef copying) e q };
+}
+  where
+    copying : Copying F b k index content content′ to row
+    copying = record { place = i; high = hi; long = lc; block-begins = pb .is; room = pb .ends; start = er; is = ec }
+
+    copied : (s : State) → Area b s → Copying (capacityOf s) b k index content content′ to row → (e : Entry) → entryAt (serverAt s k .storage .current .log) (index .0) ≡ some e
+        → Holds (payload (s .limits .payload)) content′ (e .payload)
+    copied s h c e q =
+        let P : ℕ = s .limits .payload in
+        let L : ℕ = s .limits .«log_indexes» in
+        let Y : ℕ = 1 + wordsFor P in
+        let l : ℕ = logWords (capacityOf s) in
+        let log = serverAt s k .storage .current .log in
+        let below : index .0 - 1 < L = omega (arith, lo, c .high) in
+        let st : row ≡ (index .0 - 1) * (2 + wordsFor P) = place-start P (index .0 - 1) row (c .start) in
+        let end : row + (2 + wordsFor P) ≤ l = rw st (row-end (index .0 - 1) L (2 + wordsFor P) below) in
+        let x : Holds (payload P) (lentRow row Y (lentRow (to + 64) l b)) (e .payload) =
+        entry-held P L (log-lent h k (c .place) to (c .block-begins) l refl) (index .0 - 1) row below st e (sym (entry-place log (index .0) lo) ∙ q) in
+        let same : lentRow (to + 64 + row) Y b ≡ lentRow row Y (lentRow (to + 64) l b) = lent-lent (to + 64) l row Y b (omega (arith, end)) ∙ sym (lent-is row Y (lentRow (to + 64) l b)) in
+        let fits : 8 * (to + 64 + row + Y) ≤ length b = omega (arith, end, c .room) in
+        let all : content′ ≡ lentRow (to + 64 + row) Y b = c .is ∙ sets-all content (lentRow (to + 64 + row) Y b) (length-lentRow (to + 64 + row) Y b fits ∙ sym (c .long)) in
+        record { good = x .good; is = all ∙ same ∙ x .is }
 
 -- ---- write_count
 
