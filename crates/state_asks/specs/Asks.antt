@@ -17,7 +17,8 @@ use Rattle.layout.specs.Tables.{Holds}
 use Rattle.layout.specs.Payload.{payload}
 use Rattle.log.specs.Log.{Log, entryAt}
 use Rattle.storage.specs.Storage.{Write, written}
-use Rattle.checks.specs.Checks.{Checker, Led, Mismatch, Acknowledged, leaderKey, onApply, onWrites, onStatus, logMatchingFailure, checkLogMatching, highestOf, checkDurability}
+use Rattle.checks.specs.Checks.{Checker, Led, Mismatch, Acknowledged, leaderKey, onApply, onWrites, onStatus, logMatchingFailure}
+use Rattle.checks.specs.Checks.{checkLogMatching, highestOf, checkDurability}
 use Rattle.checks_on_apply.specs.declared.ApplyAsked.{ApplyAsked}
 use Rattle.checks_on_apply.specs.OnApply.{applyActs}
 use Rattle.checks_on_write.specs.declared.WriteAsked.{WriteAsked}
@@ -100,8 +101,8 @@ logOf k s = serverAt s k .storage .current .log
 unfoldable pub afterStatus : ℕ → Status → State → Led
 afterStatus k status s = onStatus (raftChecksOf s) (s .checker) (s .now) (idOf k) status (logOf k s) (serverAt s k .leading)
 
--- The answer for a state: 10 exactly where what the definition gives does not fit; flags that say what it does, and whether the server leads;
--- and a leader to be kept is the first of its term.
+-- The answer for a state: 10 exactly where what the definition gives does not fit; flags that say what it does, and whether the server
+-- leads; and a leader to be kept is the first of its term.
 pub record StatusTold (k : ℕ) (status : Status) (r : StatusAsked) (s : State) : Type 0 where
   pub code : r .code ≡ checkerCode s (afterStatus k status s .checker)
   pub does : afterStatus k status s .checker ≡ statusActs r (s .checker) (s .now) (idOf k) (status .term)
@@ -110,8 +111,10 @@ pub record StatusTold (k : ℕ) (status : Status) (r : StatusAsked) (s : State) 
 
 -- The same where the numbers are the state's: how many leaders and applied payloads there are, the total of violations, whether leader
 -- completeness is asked for, and the term that the server leads.
-pub record StatusGiven (leaders applied total : ℕ) (raftChecks : Bool) (leading : TermOption) (k : ℕ) (status : Status) (r : StatusAsked) (s : State) : Type 0 where
-  pub to : leaders ≡ length (s .checker .leaders) → applied ≡ length (s .checker .applied) → total ≡ s .checker .total → raftChecks ≡ raftChecksOf s
+pub record StatusGiven (leaders applied total : ℕ) (raftChecks : Bool) (leading : TermOption) (k : ℕ) (status : Status) (r : StatusAsked)
+    (s : State) : Type 0 where
+  pub to : leaders ≡ length (s .checker .leaders) → applied ≡ length (s .checker .applied) → total ≡ s .checker .total
+      → raftChecks ≡ raftChecksOf s
       → leading ≡ leadingOf k s → StatusTold k status r s
 
 -- ---- writes
@@ -213,14 +216,16 @@ acknowledgedOf s = acknowledgedFrom (s .config .«command_bytes») (s .replies)
 unfoldable pub afterDurability : State → Checker
 afterDurability s = checkDurability (s .checker) (s .now) (acknowledgedOf s) (appliedFrom 0 (s .servers))
 
--- The answer for a state: 10 exactly where what the definition gives does not fit, how many reports are due, and the highest acknowledged index.
+-- The answer for a state: 10 exactly where what the definition gives does not fit, how many reports are due, and the highest acknowledged
+-- index.
 pub record DurabilityTold (r : DurabilityAsked) (s : State) : Type 0 where
   pub code : r .code ≡ checkerCode s (afterDurability s)
   pub reports : afterDurability s .total ≡ s .checker .total + r .reports
   pub highest : r .highest ≡ highestOf (acknowledgedOf s)
 
--- The same where the numbers are the state's: how many replies and applied payloads there are, the total of violations, the bytes of a command,
--- and how far each server has applied.
+-- The same where the numbers are the state's: how many replies and applied payloads there are, the total of violations, the bytes of a
+-- command, and how far each server has applied.
 pub record DurabilityGiven (replies applied total size : ℕ) (upTo : List ℕ) (r : DurabilityAsked) (s : State) : Type 0 where
-  pub to : replies ≡ length (s .replies) → applied ≡ length (s .checker .applied) → total ≡ s .checker .total → size ≡ commandBytesOf s → upTo ≡ upToOf s
+  pub to : replies ≡ length (s .replies) → applied ≡ length (s .checker .applied) → total ≡ s .checker .total → size ≡ commandBytesOf s
+      → upTo ≡ upToOf s
       → DurabilityTold r s

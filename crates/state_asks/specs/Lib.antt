@@ -1,4 +1,5 @@
 pub mod Asks
+pub mod Ties
 pub mod Lent
 pub mod Rows
 pub mod Laws

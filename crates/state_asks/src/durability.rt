@@ -5,6 +5,7 @@ ghost use lib.ListN.{take};
 ghost use Rattle.state.specs.Changes.{Inside, Reads};
 ghost use Rattle.state_asks.specs.Asks.{AtMost, Asks, commandBytesOf, appliedOf, upToOf};
 ghost use Rattle.state_asks.specs.Asks.{replyIndexOf, replyMissingOf, DurabilityTold, DurabilityGiven};
+use crate::apply;
 use crate::numbers;
 use checks_durability::DurabilityAsked;
 use checks_durability::acknowledged;
@@ -36,7 +37,7 @@ pub fn applied_of(area: &[u8], f: Capacity, k: usize) -> u64
     requires { ⌜ k < f .servers ⌝ }
     ensures { λ r. ⌜ Reads (now (area .entry)) f r (appliedOf k) ⌝ }
 {
-    let n = numbers::next_apply_of(area, f, k);
+    let n = apply::next_apply_of(area, f, k);
     if n < 1 { 0 } else { n - 1 }
 }
 
