@@ -10,7 +10,8 @@ use Rattle.layout.specs.Parts.{lentRow, length-lentRow}
 use Rattle.layout.specs.Rows.{row-start}
 use Rattle.model.specs.State.{State}
 use Rattle.state.specs.declared.Capacity.{Capacity}
-use Rattle.state.specs.Sizes.{blockWords, queueWords, seenWords, appliedWords, queueAt, seenAt, leadersAt, repliesAt, appliedAt, wholeWords, Counted, BlockAt}
+use Rattle.state.specs.Sizes.{blockWords, queueWords, seenWords, appliedWords, queueAt, seenAt, leadersAt, repliesAt, appliedAt}
+use Rattle.state.specs.Sizes.{wholeWords, Counted, BlockAt}
 use Rattle.state.specs.SizeLaws.{room}
 use Rattle.state.specs.Area.{Area, capacityOf}
 use Rattle.state.specs.Changes.{Inside, Reads}
@@ -51,20 +52,26 @@ module _ (b : List ℕ) (F : Capacity) (i : Inside b F) (r : ℕ) where
 
 -- ---- rows have room in the region that is lent
 
-pub rows-room : {b : List ℕ} {n room w r at z v : ℕ} → Rows n room w r → Begins b at z (room * w) → v ≡ room * w → 8 * (r * w) ≤ length (lentRow at v b)
-rows-room {b} {n} {room} {w} {r} {at} {z} {v} q p e = let l : 8 * (at + v) ≤ length b = omega (arith, p .ends, e) in omega (arith, length-lentRow at v b l, q .bytes, e)
+pub rows-room : {b : List ℕ} {n room w r at z v : ℕ} → Rows n room w r → Begins b at z (room * w) → v ≡ room * w
+    → 8 * (r * w) ≤ length (lentRow at v b)
+rows-room {b} {n} {room} {w} {r} {at} {z} {v} q p e = let l : 8 * (at + v) ≤ length b =
+    omega (arith, p .ends, e) in omega (arith, length-lentRow at v b l, q .bytes, e)
 
 pub log-room : {b : List ℕ} {to z l v : ℕ} (more : ℕ) → Begins b to z (64 + (l + more)) → v ≡ l → 8 * l ≤ length (lentRow (to + 64) v b)
-log-room {b} {to} {z} {l} {v} more p e = let m : 8 * (to + 64 + v) ≤ length b = omega (arith, p .ends, e) in omega (arith, length-lentRow (to + 64) v b m, e)
+log-room {b} {to} {z} {l} {v} more p e = let m : 8 * (to + 64 + v) ≤ length b =
+    omega (arith, p .ends, e) in omega (arith, length-lentRow (to + 64) v b m, e)
 
-pub waiting-room : {b : List ℕ} {n room w r to z l x v : ℕ} (more : ℕ) → Rows n room w r → Begins b to z (64 + (l + (l + (room * w + more)))) → x ≡ l → v ≡ room * w
+pub waiting-room : {b : List ℕ} {n room w r to z l x v : ℕ} (more : ℕ) → Rows n room w r
+    → Begins b to z (64 + (l + (l + (room * w + more)))) → x ≡ l → v ≡ room * w
     → 8 * (r * w) ≤ length (lentRow (to + (64 + 2 * x)) v b)
 waiting-room {b} {n} {room} {w} {r} {to} {z} {l} {x} {v} more q p ex ev =
-    let m : 8 * (to + (64 + 2 * x) + v) ≤ length b = omega (arith, p .ends, ex, ev) in omega (arith, length-lentRow (to + (64 + 2 * x)) v b m, q .bytes, ev)
+    let m : 8 * (to + (64 + 2 * x) + v) ≤ length b = omega (arith, p .ends, ex, ev) in omega
+    (arith, length-lentRow (to + (64 + 2 * x)) v b m, q .bytes, ev)
 
 -- ---- next_apply_of
 
-pub next-apply-read : (b : List ℕ) (F : Capacity) (k at r : ℕ) → k < F .servers → Begins b at (512 + k * blockWords F) (blockWords F) → r ≡ getD (W (take (8 * (at + 8 + 14) - 8 * (at + 8)) (drop (8 * (at + 8)) b))) 10 0
+pub next-apply-read : (b : List ℕ) (F : Capacity) (k at r : ℕ) → k < F .servers → Begins b at (512 + k * blockWords F) (blockWords F)
+    → r ≡ getD (W (take (8 * (at + 8 + 14) - 8 * (at + 8)) (drop (8 * (at + 8)) b))) 10 0
     → Reads b F r (nextApplyOf k)
 unfolding nextApplyOf
 next-apply-read b F k at r i p e = record {

@@ -55,20 +55,25 @@ module _ {b : List ℕ} {s : State} (h : Area b s) where
   settings-lent = record { good = h .laid .settings .good; is = region (sizes F) b 1 (omega arith) ∙ h .laid .settings .is }
 
   pub seen-lent : (at w : ℕ) → at ≡ seenAt F → w ≡ seenWords F
-      → Held (seenIn (F .limits .«log_indexes») (F .limits .payload)) (seenWords F) (length (s .checker .entries)) (lentRow at w b) (s .checker .entries)
-  seen-lent at w ea ew = record { holds = cut-lent (sizes F) b 11 at w (omega arith) (omega (arith, ea)) (omega (arith, ew)) (h .laid .seen) }
+      → Held (seenIn (F .limits .«log_indexes») (F .limits .payload)) (seenWords F) (length (s .checker .entries)) (lentRow at w b)
+      (s .checker .entries)
+  seen-lent at w ea ew =
+      record { holds = cut-lent (sizes F) b 11 at w (omega arith) (omega (arith, ea)) (omega (arith, ew)) (h .laid .seen) }
 
   pub leaders-lent : (at w : ℕ) → at ≡ leadersAt F → w ≡ F .limits .history * 2
       → Held (leaders (F .servers)) (F .limits .history * 2) (length (s .checker .leaders)) (lentRow at w b) (s .checker .leaders)
-  leaders-lent at w ea ew = record { holds = cut-lent (sizes F) b 12 at w (omega arith) (omega (arith, ea)) (omega (arith, ew)) (h .laid .leaders) }
+  leaders-lent at w ea ew =
+      record { holds = cut-lent (sizes F) b 12 at w (omega arith) (omega (arith, ea)) (omega (arith, ew)) (h .laid .leaders) }
 
   pub replies-lent : (at w : ℕ) → at ≡ repliesAt F → w ≡ F .limits .history * 5
       → Held (replies (F .limits .«log_indexes») (F .clients)) (F .limits .history * 5) (length (s .replies)) (lentRow at w b) (s .replies)
-  replies-lent at w ea ew = record { holds = cut-lent (sizes F) b 13 at w (omega arith) (omega (arith, ea)) (omega (arith, ew)) (h .laid .replies) }
+  replies-lent at w ea ew =
+      record { holds = cut-lent (sizes F) b 13 at w (omega arith) (omega (arith, ea)) (omega (arith, ew)) (h .laid .replies) }
 
   pub applied-lent : (at w : ℕ) → at ≡ appliedAt F → w ≡ appliedWords F
       → Held (applied (F .limits .payload)) (appliedWords F) (length (s .checker .applied)) (lentRow at w b) (s .checker .applied)
-  applied-lent at w ea ew = record { holds = cut-lent (sizes F) b 15 at w (omega arith) (omega (arith, ea)) (omega (arith, ew)) (h .laid .applied) }
+  applied-lent at w ea ew =
+      record { holds = cut-lent (sizes F) b 15 at w (omega arith) (omega (arith, ea)) (omega (arith, ew)) (h .laid .applied) }
 
   -- ---- a server's block
 
@@ -85,7 +90,8 @@ module _ {b : List ℕ} {s : State} (h : Area b s) where
         let held : Held (servers F) n (F .servers) (lentRow 512 n b) (s .servers) =
         record { holds = cut-lent (sizes F) b 9 512 n (omega arith) (omega arith) refl (h .laid .servers) } in
         let e : lentRow at Z b ≡ lentRow (k * Z) Z (lentRow 512 n b) =
-        ap (λ (a : ℕ). lentRow a Z b) ea ∙ lent-lent 512 n (k * Z) Z b (row-end k (F .servers) Z i) ∙ sym (lent-is (k * Z) Z (lentRow 512 n b)) in
+        ap (λ (a : ℕ). lentRow a Z b) ea ∙ lent-lent 512 n (k * Z) Z b (row-end k (F .servers) Z i)
+        ∙ sym (lent-is (k * Z) Z (lentRow 512 n b)) in
         let r = row-lent held k (k * Z) (newServer 0) i refl in
         record { good = r .good; is = e ∙ r .is }
 
@@ -93,7 +99,8 @@ module _ {b : List ℕ} {s : State} (h : Area b s) where
     block-serves = serves F v (lentRow at Z b) block-lent
 
     -- region i of the block, at its word
-    part-lent : {A : Type 0} {c : Code A} {x : A} (j o w : ℕ) → j < 7 → 8 * o ≡ total (take j (blockSizes F)) → 8 * w ≡ getD (blockSizes F) j 0 → o + w ≤ Z
+    part-lent : {A : Type 0} {c : Code A} {x : A} (j o w : ℕ) → j < 7 → 8 * o ≡ total (take j (blockSizes F))
+        → 8 * w ≡ getD (blockSizes F) j 0 → o + w ≤ Z
         → Holds c (getD (cut (blockSizes F) (lentRow at Z b)) j []) x → Holds c (lentRow (at + o) w b) x
     part-lent j o w l eo ew m p =
         let q = cut-lent (blockSizes F) (lentRow at Z b) j o w l eo ew p in
@@ -105,11 +112,21 @@ module _ {b : List ℕ} {s : State} (h : Area b s) where
     pub storage-lent : Holds storageStateCode (lentRow at 8 b) (storageOfServer v)
     storage-lent =
         let e : at + 0 ≡ at = omega arith in
-        subst (λ (n : ℕ). Holds storageStateCode (lentRow n 8 b) (storageOfServer v)) e (part-lent 0 0 8 (omega arith) (omega arith) (omega arith) (omega arith) (block-serves .disk))
+        subst (λ (n : ℕ). Holds storageStateCode (lentRow n 8 b) (storageOfServer v)) e
+        (part-lent 0 0 8 (omega arith) (omega arith) (omega arith) (omega arith) (block-serves .disk))
 
-    pub log-lent : (w : ℕ) → w ≡ logWords F → Held (places (F .limits .payload)) (logWords F) (F .limits .«log_indexes») (lentRow (at + 64) w b) (v .storage .current .log)
-    log-lent w ew = record { holds = part-lent 3 64 w (omega arith) (omega arith) (omega (arith, ew)) (omega (arith, ew)) (block-serves .current .holds) }
+    pub log-lent : (w : ℕ) → w ≡ logWords F → Held (places (F .limits .payload)) (logWords F) (F .limits .«log_indexes»)
+        (lentRow (at + 64) w b) (v .storage .current .log)
+    log-lent w ew = record {
+      holds = part-lent 3 64 w (omega arith) (omega arith) (omega (arith, ew)) (omega (arith, ew))
+          (block-serves .current .holds);
+    }
 
     pub waiting-lent : (l w : ℕ) → l ≡ logWords F → w ≡ waitingWords F
-        → Held (waitingIn (F .limits .«log_indexes») (F .limits .payload)) (waitingWords F) (length (v .storage .waiting)) (lentRow (at + (64 + 2 * l)) w b) (v .storage .waiting)
-    waiting-lent l w el ew = record { holds = part-lent 5 (64 + 2 * l) w (omega arith) (omega (arith, el)) (omega (arith, ew)) (omega (arith, el, ew)) (block-serves .waiting .holds) }
+        → Held (waitingIn (F .limits .«log_indexes») (F .limits .payload)) (waitingWords F) (length (v .storage .waiting))
+        (lentRow (at + (64 + 2 * l)) w b) (v .storage .waiting)
+    waiting-lent l w el ew =
+        record {
+          holds = part-lent 5 (64 + 2 * l) w (omega arith) (omega (arith, el)) (omega (arith, ew)) (omega (arith, el, ew))
+              (block-serves .waiting .holds);
+        }

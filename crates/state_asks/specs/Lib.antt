@@ -1,4 +1,5 @@
 pub mod Asks
+pub mod Ties
 pub mod Lent
 pub mod Rows
 pub mod Laws
@@ -6,3 +7,4 @@ pub mod ApplyLaws
 pub mod StatusLaws
 pub mod WriteLaws
 pub mod MatchingLaws
+pub mod DurabilityLaws

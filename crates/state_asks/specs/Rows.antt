@@ -1,4 +1,5 @@
--- The rows of the checks: each in range and in order, whatever their counts; so question 10 of the checks is a test of counts. Assumes nothing.
+-- The rows of the checks: each in range and in order, whatever their counts; so question 10 of the checks is a test of counts. Assumes
+-- nothing.
 use mathlib.Core.Path.{_≡_, refl, sym, ap, ap₂, _∙_}
 use mathlib.Core.Bool.{Bool, true, false}
 use mathlib.Core.List.{List, [], _∷_, _++_, map}
@@ -20,9 +21,11 @@ use Rattle.log.specs.Places.{place}
 use Rattle.config.specs.declared.SimConfig.{SimConfig}
 use Rattle.config.specs.declared.Limits.{Limits}
 use Rattle.checks.specs.declared.Check.{Check}
-use Rattle.checks.specs.declared.Check.the-variants.{ElectionSafety, StateMachineSafety, ApplyOrder, UniqueEntries, Durability, Liveness, LogMatching, LeaderCompleteness}
+use Rattle.checks.specs.declared.Check.the-variants.{ElectionSafety, StateMachineSafety, ApplyOrder, UniqueEntries, Durability, Liveness}
+use Rattle.checks.specs.declared.Check.the-variants.{LogMatching, LeaderCompleteness}
 use Rattle.checks.specs.declared.TermLeader.{TermLeader}
-use Rattle.checks.specs.Checks.{Checker, Violation, Seen, checkNumber, leaderKey, seenKey, report, reportIf, withApplied, withEntries, withLeaders}
+use Rattle.checks.specs.Checks.{Checker, Violation, Seen, checkNumber, leaderKey, seenKey, report, reportIf, withApplied, withEntries}
+use Rattle.checks.specs.Checks.{withLeaders}
 use Rattle.checks.specs.Leaders.{leaders}
 use Rattle.checks.specs.Entries.{seenIn}
 use Rattle.checks.specs.Violations.{violations, violationRow}
@@ -55,7 +58,8 @@ module _ (config : SimConfig) (limits : Limits) (c : Checker) where
 
   -- the counts of rows and the total are left
   pub sound-fits : Sound (config .servers) L (limits .payload) c
-      → checkerFits config limits c ≡ (leb (length (c .leaders)) H and (leb (length (c .applied)) L and (leb (length (c .entries)) H and word (c .total))))
+      → checkerFits config limits c ≡
+      (leb (length (c .leaders)) H and (leb (length (c .applied)) L and (leb (length (c .entries)) H and word (c .total))))
   sound-fits q = by _ _ _ _ _ _ _ _ _ _ (q .leaders) (q .terms) (q .applied) (q .entries) (q .keys) (q .violations)
     where
       by : (l a e t b₁ b₂ b₃ b₄ b₅ b₆ : Bool) → b₁ ≡ true → b₂ ≡ true → b₃ ≡ true → b₄ ≡ true → b₅ ≡ true → b₆ ≡ true
@@ -102,11 +106,15 @@ module _ {S L P : ℕ} {c : Checker} (q : Sound S L P c) where
     violation-good : violationRow .good v ≡ true
     unfolding detailFits
     violation-good =
-        and-both _ _ ht (and-both _ _ (and-both _ _ (lt-ltb (checkNumber k) (2 ^ 64) (omega (arith, number-small k))) (lt-ltb (checkNumber k) 8 (number-small k))) hd)
+        and-both _ _ ht (and-both _ _
+        (and-both _ _ (lt-ltb (checkNumber k) (2 ^ 64) (omega (arith, number-small k))) (lt-ltb (checkNumber k) 8 (number-small k))) hd)
 
-    kept : (t : Bool) → ltb (length (c .violations)) 32 ≡ t → tableFits violations 32 (pick t (c .violations ++ v ∷ []) (c .violations)) ≡ true
+    kept : (t : Bool) → ltb (length (c .violations)) 32 ≡ t → tableFits violations 32 (pick t (c .violations ++ v ∷ []) (c .violations))
+        ≡ true
     kept true e =
-        let few : leb (length (c .violations ++ v ∷ [])) 32 ≡ true = le-leb (length (c .violations ++ v ∷ [])) 32 (omega (arith, length-append (c .violations) (v ∷ []), ltb-true (length (c .violations)) 32 e)) in
+        let few : leb (length (c .violations ++ v ∷ [])) 32 ≡ true =
+        le-leb (length (c .violations ++ v ∷ [])) 32
+        (omega (arith, length-append (c .violations) (v ∷ []), ltb-true (length (c .violations)) 32 e)) in
         let each : every (violationRow .good) (c .violations ++ v ∷ []) ≡ true =
         every-append (violationRow .good) (c .violations) (v ∷ [])
         ∙ and-both _ _ (and-left _ _ (and-right _ _ (q .violations))) (and-both _ _ violation-good refl) in
@@ -148,7 +156,8 @@ module _ {S L P : ℕ} {c : Checker} (q : Sound S L P c) where
     violations = q .violations;
   }
 
-  pub sound-leader : (x : TermLeader) → leaders S .row .good x ≡ true → Sound S L P (withLeaders c (insertBy numbers leaderKey x (c .leaders)))
+  pub sound-leader : (x : TermLeader) → leaders S .row .good x ≡ true
+      → Sound S L P (withLeaders c (insertBy numbers leaderKey x (c .leaders)))
   sound-leader x h = record {
     leaders = every-insert numbers leaderKey (leaders S .row .good) x (c .leaders) h (q .leaders);
     terms = rising-insert numbers leaderKey x (c .leaders) (q .terms);
@@ -171,12 +180,26 @@ module _ {S L P : ℕ} where
   pub reported-none : {c : Checker} → Sound S L P c → Reported S L P c c
   reported-none q = record { sound = q; leaders = refl; applied = refl; entries = refl }
 
-  pub reported-if : {c : Checker} → Sound S L P c → (time : SimTime) (k : Check) (d : List ℕ) → word (time .0) ≡ true → detailFits d ≡ true → (t : Bool)
+  pub reported-if : {c : Checker} → Sound S L P c → (time : SimTime) (k : Check) (d : List ℕ) → word (time .0) ≡ true
+      → detailFits d ≡ true → (t : Bool)
       → Reported S L P c (reportIf t c time k d)
-  reported-if {c} q time k d ht hd t = record { sound = sound-if q time k d ht hd t; leaders = leaders-if t c time k d; applied = applied-if t c time k d; entries = entries-if t c time k d }
+  reported-if {c} q time k d ht hd t =
+      record {
+        sound = sound-if q time k d ht hd t;
+        leaders = leaders-if t c time k d;
+        applied = applied-if t c time k d;
+        entries =
+            entries-if t c time k d;
+      }
 
   pub reported-then : {a b c : Checker} → Reported S L P a b → Reported S L P b c → Reported S L P a c
-  reported-then p q = record { sound = q .sound; leaders = q .leaders ∙ p .leaders; applied = q .applied ∙ p .applied; entries = q .entries ∙ p .entries }
+  reported-then p q = record {
+    sound = q .sound;
+    leaders = q .leaders ∙ p .leaders;
+    applied = q .applied ∙ p .applied;
+    entries =
+        q .entries ∙ p .entries;
+  }
 
 -- ---- the codes of questions that count one table
 
@@ -262,7 +285,9 @@ module _ {b : List ℕ} {s : State} (h : Area b s) where
     few-writes = leb-true _ _ (and-left _ _ (and-left _ _ (and-right _ _ (and-right _ _ storage-tests))))
 
   -- what only reports has a code of the total alone
-  pub reported-code : {d : Checker} → Reported (s .config .servers) (s .limits .«log_indexes») (s .limits .payload) c d → checkerCode s d ≡ pick (word (d .total)) 0 10
+  pub reported-code : {d : Checker} → Reported (s .config .servers) (s .limits .«log_indexes») (s .limits .payload) c d
+      → checkerCode s d ≡ pick (word (d .total)) 0 10
   reported-code {d} q =
-      code-total s d (q .sound) (ap (λ (x : List TermLeader). leb (length x) (s .limits .history)) (q .leaders) ∙ few-leaders) (ap (λ (x : List Payload). leb (length x) (s .limits .«log_indexes»)) (q .applied) ∙ few-applied)
+      code-total s d (q .sound) (ap (λ (x : List TermLeader). leb (length x) (s .limits .history)) (q .leaders) ∙ few-leaders)
+      (ap (λ (x : List Payload). leb (length x) (s .limits .«log_indexes»)) (q .applied) ∙ few-applied)
       (ap (λ (x : List Seen). leb (length x) (s .limits .history)) (q .entries) ∙ few-entries)

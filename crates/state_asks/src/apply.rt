@@ -4,14 +4,26 @@ ghost use Prim.Native.Nat.{_+_, _*_, _≤_, _<_};
 ghost use lib.ListN.{length};
 ghost use Rattle.units.specs.Types.{payloadOf};
 ghost use Rattle.layout.specs.Marked.{wordsFor};
-ghost use Rattle.state.specs.Changes.{Inside};
-ghost use Rattle.state_asks.specs.Asks.{Asks, ApplyTold, AsksRow};
+ghost use Rattle.state.specs.Changes.{Inside, Reads};
+ghost use Rattle.state_asks.specs.Asks.{Asks, nextApplyOf, ApplyTold, AsksRow};
 use crate::numbers;
 use checks_on_apply::ApplyAsked;
 use layout::marked;
 use state::Capacity;
 use state::sizes;
 use units::LogIndex;
+
+// The index that the server at a place is expected to apply next.
+pub fn next_apply_of(area: &[u8], f: Capacity, k: usize) -> u64
+    requires { ⌜ Inside (now area) f ⌝ }
+    requires { ⌜ k < f .servers ⌝ }
+    ensures { λ r. ⌜ Reads (now (area .entry)) f r (nextApplyOf k) ⌝ }
+{
+    let at = numbers::block_at(area, f, k) + 8;
+    let a = 8 * at;
+    let e = 8 * (at + 14);
+    words::load(&area[a..e], 10)
+}
 
 // What a payload that the server at a place applied gives, lent in words.
 fn row_asked(area: &[u8], f: Capacity, k: usize, index: LogIndex, content: &[u8]) -> ApplyAsked
@@ -22,7 +34,7 @@ fn row_asked(area: &[u8], f: Capacity, k: usize, index: LogIndex, content: &[u8]
 {
     let limits = f.limits;
     let p = limits.payload as usize;
-    let expected = numbers::next_apply_of(area, f, k);
+    let expected = next_apply_of(area, f, k);
     let counts = state_header::counts_of(area, f);
     let n = numbers::rows_of(counts.applied, limits.log_indexes, 1 + (p + 7) / 8);
     let at = numbers::applied_at(area, f);

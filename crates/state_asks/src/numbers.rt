@@ -1,9 +1,9 @@
-// Counts and numbers of servers that questions ask for.
+// How many rows a table has, and where the regions begin.
 ghost use mathlib.Core.Path.{_≡_};
 ghost use Prim.Native.Nat.{_+_, _*_, _<_};
 ghost use Rattle.state.specs.Sizes.{blockWords, queueWords, seenWords, appliedWords, queueAt, seenAt, leadersAt, repliesAt, appliedAt};
-ghost use Rattle.state.specs.Changes.{Inside, Reads};
-ghost use Rattle.state_asks.specs.Asks.{Rows, Begins, nextApplyOf};
+ghost use Rattle.state.specs.Changes.{Inside};
+ghost use Rattle.state_asks.specs.Asks.{Rows, Begins};
 use state::Capacity;
 use state::sizes;
 
@@ -63,18 +63,4 @@ pub fn applied_at(area: &[u8], f: Capacity) -> usize
     ensures { λ r. ⌜ Begins (now (area .entry)) r (appliedAt f) (appliedWords f) ⌝ }
 {
     sizes::applied_at(f)
-}
-
-// ---- numbers of a server
-
-// The index that the server at a place is expected to apply next.
-pub fn next_apply_of(area: &[u8], f: Capacity, k: usize) -> u64
-    requires { ⌜ Inside (now area) f ⌝ }
-    requires { ⌜ k < f .servers ⌝ }
-    ensures { λ r. ⌜ Reads (now (area .entry)) f r (nextApplyOf k) ⌝ }
-{
-    let at = block_at(area, f, k) + 8;
-    let a = 8 * at;
-    let e = 8 * (at + 14);
-    words::load(&area[a..e], 10)
 }

@@ -1,13 +1,16 @@
 // A server has written at indexes (on_write of checks.rs): all waiting writes at once, which asks whether they fit, and one index after
 // another.
 ghost use mathlib.Core.Path.{_≡_};
-ghost use Prim.Native.Nat.{_<_};
+ghost use Prim.Native.Nat.{_+_, _*_, _<_};
+ghost use lib.ListN.{length};
+ghost use Rattle.layout.specs.Marked.{wordsFor};
 ghost use Rattle.checks_on_write.specs.OnWrites.{shapeIndex};
 ghost use Rattle.state.specs.Changes.{Inside, Reads};
-ghost use Rattle.state_asks.specs.Asks.{Asks, writeCountOf, writtenIndexOf, writeAskedOf, WritesTold, WritesGiven};
+ghost use Rattle.state_asks.specs.Asks.{Asks, writeCountOf, writtenIndexOf, writeAskedOf, PayloadTold, WritesTold, WritesGiven};
 use crate::numbers;
 use checks_on_write::WriteAsked;
 use checks_on_write::WritesAsked;
+use layout::rows;
 use state::Capacity;
 use state::sizes;
 use storage::waiting;
@@ -89,6 +92,28 @@ pub fn write_asked(area: &[u8], f: Capacity, k: usize, index: LogIndex) -> Write
         limits.log_indexes as usize,
         index,
     )
+}
+
+// Copies the payload of the entry at an index of the log of the server at a place, in words: what is kept of an entry that is new.
+pub fn copy_payload(area: &[u8], f: Capacity, k: usize, index: LogIndex, content: &mut [u8])
+    requires { ⌜ Inside (now area) f ⌝ }
+    requires { ⌜ k < f .servers ⌝ }
+    requires { ⌜ length (now content) ≡ 8 * (1 + wordsFor (f .limits .payload)) ⌝ }
+    ensures { λ _. ⌜ Asks (now (area .entry)) f (PayloadTold k index (now (content .exit))) ⌝ }
+{
+    let limits = f.limits;
+    if index.0 < 1 {
+        return;
+    }
+    if limits.log_indexes < index.0 {
+        return;
+    }
+    let w = 1 + (limits.payload as usize + 7) / 8;
+    let to = numbers::block_at(area, f, k) + 64;
+    let at = to + rows::start_of((index.0 - 1) as usize, limits.log_indexes as usize, w + 1);
+    let a = 8 * at;
+    let e = 8 * (at + w);
+    words::copy_from(content, 0, &area[a..e]);
 }
 
 // ---- all waiting writes

@@ -1,8 +1,8 @@
--- Made by tools/uniform from proofs.txt, not by hand: 9600357a6da80809
+-- Made by tools/uniform from proofs.txt, not by hand: 3a9796b56a80917f
 use Rattle.state_asks.specs.Laws.{next-apply-read}
 use borrow.Author.Needs.{needs}
-use Rattle.state_asks.proofs.numbers.next_apply_of.Statement.{statement}
-use Rattle.state_asks.proofs.numbers.next_apply_of.Tie as tie
+use Rattle.state_asks.proofs.apply.next_apply_of.Statement.{statement}
+use Rattle.state_asks.proofs.apply.next_apply_of.Tie as tie
 
 pub next-apply-of-spec : {M : Type 1} → statement M
 next-apply-of-spec =
