@@ -46,24 +46,23 @@ fn contents(area: &[u8], f: Capacity) -> bool
     header & servers & tables & spare
 }
 
-// The gate: 4 where there is no header, 5 where its counts are outside the limits, 4 where the area is shorter than they ask, 5 where the
-// bytes are the content of no state; else 0 and the counts.
+// The gate: the refusal, or 0 and the counts of the state that lies there.
 pub fn gate(area: &[u8]) -> Gate
     ensures { λ r. ⌜ Gated (now (area .entry)) r ⌝ }
 {
     if area.len() < 4096 {
-        return refused(4);
+        return refused(4); // no header
     }
     let f = header::load_capacity(area);
     if !config::counts_fit(f.servers, f.clients, f.limits) {
-        return refused(5);
+        return refused(5); // counts outside the limits
     }
     let need = config::area_length(f.servers, f.clients, f.limits) as usize;
     if area.len() < need {
-        return refused(4);
+        return refused(4); // shorter than the counts ask
     }
     if !contents(area, f) {
-        return refused(5);
+        return refused(5); // the content of no state
     }
     Gate {
         refusal: 0,

@@ -1,4 +1,4 @@
--- Made by tools/uniform from proofs.txt, not by hand: b32b1480fbdc468a
+-- Made by tools/uniform from proofs.txt, not by hand: 3c15f8d422017c80
 use Rattle.state_gate_blocks.specs.Laws.{block-told}
 use borrow.Author.Needs.{needs}
 use Rattle.state_gate_blocks.proofs.block.Statement.{statement}
@@ -35,4 +35,4 @@ block-spec =
     (λ c. search needs)  -- part-check-start-4
     (λ c. search needs)  -- part-check-end-4
     (λ c κs. search needs)  -- check-requires-4
-    (λ c. let a = c .before .before .before .before .before .before .before .before in let w = a .before in let l = w .before in let k = l .before in let n = k .before in let s = n .before .before in block-told _ _ (s .before .pre .1) (s .shared-slice-known .given) _ _ (l .log-words .ensures) (w .waiting-words .ensures) _ _ _ _ _ _ _ (n .load .ensures) (k .load2 .ensures) (a .fixed .ensures) (c .before .before .before .before .before .before .check .ensures) (c .before .before .before .before .check2 .ensures) (c .before .before .check3 .ensures) (c .check4 .ensures)))  -- returns
+    (λ c. let a = c .before .before .before .before .before .before .before .before in let w = a .before in let l = w .before in let k = l .before in let n = k .before in let s = n .before .before in block-told (s .before .args .f) _ (s .before .pre .1) (s .shared-slice-known .given) _ _ (l .log-words .ensures) (w .waiting-words .ensures) _ _ _ _ _ _ _ (n .load .ensures) (k .load2 .ensures) (a .fixed .ensures) (c .before .before .before .before .before .before .check .ensures) (c .before .before .before .before .check2 .ensures) (c .before .before .check3 .ensures) (c .check4 .ensures)))  -- returns

@@ -1,4 +1,4 @@
--- Made by tools/uniform from proofs.txt, not by hand: b209d5a8a0a74454
+-- Made by tools/uniform from proofs.txt, not by hand: cb56d72d9580097c
 use Rattle.state_gate_blocks.specs.Laws.{fixed-told}
 use borrow.Author.Needs.{needs}
 use Rattle.state_gate_blocks.proofs.fixed.Statement.{statement}
@@ -14,4 +14,4 @@ fixed-spec =
     (λ c. search needs)  -- part-server-state-end
     (λ c κs. search needs)  -- server-state-requires
     (λ c κs. search needs)  -- zero-words-requires
-    (λ c. fixed-told _ _ _ _ _ (c .before .before .before .before .before .shared-slice-known .given) (c .before .before .before .before .before .before .pre .1) (c .before .before .before .storage-state .ensures) (c .before .server-state .ensures) (c .zero-words .ensures)))  -- returns
+    (λ c. fixed-told (c .before .before .before .before .before .before .args .f) _ _ _ _ (c .before .before .before .before .before .shared-slice-known .given) (c .before .before .before .before .before .before .pre .1) (c .before .before .before .storage-state .ensures) (c .before .server-state .ensures) (c .zero-words .ensures)))  -- returns

@@ -1,4 +1,4 @@
--- Made by tools/uniform from proofs.txt, not by hand: 976cb8de2421af5b
+-- Made by tools/uniform from proofs.txt, not by hand: fd7f9ea551c118e1
 use Rattle.state_gate_blocks.specs.Laws.{server-told}
 use borrow.Author.Needs.{needs}
 use Rattle.state_gate_blocks.proofs.server_state.Statement.{statement}
@@ -16,4 +16,4 @@ server-state-spec =
     (λ c κs. search needs)  -- load-requires-5
     (λ c κs. search needs)  -- flagged-requires
     (λ c. search needs)  -- add-result
-    (λ c. server-told _ _ _ _ _ _ _ _ _ (c .before .before .before .before .before .before .status .ensures) (c .before .before .before .before .before .load .ensures) (c .before .before .before .before .load2 .ensures) (c .before .before .before .load3 .ensures) (c .before .before .load4 .ensures) (c .before .load5 .ensures) (c .flagged .ensures)))  -- returns
+    (λ c. server-told (c .before .before .before .before .before .before .before .before .args .l) _ _ _ _ _ _ _ _ (c .before .before .before .before .before .before .status .ensures) (c .before .before .before .before .before .load .ensures) (c .before .before .before .before .load2 .ensures) (c .before .before .before .load3 .ensures) (c .before .before .load4 .ensures) (c .before .load5 .ensures) (c .flagged .ensures)))  -- returns

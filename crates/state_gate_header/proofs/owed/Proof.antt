@@ -1,4 +1,4 @@
--- Made by tools/uniform from proofs.txt, not by hand: 642dcfc89ab5be44
+-- Made by tools/uniform from proofs.txt, not by hand: 6f0f6248b86b2539
 use Rattle.state_gate_header.specs.PhaseLaws.{owed-nothing, owed-something}
 use borrow.Author.Needs.{needs}
 use Rattle.state_gate_header.proofs.owed.Statement.{statement}
@@ -8,5 +8,5 @@ pub owed-spec : {M : Type 1} → statement M
 owed-spec =
     tie.close
     (tie.spec
-    (λ c. owed-nothing _ _ _ (c .if1 .taken))  -- returns
-    (λ c. owed-something _ _ _ (c .if1 .left)))  -- returns-2
+    (λ c. owed-nothing (c .before .args .servers) (c .before .args .kind) (c .before .args .next) (c .if1 .taken))  -- returns
+    (λ c. owed-something (c .before .args .servers) (c .before .args .kind) (c .before .args .next) (c .if1 .left)))  -- returns-2
