@@ -1,4 +1,4 @@
--- Made by tools/uniform from proofs.txt, not by hand: db702371c4cee5c2
+-- Made by tools/uniform from proofs.txt, not by hand: c89553ce762d56b1
 use Rattle.state_disk.specs.Laws.{entry-read}
 use borrow.Author.Needs.{needs}
 use Rattle.state_disk.proofs.read_entry.Statement.{statement}
@@ -8,10 +8,7 @@ pub read-entry-spec : {M : Type 1} → statement M
 read-entry-spec =
     tie.close
     (tie.spec
-    (λ c κs. search (entry-read, needs))  -- disk-in-requires
-    (λ c κs. search (entry-read, needs))  -- log-words-requires
-    (λ c. search (entry-read, needs))  -- mul-to
-    (λ c. search (entry-read, needs))  -- add-to
+    (λ c κs. search (entry-read, needs))  -- log-in-requires
     (λ c. search (entry-read, needs))  -- sub-read-entry
     (λ c. search (entry-read, needs))  -- part-read-entry-start
     (λ c. search (entry-read, needs))  -- part-read-entry-end
