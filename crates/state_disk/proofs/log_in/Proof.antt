@@ -1,4 +1,4 @@
--- Made by tools/uniform from proofs.txt, not by hand: 13e047fe1a03548a
+-- Made by tools/uniform from proofs.txt, not by hand: 2c8f2872f1ad24c6
 use Rattle.state_disk.specs.Laws.{log-in}
 use borrow.Author.Needs.{needs}
 use Rattle.state_disk.proofs.log_in.Statement.{statement}
@@ -15,4 +15,4 @@ log-in-spec =
     (λ c. search (log-in, needs))  -- add-t8
     (λ c. search (log-in, needs))  -- add-t9
     (λ c. search (log-in, needs))  -- mul-t10
-    (λ c. search (log-in, needs)))  -- returns
+    (λ c. log-in _ _ _ _ _ (c .before .before .before .pre .0) (c .before .block-at .ensures) (c .log-words .ensures)))  -- returns

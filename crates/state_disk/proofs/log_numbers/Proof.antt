@@ -1,4 +1,4 @@
--- Made by tools/uniform from proofs.txt, not by hand: 9859134a270f8349
+-- Made by tools/uniform from proofs.txt, not by hand: 6055ec2275019ad5
 use Rattle.log.specs.Laws.{gapped}
 use Rattle.state_disk.specs.Laws.{numbers-read}
 use borrow.Author.Needs.{needs}
@@ -19,4 +19,4 @@ log-numbers-spec =
     (λ c. search (numbers-read, gapped, needs))  -- part-count-end
     (λ c κs. search (numbers-read, gapped, needs))  -- count-requires
     (λ c. search (numbers-read, gapped, needs))  -- sub-t19
-    (λ c. search (numbers-read, gapped, needs)))  -- returns
+    (λ c. numbers-read _ _ _ _ (c .before .before .before .before .before .before .before .before .pre .1) (c .before .before .before .before .before .before .log-in .ensures) _ _ (c .before .before .before .last-index .ensures) (c .before .count .ensures)))  -- returns

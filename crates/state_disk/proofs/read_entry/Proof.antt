@@ -1,4 +1,4 @@
--- Made by tools/uniform from proofs.txt, not by hand: c89553ce762d56b1
+-- Made by tools/uniform from proofs.txt, not by hand: e4230ae80edf92e7
 use Rattle.state_disk.specs.Laws.{entry-read}
 use borrow.Author.Needs.{needs}
 use Rattle.state_disk.proofs.read_entry.Statement.{statement}
@@ -14,4 +14,4 @@ read-entry-spec =
     (λ c. search (entry-read, needs))  -- part-read-entry-end
     (λ c κs. search (entry-read, needs))  -- read-entry-requires
     (λ c. search (entry-read, needs))  -- same-length
-    (λ c. search (entry-read, needs)))  -- returns
+    (λ c. entry-read _ _ _ _ (c .before .before .before .before .before .before .before .before .before .pre .1 .0) (c .before .before .before .before .before .before .log-in .ensures) _ _ _ _ (c .before .before .read-entry .ensures)))  -- returns

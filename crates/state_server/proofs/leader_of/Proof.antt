@@ -1,6 +1,6 @@
--- Made by tools/uniform from proofs.txt, not by hand: ee1ec32beffb5db3
+-- Made by tools/uniform from proofs.txt, not by hand: 618ca1ebb78878f2
 use Prim.Native.Nat.{_-_}
-use Rattle.state_server.specs.Laws.{Choosing, choosing, choosing-turn}
+use Rattle.state_server.specs.Laws.{Choosing, choosing, choosing-start, choosing-turn}
 use borrow.Author.Needs.{needs}
 use Rattle.state_server.proofs.leader_of.Statement.{statement}
 use Rattle.state_server.proofs.leader_of.Tie as tie
@@ -17,7 +17,7 @@ leader-of-spec =
     (tie.spec
     Inv-loop
     μ-loop
-    (λ c. search (choosing, needs))  -- loop-holds
+    (λ c. choosing-start _ _)  -- loop-holds
     (λ c κs. search (choosing, needs))  -- status-of-requires
     (λ c κs. search (choosing, needs))  -- after-server-requires
     (λ c. search (choosing, needs))  -- add-k
