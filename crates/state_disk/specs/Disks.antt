@@ -21,13 +21,14 @@ use Rattle.model.specs.Fields.{withStorage}
 use Rattle.model.specs.Simulation.{onServer, writeAt}
 use Rattle.model.specs.Fits.{stateFits}
 use Rattle.state.specs.declared.Capacity.{Capacity}
-use Rattle.state.specs.Sizes.{blockWords}
+use Rattle.state.specs.Sizes.{logWords, blockWords}
 use Rattle.state.specs.Parts.{storageStateWords}
 use Rattle.state.specs.Server.{storageOfServer}
 use Rattle.state.specs.Area.{Area, capacityOf}
 use Rattle.state.specs.Changes.{Changes, Reads}
 use Rattle.state.specs.Lens.{ServerCut}
 use Rattle.state_disk.specs.declared.DiskPlace.{DiskPlace}
+use Rattle.state_disk.specs.declared.LogPlace.{LogPlace}
 use Rattle.state_disk.specs.declared.SyncTold.{SyncTold}
 use Rattle.state_disk.specs.declared.LogNumbers.{LogNumbers}
 
@@ -97,6 +98,12 @@ unfoldable pub crashedAt : ℕ → State → State
 crashedAt k s = onServer s k (λ v. withStorage v (crash (v .storage)))
 
 -- ---- the log
+
+-- The bytes at which the log of the server at k begins and ends, as written so far; it lies in the area.
+pub record LogIn (b : List ℕ) (F : Capacity) (k : ℕ) (r : LogPlace) : Type 0 where
+  pub from : r .from ≡ 8 * (512 + k * blockWords F) + 512
+  pub to : r .to ≡ r .from + 8 * logWords F
+  pub ends : r .to ≤ length b
 
 -- The log of the server at k as written so far.
 unfoldable pub logAt : ℕ → State → Log

@@ -43,7 +43,7 @@ use Rattle.model.specs.Fields.{withStorage}
 use Rattle.model.specs.Simulation.{onServer, writeAt}
 use Rattle.model.specs.Fits.{stateFits, serverFits, serverTests, storageFits, hardStateFits, nodeFits}
 use Rattle.state.specs.declared.Capacity.{Capacity}
-use Rattle.state.specs.Sizes.{logWords, waitingWords, bytesOf, BlockAt, Counted}
+use Rattle.state.specs.Sizes.{logWords, waitingWords, blockWords, bytesOf, BlockAt, Counted}
 use Rattle.state.specs.SizeLaws.{room}
 use Rattle.state.specs.Parts.{storageStateIn, storageStateWords, storageStateCode}
 use Rattle.state.specs.Server.{storageOfServer}
@@ -53,7 +53,8 @@ use Rattle.state.specs.FitsBy.{fits-test, server-count, server-fits-at, fits-se
 use Rattle.state.specs.Changes.{Inside, AreaOf, Changes, Reads}
 use Rattle.state.specs.Lens.{diskContent, area-of, put-same, ServerCut, serverContents, server-cut, server-at-held, part-lent, part-put, cut-server, fits-on-server}
 use Rattle.state_disk.specs.declared.DiskPlace.{DiskPlace}
-use Rattle.state_disk.specs.Disks.{DiskIn, storageAt, StorageIn, StoresAt, written, writeAnswer, Finishes, WritesAt, unsyncedAt, syncedAt, SyncsAt, crashedAt, logAt, ReadsEntryAt, logNumbersAt}
+use Rattle.state_disk.specs.declared.LogPlace.{LogPlace}
+use Rattle.state_disk.specs.Disks.{LogIn, DiskIn, storageAt, StorageIn, StoresAt, written, writeAnswer, Finishes, WritesAt, unsyncedAt, syncedAt, SyncsAt, crashedAt, logAt, ReadsEntryAt, logNumbersAt}
 
 -- ---- by the counts of an area
 
@@ -369,49 +370,52 @@ waiting-room b F k logs d v p q e =
     let l : length (take n (drop (d .from + 16 * logs) b)) ≡ n = length-part b (d .from + 16 * logs) n (omega (arith, p .to, p .ends, e .is)) in
     omega (arith, l, p .to, e .is, row-start (v .waiting) (F .limits .writes) (3 + wordsFor (F .limits .payload)) (q .most))
 
-module _ (b : List ℕ) (F : Capacity) (k logs : ℕ) (d : DiskPlace) (i : k < F .servers) (p : DiskIn b F k d) (el : Counted logs (logWords F)) where
-  parts : (s : State) (r : List ℕ) (h : AreaOf b r F s)
-      → Parts (F .limits .payload) (F .limits .«log_indexes») (F .limits .writes) (length (serverAt s k .storage .waiting)) (lent (d .from) (d .to) b) (serverAt s k .storage .current .log)
-      (serverAt s k .storage .durable .log) (serverAt s k .storage .waiting)
-  parts s r h = disk-stores b r F s k d i p h (storageOfServer (serverAt s k)) refl .parts
+pub unsynced-read : (b : List ℕ) (F : Capacity) (k logs : ℕ) (d : DiskPlace) (v : StorageState) (r : ℕ) → k < F .servers → DiskIn b F k d → Counted logs (logWords F) → StorageIn b F k v
+    → Sums (F .limits .payload) (v .waiting) r (lent (d .from + 16 * logs) (d .to) b) → Reads b F (record { wrote = ltb 0 (v .waiting); bytes = r }) (unsyncedAt k)
+unfolding unsyncedAt storageAt
+unsynced-read b F k logs d v r i p el q g = record {
+  to = λ s h e.
+      let x : Storage = serverAt s k .storage in
+      let m : v .waiting ≡ length (x .waiting) = ap (λ (u : StorageState). u .waiting) (q .state .to s h e) in
+      let z = disk-stores b (drop (bytesOf F) b) F s k d i p (area-of h e) (storageOfServer (serverAt s k)) refl .parts in
+      let n : ℕ = length (lent (d .from) (d .to) b) in
+      let ln : n ≡ d .to - d .from = length-part b (d .from) (d .to - d .from) (omega (arith, p .to, p .ends)) in
+      let en : d .to - (d .from + 16 * logs) ≡ n - 16 * logs = omega (arith, ln) in
+      let at : lent (d .from + 16 * logs) (d .to) b ≡ lent (16 * logs) n (lent (d .from) (d .to) b) =
+      ap (λ (j : ℕ). take j (drop (d .from + 16 * logs) b)) en ∙ sym (part-part b (d .from) (d .to - d .from) (16 * logs) (n - 16 * logs) (omega (arith, ln, p .to, el .is))) in
+      let y : Held (waiting (F .limits .payload)) (waitingWords F) (v .waiting) (lent (d .from + 16 * logs) (d .to) b) (x .waiting) =
+      subst (λ (j : ℕ). Held (waiting (F .limits .payload)) (waitingWords F) j (lent (d .from + 16 * logs) (d .to) b) (x .waiting)) (sym m)
+      (subst (λ (l : List ℕ). Held (waiting (F .limits .payload)) (waitingWords F) (length (x .waiting)) l (x .waiting)) (sym at) (waiting-lent z logs (el .is) n refl)) in
+      ap₂ (λ (a c : ℕ). record { wrote = ltb 0 a; bytes = c }) m (g .is .to (waitingWords F) (x .waiting) y);
+}
 
-  pub unsynced-read : (v : StorageState) (r : ℕ) → StorageIn b F k v → Sums (F .limits .payload) (v .waiting) r (lent (d .from + 16 * logs) (d .to) b)
-      → Reads b F (record { wrote = ltb 0 (v .waiting); bytes = r }) (unsyncedAt k)
-  unfolding unsyncedAt storageAt
-  unsynced-read v r q g = record {
-    to = λ s h e.
-        let x : Storage = serverAt s k .storage in
-        let m : v .waiting ≡ length (x .waiting) = ap (λ (u : StorageState). u .waiting) (q .state .to s h e) in
-        let z = parts s (drop (bytesOf F) b) (area-of h e) in
-        let n : ℕ = length (lent (d .from) (d .to) b) in
-        let ln : n ≡ d .to - d .from = length-part b (d .from) (d .to - d .from) (omega (arith, p .to, p .ends)) in
-        let en : d .to - (d .from + 16 * logs) ≡ n - 16 * logs = omega (arith, ln) in
-        let at : lent (d .from + 16 * logs) (d .to) b ≡ lent (16 * logs) n (lent (d .from) (d .to) b) =
-        ap (λ (j : ℕ). take j (drop (d .from + 16 * logs) b)) en ∙ sym (part-part b (d .from) (d .to - d .from) (16 * logs) (n - 16 * logs) (omega (arith, ln, p .to, el .is))) in
-        let y : Held (waiting (F .limits .payload)) (waitingWords F) (v .waiting) (lent (d .from + 16 * logs) (d .to) b) (x .waiting) =
-        subst (λ (j : ℕ). Held (waiting (F .limits .payload)) (waitingWords F) j (lent (d .from + 16 * logs) (d .to) b) (x .waiting)) (sym m)
-        (subst (λ (l : List ℕ). Held (waiting (F .limits .payload)) (waitingWords F) (length (x .waiting)) l (x .waiting)) (sym at) (waiting-lent z logs (el .is) n refl)) in
-        ap₂ (λ (a c : ℕ). record { wrote = ltb 0 a; bytes = c }) m (g .is .to (waitingWords F) (x .waiting) y);
-  }
+pub log-in : (b : List ℕ) (F : Capacity) (k at logs : ℕ) → Inside b F → BlockAt F k at → Counted logs (logWords F) → LogIn b F k (record { from = 8 * (at + 64); to = 8 * (at + 64 + logs) })
+log-in b F k at logs i h e = record { from = omega (arith, h .is); to = omega (arith, e .is); ends = omega (arith, e .is, h .ends, i .long, room F) }
 
+module _ (b : List ℕ) (F : Capacity) (k : ℕ) (d : LogPlace) (i : k < F .servers) (p : LogIn b F k d) where
   -- the current log as it is lent
-  log-there : (s : State) → Area b s → F ≡ capacityOf s → Held (places (F .limits .payload)) (logWords F) (F .limits .«log_indexes») (lent (d .from) (d .from + 8 * logs) b) (logAt k s)
+  log-there : (s : State) → Area b s → F ≡ capacityOf s → Held (places (F .limits .payload)) (logWords F) (F .limits .«log_indexes») (lent (d .from) (d .to) b) (logAt k s)
   unfolding logAt
   log-there s h e =
-      let ln : d .from + 8 * logs - d .from ≡ 8 * logs - 0 = omega arith in
-      let o : d .from ≡ d .from + 0 = omega arith in
-      let at : lent (d .from) (d .from + 8 * logs) b ≡ lent 0 (8 * logs) (lent (d .from) (d .to) b) =
-      ap₂ (λ (j a : ℕ). take j (drop a b)) ln o ∙ sym (part-part b (d .from) (d .to - d .from) 0 (8 * logs - 0) (omega (arith, p .to, el .is))) in
-      subst (λ (l : List ℕ). Held (places (F .limits .payload)) (logWords F) (F .limits .«log_indexes») l (serverAt s k .storage .current .log)) (sym at) (current-lent (parts s (drop (bytesOf F) b) (area-of h e)) logs (el .is))
+      let a : ℕ = 8 * (512 + k * blockWords F) + 512 in
+      let n : ℕ = diskBytes (F .limits .payload) (F .limits .«log_indexes») (F .limits .writes) in
+      let ln : d .to - d .from ≡ 8 * logWords F - 0 = omega (arith, p .to) in
+      let la : d .from ≡ a + 0 = omega (arith, p .from) in
+      let en : a + n - a ≡ n = omega arith in
+      let at : lent (d .from) (d .to) b ≡ lent 0 (8 * logWords F) (diskContent F (serverAt s k .storage)) =
+      ap₂ (λ (j c : ℕ). take j (drop c b)) ln la ∙ sym (part-part b a n 0 (8 * logWords F - 0) (omega arith))
+      ∙ ap (lent 0 (8 * logWords F)) (ap (λ (j : ℕ). take j (drop a b)) (sym en) ∙ part-lent (server-cut (area-of h e) k i) 3 (omega arith) a (a + n) (omega arith) refl) in
+      subst (λ (l : List ℕ). Held (places (F .limits .payload)) (logWords F) (F .limits .«log_indexes») l (serverAt s k .storage .current .log)) (sym at)
+      (current-lent (server-at-held (area-of h e) k i .disk .parts) (logWords F) refl)
 
-  pub entry-read : (index : LogIndex) (r : Place) (z z′ : List ℕ) → ReadsEntry (F .limits .payload) (F .limits .«log_indexes») (index .0) r (lent (d .from) (d .from + 8 * logs) b) z z′ → ReadsEntryAt b F k index r z z′
+  pub entry-read : (index : LogIndex) (r : Place) (z z′ : List ℕ) → ReadsEntry (F .limits .payload) (F .limits .«log_indexes») (index .0) r (lent (d .from) (d .to) b) z z′ → ReadsEntryAt b F k index r z z′
   entry-read index r z z′ q = record {
     place = record { to = λ s h e. q .place (logWords F) (logAt k s) (log-there s h e) };
     copied = λ s h e. q .copied (logWords F) (logAt k s) (log-there s h e);
   }
 
-  pub numbers-read : (last : LogIndex) (n : ℕ) → last .0 ≡ lastIndex (rowsIn (place (F .limits .payload)) (F .limits .«log_indexes») (lent (d .from) (d .from + 8 * logs) b))
-      → n ≡ count (rowsIn (place (F .limits .payload)) (F .limits .«log_indexes») (lent (d .from) (d .from + 8 * logs) b))
+  pub numbers-read : (last : LogIndex) (n : ℕ) → last .0 ≡ lastIndex (rowsIn (place (F .limits .payload)) (F .limits .«log_indexes») (lent (d .from) (d .to) b))
+      → n ≡ count (rowsIn (place (F .limits .payload)) (F .limits .«log_indexes») (lent (d .from) (d .to) b))
       → Reads b F (record { count = n; last = last; gaps = last .0 - n }) (logNumbersAt k)
   unfolding logNumbersAt gaps
   numbers-read last n el en = record {

@@ -4,7 +4,7 @@ ghost use lib.ListN.{length};
 ghost use Rattle.units.specs.Types.{payloadOf};
 ghost use Rattle.storage.specs.Storage.{writeHardState, writePut, writeTruncate};
 ghost use Rattle.state.specs.Changes.{Inside, Changes, Reads};
-ghost use Rattle.state_disk.specs.Disks.{DiskIn, storageAt, StorageIn, StoresAt, Finishes, WritesAt, SyncsAt, unsyncedAt, crashedAt, ReadsEntryAt, logNumbersAt};
+ghost use Rattle.state_disk.specs.Disks.{DiskIn, storageAt, StorageIn, StoresAt, Finishes, WritesAt, SyncsAt, unsyncedAt, crashedAt, LogIn, ReadsEntryAt, logNumbersAt};
 use log::Place;
 use state::Capacity;
 use state::server;
@@ -20,6 +20,12 @@ use units::Term;
 // Where a server's storage lies, in bytes: its fixed part from `block` on, and its disk (both logs and the waiting writes) between the others.
 pub struct DiskPlace {
     pub block: usize,
+    pub from: usize,
+    pub to: usize,
+}
+
+// Where a server's log lies as written so far, in bytes.
+pub struct LogPlace {
     pub from: usize,
     pub to: usize,
 }
@@ -259,6 +265,20 @@ pub fn crash(area: &mut [u8], f: Capacity, k: usize)
 
 // ---- reads of the log
 
+// Where a server's log lies as written so far.
+fn log_in(area: &[u8], f: Capacity, k: usize) -> LogPlace
+    requires { ⌜ Inside (now area) f ⌝ }
+    requires { ⌜ k < f .servers ⌝ }
+    ensures { λ r. ⌜ LogIn (now (area .entry)) f k r ⌝ }
+{
+    let at = sizes::block_at(f, k);
+    let logs = sizes::log_words(f);
+    LogPlace {
+        from: 8 * (at + 64),
+        to: 8 * (at + 64 + logs),
+    }
+}
+
 // What stands at an index of a server's log; the bytes of a command go to the front of the buffer.
 pub fn read_entry(area: &[u8], f: Capacity, k: usize, index: LogIndex, buffer: &mut [u8]) -> Place
     requires { ⌜ Inside (now area) f ⌝ }
@@ -266,13 +286,12 @@ pub fn read_entry(area: &[u8], f: Capacity, k: usize, index: LogIndex, buffer: &
     requires { ⌜ f .limits .payload ≤ length (now buffer) ⌝ }
     ensures { λ r. ⌜ ReadsEntryAt (now (area .entry)) f k index r (now (buffer .entry)) (now (buffer .exit)) ⌝ }
 {
-    let d = disk_in(area, f, k);
+    let d = log_in(area, f, k);
     let limits = f.limits;
-    let logs = sizes::log_words(f);
     let places = limits.log_indexes as usize;
     let p = limits.payload as usize;
     let from = d.from;
-    let to = from + 8 * logs;
+    let to = d.to;
     log::read_entry(&area[from..to], places, p, index, buffer)
 }
 
@@ -282,13 +301,12 @@ pub fn log_numbers(area: &[u8], f: Capacity, k: usize) -> LogNumbers
     requires { ⌜ k < f .servers ⌝ }
     ensures { λ r. ⌜ Reads (now (area .entry)) f r (logNumbersAt k) ⌝ }
 {
-    let d = disk_in(area, f, k);
+    let d = log_in(area, f, k);
     let limits = f.limits;
-    let logs = sizes::log_words(f);
     let places = limits.log_indexes as usize;
     let p = limits.payload as usize;
     let from = d.from;
-    let to = from + 8 * logs;
+    let to = d.to;
     let last = log::last_index(&area[from..to], places, p);
     let count = log::count(&area[from..to], places, p);
     LogNumbers {

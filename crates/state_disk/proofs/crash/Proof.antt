@@ -1,4 +1,4 @@
--- Made by tools/uniform from proofs.txt, not by hand: 13f41b3e5151b386
+-- Made by tools/uniform from proofs.txt, not by hand: 96d044b9378813da
 use Rattle.state.specs.Exits.{inside-after}
 use Rattle.state_disk.specs.Laws.{crashed-at}
 use borrow.Author.Needs.{needs}
@@ -17,4 +17,4 @@ crash-spec =
     (λ c κs. search (crashed-at, inside-after, needs))  -- crash-requires
     (λ c κs. search (crashed-at, inside-after, needs))  -- store-storage-requires
     (λ c. search (crashed-at, inside-after, needs))  -- same-length
-    (λ c. search (crashed-at, inside-after, needs)))  -- returns
+    (λ c. crashed-at _ _ _ _ _ _ _ (c .before .before .before .before .before .before .before .before .before .before .before .before .before .before .pre .1) (c .before .before .before .before .before .before .before .before .before .before .before .disk-in .ensures) (c .before .before .before .before .before .before .before .before .before .storage-in .ensures) _ (c .before .before .before .before .before .before .crash .ensures) (c .before .before .store-storage .ensures)))  -- returns

@@ -1,4 +1,4 @@
--- Made by tools/uniform from proofs.txt, not by hand: e05c953e5e775f90
+-- Made by tools/uniform from proofs.txt, not by hand: ee93e3ecfe3bd6a8
 use Rattle.state_disk.specs.Laws.{disk-in}
 use borrow.Author.Needs.{needs}
 use Rattle.state_disk.proofs.disk_in.Statement.{statement}
@@ -20,4 +20,4 @@ disk-in-spec =
     (λ c. search (disk-in, needs))  -- add-t13
     (λ c. search (disk-in, needs))  -- mul-t14
     (λ c. search (disk-in, needs))  -- add-t15
-    (λ c. search (disk-in, needs)))  -- returns
+    (λ c. disk-in _ _ _ _ _ _ (c .before .before .before .before .pre .0) (c .before .before .block-at .ensures) (c .before .log-words .ensures) (c .waiting-words .ensures)))  -- returns

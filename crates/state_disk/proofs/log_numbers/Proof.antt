@@ -1,4 +1,4 @@
--- Made by tools/uniform from proofs.txt, not by hand: 6f3864d4a30d422e
+-- Made by tools/uniform from proofs.txt, not by hand: 6055ec2275019ad5
 use Rattle.log.specs.Laws.{gapped}
 use Rattle.state_disk.specs.Laws.{numbers-read}
 use borrow.Author.Needs.{needs}
@@ -9,10 +9,7 @@ pub log-numbers-spec : {M : Type 1} → statement M
 log-numbers-spec =
     tie.close
     (tie.spec
-    (λ c κs. search (numbers-read, gapped, needs))  -- disk-in-requires
-    (λ c κs. search (numbers-read, gapped, needs))  -- log-words-requires
-    (λ c. search (numbers-read, gapped, needs))  -- mul-to
-    (λ c. search (numbers-read, gapped, needs))  -- add-to
+    (λ c κs. search (numbers-read, gapped, needs))  -- log-in-requires
     (λ c. search (numbers-read, gapped, needs))  -- sub-last-index
     (λ c. search (numbers-read, gapped, needs))  -- part-last-index-start
     (λ c. search (numbers-read, gapped, needs))  -- part-last-index-end
@@ -21,5 +18,5 @@ log-numbers-spec =
     (λ c. search (numbers-read, gapped, needs))  -- part-count-start
     (λ c. search (numbers-read, gapped, needs))  -- part-count-end
     (λ c κs. search (numbers-read, gapped, needs))  -- count-requires
-    (λ c. search (numbers-read, gapped, needs))  -- sub-t20
-    (λ c. search (numbers-read, gapped, needs)))  -- returns
+    (λ c. search (numbers-read, gapped, needs))  -- sub-t19
+    (λ c. numbers-read _ _ _ _ (c .before .before .before .before .before .before .before .before .pre .1) (c .before .before .before .before .before .before .log-in .ensures) _ _ (c .before .before .before .last-index .ensures) (c .before .count .ensures)))  -- returns

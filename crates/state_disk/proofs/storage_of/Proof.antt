@@ -1,4 +1,4 @@
--- Made by tools/uniform from proofs.txt, not by hand: 1b48a71e53808e22
+-- Made by tools/uniform from proofs.txt, not by hand: 51a1b67f54b09c76
 use Rattle.state_disk.specs.Laws.{storage-read}
 use borrow.Author.Needs.{needs}
 use Rattle.state_disk.proofs.storage_of.Statement.{statement}
@@ -14,4 +14,4 @@ storage-of-spec =
     (λ c. search (storage-read, needs))  -- part-load-storage-state-start
     (λ c. search (storage-read, needs))  -- part-load-storage-state-end
     (λ c κs. search (storage-read, needs))  -- load-storage-state-requires
-    (λ c. search (storage-read, needs)))  -- returns
+    (λ c. storage-read _ _ _ _ (c .before .before .before .before .pre .1) (c .before .before .disk-in .ensures) _ (c .load-storage-state .ensures)))  -- returns

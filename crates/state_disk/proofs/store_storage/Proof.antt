@@ -1,4 +1,4 @@
--- Made by tools/uniform from proofs.txt, not by hand: 075001516cccf2ba
+-- Made by tools/uniform from proofs.txt, not by hand: eb5c66a6c4ae1fef
 use Rattle.state_disk.specs.Laws.{storage-stored}
 use borrow.Author.Needs.{needs}
 use Rattle.state_disk.proofs.store_storage.Statement.{statement}
@@ -15,4 +15,4 @@ store-storage-spec =
     (λ c. search (storage-stored, needs))  -- part-store-storage-state-end
     (λ c κs. search (storage-stored, needs))  -- store-storage-state-requires
     (λ c. search (storage-stored, needs))  -- same-length
-    (λ c. search (storage-stored, needs)))  -- returns
+    (λ c. storage-stored _ _ _ _ (c .before .before .before .before .before .before .before .pre .1) (c .before .before .before .before .disk-in .ensures) _ _ (c .before .before .store-storage-state .ensures)))  -- returns

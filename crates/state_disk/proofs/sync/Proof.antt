@@ -1,4 +1,4 @@
--- Made by tools/uniform from proofs.txt, not by hand: a65bc8c24f133c98
+-- Made by tools/uniform from proofs.txt, not by hand: f3eef75e36554f45
 use Rattle.state.specs.Exits.{inside-after}
 use Rattle.state_disk.specs.Laws.{synced-at}
 use borrow.Author.Needs.{needs}
@@ -17,4 +17,4 @@ sync-spec =
     (λ c κs. search (synced-at, inside-after, needs))  -- sync-requires
     (λ c κs. search (synced-at, inside-after, needs))  -- store-storage-requires
     (λ c. search (synced-at, inside-after, needs))  -- same-length
-    (λ c. search (synced-at, inside-after, needs)))  -- returns
+    (λ c. synced-at _ _ _ _ _ _ _ (c .before .before .before .before .before .before .before .before .before .before .before .before .before .before .before .pre .1) (c .before .before .before .before .before .before .before .before .before .before .before .before .disk-in .ensures) (c .before .before .before .before .before .before .before .before .before .before .storage-in .ensures) _ (c .before .before .before .before .before .before .before .sync .ensures) (c .before .before .store-storage .ensures)))  -- returns

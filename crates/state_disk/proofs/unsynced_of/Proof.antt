@@ -1,4 +1,4 @@
--- Made by tools/uniform from proofs.txt, not by hand: 6987e957503fbe35
+-- Made by tools/uniform from proofs.txt, not by hand: 71506b653c4e963b
 use Rattle.state_disk.specs.Laws.{waiting-room, unsynced-read}
 use borrow.Author.Needs.{needs}
 use Rattle.state_disk.proofs.unsynced_of.Statement.{statement}
@@ -17,4 +17,4 @@ unsynced-of-spec =
     (λ c. search (waiting-room, unsynced-read, needs))  -- part-unsynced-bytes-start
     (λ c. search (waiting-room, unsynced-read, needs))  -- part-unsynced-bytes-end
     (λ c κs. search (waiting-room, unsynced-read, needs))  -- unsynced-bytes-requires
-    (λ c. search (waiting-room, unsynced-read, needs)))  -- returns
+    (λ c. unsynced-read _ _ _ _ _ _ _ (c .before .before .before .before .before .before .before .before .pre .1) (c .before .before .before .before .before .before .disk-in .ensures) (c .before .before .before .log-words .ensures) (c .before .before .before .before .before .storage-in .ensures) (c .unsynced-bytes .ensures)))  -- returns

@@ -1,4 +1,4 @@
--- Made by tools/uniform from proofs.txt, not by hand: 784c45a1471adedb
+-- Made by tools/uniform from proofs.txt, not by hand: 96effd82a9835d39
 use Rattle.state.specs.Exits.{inside-after}
 use Rattle.state_disk.specs.Laws.{hard-state-written}
 use borrow.Author.Needs.{needs}
@@ -17,4 +17,4 @@ write-hard-state-spec =
     (λ c κs. search (hard-state-written, inside-after, needs))  -- set-hard-state-requires
     (λ c κs. search (hard-state-written, inside-after, needs))  -- finish-requires
     (λ c. search (hard-state-written, inside-after, needs))  -- same-length
-    (λ c. search (hard-state-written, inside-after, needs)))  -- returns
+    (λ c. hard-state-written _ _ _ _ _ _ _ _ _ (c .before .before .before .before .before .before .before .before .before .before .before .before .before .before .pre .1) _ (c .before .before .before .before .before .before .before .before .before .before .before .disk-in .ensures) (c .before .before .before .before .before .before .before .before .before .storage-of .ensures) (c .before .before .before .before .before .before .set-hard-state .ensures) (c .before .before .finish .ensures)))  -- returns

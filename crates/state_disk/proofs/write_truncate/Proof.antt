@@ -1,4 +1,4 @@
--- Made by tools/uniform from proofs.txt, not by hand: 56c249b46ea948f4
+-- Made by tools/uniform from proofs.txt, not by hand: 315a3b12796e54e0
 use Rattle.state.specs.Exits.{inside-after}
 use Rattle.state_disk.specs.Laws.{truncate-written}
 use borrow.Author.Needs.{needs}
@@ -17,4 +17,4 @@ write-truncate-spec =
     (λ c κs. search (truncate-written, inside-after, needs))  -- truncate-requires
     (λ c κs. search (truncate-written, inside-after, needs))  -- finish-requires
     (λ c. search (truncate-written, inside-after, needs))  -- same-length
-    (λ c. search (truncate-written, inside-after, needs)))  -- returns
+    (λ c. truncate-written _ _ _ _ _ _ _ _ _ (c .before .before .before .before .before .before .before .before .before .before .before .before .before .before .pre .1) _ (c .before .before .before .before .before .before .before .before .before .before .before .disk-in .ensures) (c .before .before .before .before .before .before .before .before .before .storage-of .ensures) (c .before .before .before .before .before .before .truncate .ensures) (c .before .before .finish .ensures)))  -- returns

@@ -1,4 +1,4 @@
--- Made by tools/uniform from proofs.txt, not by hand: c182050b06121764
+-- Made by tools/uniform from proofs.txt, not by hand: 1e900f213c2832df
 use Rattle.state_server.specs.Laws.{after-none, after-some}
 use borrow.Author.Needs.{needs}
 use Rattle.state_server.proofs.after_server.Statement.{statement}
@@ -13,4 +13,4 @@ after-server-spec =
     (λ c. search (after-none, after-some, needs))  -- add-t8
     (λ c κs. search (after-none, after-some, needs))  -- better-requires
     (λ c. search (after-none, after-some, needs))  -- returns
-    (λ c. search (after-none, after-some, needs)))  -- returns-2
+    (λ c. after-some _ _ _ _ _ (search needs) (c .better .ensures)))  -- returns-2

@@ -1,4 +1,4 @@
--- Made by tools/uniform from proofs.txt, not by hand: 290c26b92e2526f4
+-- Made by tools/uniform from proofs.txt, not by hand: 9d5242c2a32c616c
 use Rattle.state_server.specs.Laws.{cleared-done}
 use borrow.Author.Needs.{needs}
 use Rattle.state_server.proofs.clear_pending.Statement.{statement}
@@ -19,4 +19,4 @@ clear-pending-spec =
     (λ c κs. search (cleared-done, needs))  -- fill-zero-requires
     (λ c κs. search (cleared-done, needs))  -- store-count-requires
     (λ c. search (cleared-done, needs))  -- same-length
-    (λ c. search (cleared-done, needs)))  -- returns
+    (λ c. cleared-done _ _ _ _ _ _ (c .before .before .before .before .before .before .before .before .before .before .before .before .before .before .pre .1) (c .before .before .before .before .before .before .before .before .before .before .before .pending-count .ensures) (c .before .before .before .before .before .before .before .before .pending-in .ensures) _ (c .before .before .before .before .before .before .fill-zero .ensures) (c .before .before .store-count .ensures)))  -- returns

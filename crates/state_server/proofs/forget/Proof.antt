@@ -1,4 +1,4 @@
--- Made by tools/uniform from proofs.txt, not by hand: 2e384cfa1fae909d
+-- Made by tools/uniform from proofs.txt, not by hand: 9c9750d02f8ed090
 use Rattle.state_server.specs.Laws.{forgotten-done}
 use borrow.Author.Needs.{needs}
 use Rattle.state_server.proofs.forget.Statement.{statement}
@@ -18,4 +18,4 @@ forget-spec =
     (λ c κs. search (forgotten-done, needs))  -- remove-requires
     (λ c κs. search (forgotten-done, needs))  -- store-count-requires
     (λ c. search (forgotten-done, needs))  -- same-length
-    (λ c. search (forgotten-done, needs)))  -- returns
+    (λ c. forgotten-done _ _ _ _ _ _ (c .before .before .before .before .before .before .before .before .before .before .before .before .before .before .pre .1) (c .before .before .before .before .before .before .before .before .before .before .before .pending-count .ensures) (c .before .before .before .before .before .before .before .before .pending-in .ensures) _ _ _ (c .before .before .before .before .before .before .remove .ensures) (c .before .before .store-count .ensures)))  -- returns

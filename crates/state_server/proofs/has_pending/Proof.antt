@@ -1,4 +1,4 @@
--- Made by tools/uniform from proofs.txt, not by hand: 9bd0fa36d661b5c5
+-- Made by tools/uniform from proofs.txt, not by hand: c5838fd3d24c7cbd
 use Rattle.state_server.specs.Laws.{has-read}
 use borrow.Author.Needs.{needs}
 use Rattle.state_server.proofs.has_pending.Statement.{statement}
@@ -16,4 +16,4 @@ has-pending-spec =
     (λ c. search (has-read, needs))  -- part-contains-start
     (λ c. search (has-read, needs))  -- part-contains-end
     (λ c κs. search (has-read, needs))  -- contains-requires
-    (λ c. search (has-read, needs)))  -- returns
+    (λ c. has-read _ _ _ _ _ (c .before .before .before .before .before .before .pre .1) (c .before .before .before .before .pending-count .ensures) (c .before .before .pending-in .ensures) _ _ (c .contains .ensures)))  -- returns

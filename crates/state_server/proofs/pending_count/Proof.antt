@@ -1,4 +1,4 @@
--- Made by tools/uniform from proofs.txt, not by hand: 63389108f326d40b
+-- Made by tools/uniform from proofs.txt, not by hand: ae979e00dd8cf67f
 use Rattle.state_server.specs.Laws.{count-read, count-past}
 use borrow.Author.Needs.{needs}
 use Rattle.state_server.proofs.pending_count.Statement.{statement}
@@ -17,5 +17,5 @@ pending-count-spec =
     (λ c. search (count-read, count-past, needs))  -- part-load-start
     (λ c. search (count-read, count-past, needs))  -- part-load-end
     (λ c κs. search (count-read, count-past, needs))  -- load-requires
-    (λ c. search (count-read, count-past, needs))  -- returns
-    (λ c. search (count-read, count-past, needs)))  -- returns-2
+    (λ c. count-past _ _ _ _ (c .before .before .before .before .before .before .before .pre .1) (c .before .before .before .before .before .block-in .ensures) _ (c .before .before .load .ensures) (search needs))  -- returns
+    (λ c. count-read _ _ _ _ (c .before .before .before .before .before .before .before .pre .1) (c .before .before .before .before .before .block-in .ensures) _ (c .before .before .load .ensures) (search needs)))  -- returns-2

@@ -1,4 +1,4 @@
--- Made by tools/uniform from proofs.txt, not by hand: 5e01d20c3fc4fe65
+-- Made by tools/uniform from proofs.txt, not by hand: cda63fdf0510c5f3
 use Rattle.state_server.specs.Laws.{pending-in}
 use borrow.Author.Needs.{needs}
 use Rattle.state_server.proofs.pending_in.Statement.{statement}
@@ -14,4 +14,4 @@ pending-in-spec =
     (λ c. search (pending-in, needs))  -- mul-result
     (λ c. search (pending-in, needs))  -- sub-result
     (λ c. search (pending-in, needs))  -- mul-result-2
-    (λ c. search (pending-in, needs)))  -- returns
+    (λ c. pending-in _ _ _ _ (c .before .before .before .before .pre .0) (c .before .before .block-at .ensures) _ (c .before .block-words .ensures)))  -- returns

@@ -1,4 +1,4 @@
--- Made by tools/uniform from proofs.txt, not by hand: 560d8087efd760d0
+-- Made by tools/uniform from proofs.txt, not by hand: 19448dd5a15fb455
 use Rattle.state_server.specs.Laws.{room-read}
 use borrow.Author.Needs.{needs}
 use Rattle.state_server.proofs.pending_room.Statement.{statement}
@@ -10,4 +10,4 @@ pending-room-spec =
     (tie.spec
     (λ c κs. search (room-read, needs))  -- pending-count-requires
     (λ c κs. search (room-read, needs))  -- has-pending-requires
-    (λ c. search (room-read, needs)))  -- returns
+    (λ c. room-read _ _ _ _ _ _ (c .before .before .pending-count .ensures) (c .has-pending .ensures)))  -- returns

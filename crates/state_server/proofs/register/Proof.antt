@@ -1,4 +1,4 @@
--- Made by tools/uniform from proofs.txt, not by hand: e1bc47b10bb42fcc
+-- Made by tools/uniform from proofs.txt, not by hand: 89d760dd4558a74a
 use Rattle.state_server.specs.Laws.{registered-done, registered-full}
 use borrow.Author.Needs.{needs}
 use Rattle.state_server.proofs.register.Statement.{statement}
@@ -20,6 +20,6 @@ register-spec =
     (λ c κs. search (registered-done, registered-full, needs))  -- store-count-requires
     (λ c. search (registered-done, registered-full, needs))  -- enum-told
     (λ c. search (registered-done, registered-full, needs))  -- same-length
-    (λ c. search (registered-done, registered-full, needs))  -- returns
+    (λ c. registered-done _ _ _ _ _ _ (c .before .before .before .before .before .before .before .before .before .before .before .before .before .before .before .before .before .pre .1) (c .before .before .before .before .before .before .before .before .before .before .before .before .before .before .pending-count .ensures) (c .before .before .before .before .before .before .before .before .before .before .before .pending-in .ensures) _ _ (c .before .before .before .before .before .before .before .before .before .insert .ensures) _ _ (c .before .before .before .before .before .m .given .1) (c .before .before .store-count .ensures))  -- returns
     (λ c. search (registered-done, registered-full, needs))  -- same-length-2
-    (λ c. search (registered-done, registered-full, needs)))  -- returns-2
+    (λ c. registered-full _ _ _ _ _ _ (c .before .before .before .before .before .before .before .before .before .before .before .before .pre .1) (c .before .before .before .before .before .before .before .before .before .pending-count .ensures) (c .before .before .before .before .before .before .pending-in .ensures) _ _ (c .before .before .before .before .insert .ensures) (search needs)))  -- returns-2

@@ -1,4 +1,4 @@
--- Made by tools/uniform from proofs.txt, not by hand: bce0cb0be7b365cd
+-- Made by tools/uniform from proofs.txt, not by hand: 0658a82dff94a6d3
 use Rattle.state_server.specs.Laws.{state-read}
 use borrow.Author.Needs.{needs}
 use Rattle.state_server.proofs.server_of.Statement.{statement}
@@ -17,4 +17,4 @@ server-of-spec =
     (λ c. search (state-read, needs))  -- part-load-server-state-start
     (λ c. search (state-read, needs))  -- part-load-server-state-end
     (λ c κs. search (state-read, needs))  -- load-server-state-requires
-    (λ c. search (state-read, needs)))  -- returns
+    (λ c. state-read _ _ _ _ (c .before .before .before .before .pre .1) (c .before .before .block-in .ensures) _ (c .load-server-state .ensures)))  -- returns

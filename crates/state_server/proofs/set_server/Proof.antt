@@ -1,4 +1,4 @@
--- Made by tools/uniform from proofs.txt, not by hand: fcf3a0e3b3e65f48
+-- Made by tools/uniform from proofs.txt, not by hand: ef2421565ee532c8
 use Rattle.state_server.specs.Laws.{state-put}
 use borrow.Author.Needs.{needs}
 use Rattle.state_server.proofs.set_server.Statement.{statement}
@@ -18,4 +18,4 @@ set-server-spec =
     (λ c. search (state-put, needs))  -- part-store-state-end
     (λ c κs. search (state-put, needs))  -- store-state-requires
     (λ c. search (state-put, needs))  -- same-length
-    (λ c. search (state-put, needs)))  -- returns
+    (λ c. state-put _ _ _ _ _ (c .before .before .before .before .before .before .before .pre .1) (c .before .before .before .before .block-in .ensures) _ (c .before .before .store-state .ensures)))  -- returns

@@ -1,4 +1,4 @@
--- Made by tools/uniform from proofs.txt, not by hand: 9b3a412a1af4add0
+-- Made by tools/uniform from proofs.txt, not by hand: 4c997c516d4cf680
 use Rattle.state_server.specs.Laws.{status-read}
 use borrow.Author.Needs.{needs}
 use Rattle.state_server.proofs.status_of.Statement.{statement}
@@ -17,4 +17,4 @@ status-of-spec =
     (λ c. search (status-read, needs))  -- part-load-status-start
     (λ c. search (status-read, needs))  -- part-load-status-end
     (λ c κs. search (status-read, needs))  -- load-status-requires
-    (λ c. search (status-read, needs)))  -- returns
+    (λ c. status-read _ _ _ _ (c .before .before .before .before .pre .1) (c .before .before .block-in .ensures) _ (c .load-status .ensures)))  -- returns

@@ -1,4 +1,4 @@
--- Made by tools/uniform from proofs.txt, not by hand: f052b930a2348601
+-- Made by tools/uniform from proofs.txt, not by hand: b91f8086b5678743
 use Rattle.state_server.specs.Laws.{count-stored}
 use borrow.Author.Needs.{needs}
 use Rattle.state_server.proofs.store_count.Statement.{statement}
@@ -18,4 +18,4 @@ store-count-spec =
     (λ c. search (count-stored, needs))  -- part-store-end
     (λ c κs. search (count-stored, needs))  -- store-requires
     (λ c. search (count-stored, needs))  -- same-length
-    (λ c. search (count-stored, needs)))  -- returns
+    (λ c. count-stored _ _ _ _ _ (c .before .before .before .before .before .before .before .pre .1) (c .before .before .before .before .block-in .ensures) _ (c .before .before .store .ensures)))  -- returns

@@ -1,4 +1,4 @@
--- Made by tools/uniform from proofs.txt, not by hand: ac10e8a7c26a965f
+-- Made by tools/uniform from proofs.txt, not by hand: 6026d99db4e1c308
 use Rattle.state_server.specs.Laws.{state-stored}
 use borrow.Author.Needs.{needs}
 use Rattle.state_server.proofs.store_state.Statement.{statement}
@@ -20,4 +20,4 @@ store-state-spec =
     (λ c. search (state-stored, needs))  -- slice-aggregate-store-all-2
     (λ c κs. search (state-stored, needs))  -- store-all-requires-2
     (λ c. search (state-stored, needs))  -- same-length
-    (λ c. search (state-stored, needs)))  -- returns
+    (λ c. state-stored _ _ _ _ _ _ _ _ (c .before .before .before .before .before .before .before .before .before .before .before .before .before .before .before .before .flag-number .ensures) (c .before .before .before .before .before .before .before .before .before .before .before .before .before .before .store-status .ensures) (c .before .before .before .before .before .before .before .before .before .store-all .ensures) (c .before .before .before .before .before .term-flag .ensures) (c .before .before .before .before .term-number .ensures) (c .before .before .store-all2 .ensures)))  -- returns
