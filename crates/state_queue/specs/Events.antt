@@ -65,7 +65,7 @@ unfoldable pub pushed : Scheduled → State → State
 pushed e s = withQueue s (push (s .queue) (e .time) (e .event) (e .message))
 
 -- An event that delivers no message.
-abbrev pub plain : SimTime → Event → Scheduled
+unfoldable pub plain : SimTime → Event → Scheduled
 plain time event = record { time = time; event = event; message = [] }
 
 -- The state with several events more, one after another.

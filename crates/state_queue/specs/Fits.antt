@@ -158,7 +158,7 @@ room-pushed-all (e ∷ es) s n =
 -- an event that delivers no message
 pub plain-range : (s : State) (time : SimTime) (event : Event)
     → eventInRange s (plain time event) ≡ (word (time .0) and eventFits (s .config .servers) (s .config .clients) (s .limits .«log_indexes») event)
-unfolding eventInRange
+unfolding eventInRange plain
 plain-range s time event =
     let m : messageFits (s .limits .message) event [] ≡ true =
     and-both _ _ refl (and-both _ _ (le-leb 0 (messageRoom (s .limits .message) event) (omega arith)) refl) in

@@ -12,6 +12,7 @@ use borrow.Author.Tests.{leb-true, leb-false, le-leb, lt-leb}
 use Rattle.laws.specs.Bools.{_and_, and-left, and-right, cases, every, pick-both}
 use Rattle.laws.specs.Order.{numbers}
 use Rattle.laws.specs.OrderLaws.{length-push}
+use Rattle.units.specs.declared.SimTime.{SimTime}
 use Rattle.words.specs.Words.{W, bytes, bytesOf as bytesOfNumber}
 use Rattle.layout.specs.Tables.{Holds, Table, Held}
 use Rattle.layout.specs.Contents.{holds-W}
@@ -40,7 +41,7 @@ use Rattle.state.specs.Changes.{Inside, AreaOf, Changes, Reads}
 use Rattle.state.specs.Tables.{Spans, queue-span, table-lent, table-put}
 use Rattle.state_queue.specs.declared.NextEvent.{NextEvent}
 use Rattle.state_queue.specs.declared.NextEvent.the-variants.{None, Some}
-use Rattle.state_queue.specs.Events.{queueLength, queueRoom, eventInRange, firstOf, nextEvent, CopiesMessage, FirstInRange, dequeued, pushed}
+use Rattle.state_queue.specs.Events.{queueLength, queueRoom, eventInRange, firstOf, nextEvent, CopiesMessage, FirstInRange, dequeued, pushed, plain}
 use Rattle.state_queue.specs.Fits.{fits-push, rest-most}
 
 -- ---- the count
@@ -208,6 +209,12 @@ module _ (b : List ℕ) (F : Capacity) (at w : ℕ) where
           subst (λ (l : List ℕ). AreaOf l r F (dequeued s)) (sym eb)
           (queue-put s (dequeued s) r ys (n - 1) h refl (ap₂ (λ (y : List ℕ) (m : ℕ). set (set (contents s) 10 y) 6 (bytes (set (countsWords (countsOf s)) 0 m))) (held .holds .is) ev) t);
     }
+
+-- an event that delivers no message
+pub plain-put : (b b′ : List ℕ) (F : Capacity) (time : SimTime) (event : Event) → Changes b b′ F (pushed (record { time = time; event = event; message = [] }))
+    → Changes b b′ F (pushed (plain time event))
+unfolding plain
+plain-put b b′ F time event p = p
 
 -- ---- what is known of the first event
 

@@ -60,14 +60,14 @@ pushed-more {b} {b₁} {b₂} {F} es e p q = record {
 
 -- the first events of the clients
 pub first-sends-are : (n c : ℕ) (s : State) → firstSends s c n ≡ pushedAll (sendEvents (s .now) c n) s
-unfolding firstSends pushedAll sendEvents listFrom pushed
+unfolding firstSends pushedAll sendEvents listFrom pushed plain
 first-sends-are zero c s = refl
 first-sends-are (suc n) c s = first-sends-are n (suc c) (pushed (plain (s .now) (event.ClientSend c)) s)
 
 -- the starts of the servers
 pub spread-starts-are : (n spread slot : ℕ) (g : Rng) (s : State)
     → spreadStarts s spread slot n g ≡ pushedAll (startEvents spread slot n g) s
-unfolding spreadStarts pushedAll startEvents pushed
+unfolding spreadStarts pushedAll startEvents pushed plain
 spread-starts-are zero spread slot g s = refl
 spread-starts-are (suc n) spread slot g s =
     spread-starts-are n spread (suc slot) (under g spread .next) (pushed (plain (record { 0 = under g spread .value }) (event.Start slot)) s)

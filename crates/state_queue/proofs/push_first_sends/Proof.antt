@@ -1,4 +1,4 @@
--- Made by tools/uniform from proofs.txt, not by hand: 04dd72e7c422b014
+-- Made by tools/uniform from proofs.txt, not by hand: 9c55993989acda9a
 use Prim.Native.Nat.{_-_}
 use Rattle.state_queue.specs.Events.{Sending}
 use Rattle.state_queue.specs.Sends.{sending-start, sending-turn, sending-done}
@@ -18,11 +18,11 @@ push-first-sends-spec =
     (tie.spec
     Inv-loop
     μ-loop
-    (λ c κs. search (sending-start, sending-turn, sending-done, needs))  -- run-of-requires
-    (λ c. search (sending-start, sending-turn, sending-done, needs))  -- loop-holds
-    (λ c κs. search (sending-start, sending-turn, sending-done, needs))  -- push-plain-requires
-    (λ c. search (sending-start, sending-turn, sending-done, needs))  -- add-c
-    (λ c. search (sending-start, sending-turn, sending-done, needs))  -- loop-less
-    (λ c. search (sending-start, sending-turn, sending-done, needs))  -- loop-again
-    (λ c. search (sending-start, sending-turn, sending-done, needs))  -- same-length
-    (λ c. search (sending-start, sending-turn, sending-done, needs)))  -- returns
+    (λ c κs. search needs)  -- run-of-requires
+    (λ c. sending-start _ _ _ (c .before .before .before .before .pre) (c .before .run-of .ensures))  -- loop-holds
+    (λ c κs. search needs)  -- push-plain-requires
+    (λ c. search needs)  -- add-c
+    (λ c. search needs)  -- loop-less
+    (λ c. let k = c .before .before .before .before in sending-turn _ _ _ _ _ (k .before .before .loop .inv) _ (k .if1 .taken) (search needs) (c .before .before .push-plain .ensures))  -- loop-again
+    (λ c. search needs)  -- same-length
+    (λ c. sending-done _ _ _ _ _ (c .before .before .loop .inv) (c .if1 .left)))  -- returns

@@ -1,4 +1,4 @@
--- Made by tools/uniform from proofs.txt, not by hand: c09a9d68deea2ff1
+-- Made by tools/uniform from proofs.txt, not by hand: ec6b5fcdc03cf98f
 use Prim.Native.Nat.{_-_}
 use Rattle.state_queue.specs.Events.{Starting}
 use Rattle.state_queue.specs.Sends.{starting-start, starting-turn, starting-done}
@@ -18,11 +18,11 @@ push-spread-starts-spec =
     (tie.spec
     Inv-loop
     μ-loop
-    (λ c. search (starting-start, starting-turn, starting-done, needs))  -- loop-holds
-    (λ c κs. search (starting-start, starting-turn, starting-done, needs))  -- drawn-under-requires
-    (λ c κs. search (starting-start, starting-turn, starting-done, needs))  -- push-plain-requires
-    (λ c. search (starting-start, starting-turn, starting-done, needs))  -- add-slot
-    (λ c. search (starting-start, starting-turn, starting-done, needs))  -- loop-less
-    (λ c. search (starting-start, starting-turn, starting-done, needs))  -- loop-again
-    (λ c. search (starting-start, starting-turn, starting-done, needs))  -- same-length
-    (λ c. search (starting-start, starting-turn, starting-done, needs)))  -- returns
+    (λ c. starting-start _ _ _ _ (c .before .pre .0))  -- loop-holds
+    (λ c κs. search needs)  -- drawn-under-requires
+    (λ c κs. search needs)  -- push-plain-requires
+    (λ c. search needs)  -- add-slot
+    (λ c. search needs)  -- loop-less
+    (λ c. let k = c .before .before .before .before .before in starting-turn _ _ _ _ _ _ _ (k .before .before .before .loop .inv) _ _ (k .before .if1 .taken) (search needs) (k .drawn-under .ensures .0) (c .before .before .before .push-plain .ensures))  -- loop-again
+    (λ c. search needs)  -- same-length
+    (λ c. starting-done _ _ _ _ _ _ _ (c .before .before .loop .inv) (c .if1 .left)))  -- returns

@@ -1,4 +1,4 @@
--- Made by tools/uniform from proofs.txt, not by hand: 26b8836cbc8d02f1
+-- Made by tools/uniform from proofs.txt, not by hand: cb75b0e2808de1f0
 use Prim.Native.Nat.{_-_}
 use Rattle.state_records.specs.Records.{Adding}
 use Rattle.state_records.specs.DiscardedLaws.{adding-start, adding-turn, adding-past, adding-done}
@@ -18,12 +18,12 @@ discarded-of-spec =
     (tie.spec
     Inv-loop
     μ-loop
-    (λ c. search (adding-start, adding-turn, adding-past, adding-done, needs))  -- loop-holds
-    (λ c κs. search (adding-start, adding-turn, adding-past, adding-done, needs))  -- discarded-by-requires
-    (λ c. search (adding-start, adding-turn, adding-past, adding-done, needs))  -- sub-if1
-    (λ c. search (adding-start, adding-turn, adding-past, adding-done, needs))  -- returns
-    (λ c. search (adding-start, adding-turn, adding-past, adding-done, needs))  -- add-value
-    (λ c. search (adding-start, adding-turn, adding-past, adding-done, needs))  -- add-k
-    (λ c. search (adding-start, adding-turn, adding-past, adding-done, needs))  -- loop-less
-    (λ c. search (adding-start, adding-turn, adding-past, adding-done, needs))  -- loop-again
-    (λ c. search (adding-start, adding-turn, adding-past, adding-done, needs)))  -- returns-2
+    (λ c. adding-start _ _)  -- loop-holds
+    (λ c κs. search needs)  -- discarded-by-requires
+    (λ c. search needs)  -- sub-if1
+    (λ c. let k = c .before .before .before in adding-past _ _ _ _ (k .loop .inv) _ (c .before .before .loop-test .taken) (c .before .discarded-by .ensures) (c .if1 .taken))  -- returns
+    (λ c. search needs)  -- add-value
+    (λ c. search needs)  -- add-k
+    (λ c. search needs)  -- loop-less
+    (λ c. let k = c .before .before .before in adding-turn _ _ _ _ (k .loop .inv) _ (c .before .before .loop-test .taken) (c .before .discarded-by .ensures) (c .if1 .left))  -- loop-again
+    (λ c. adding-done _ _ _ _ (c .before .loop .inv) (c .loop-test .left)))  -- returns-2

@@ -1,4 +1,4 @@
--- Made by tools/uniform from proofs.txt, not by hand: 6e4703eed8fdd5b7
+-- Made by tools/uniform from proofs.txt, not by hand: 0f05056cfb0cfc1c
 use Rattle.state_records.specs.ReadRows.{row-none, row-read}
 use borrow.Author.Needs.{needs}
 use Rattle.state_records.proofs.read_row.Statement.{statement}
@@ -8,9 +8,9 @@ pub read-row-spec : {M : Type 1} → statement M
 read-row-spec =
     tie.close
     (tie.spec
-    (λ c κs. search (row-none, row-read, needs))  -- load-requires
-    (λ c. search (row-none, row-read, needs))  -- add-if1
-    (λ c. search (row-none, row-read, needs))  -- returns
-    (λ c κs. search (row-none, row-read, needs))  -- read-payload-requires
-    (λ c. search (row-none, row-read, needs))  -- same-length
-    (λ c. search (row-none, row-read, needs)))  -- returns-2
+    (λ c κs. search needs)  -- load-requires
+    (λ c. search needs)  -- add-if1
+    (λ c. row-none _ _ _ _ (c .before .load .ensures) (c .if1 .taken))  -- returns
+    (λ c κs. search needs)  -- read-payload-requires
+    (λ c. search needs)  -- same-length
+    (λ c. row-read _ _ _ _ _ (c .before .before .read-payload .ensures)))  -- returns-2
