@@ -39,10 +39,11 @@ use Rattle.state_checks.specs.Acts.{ActsStatus, mismatchReported, missin
 -- ---- a payload applied
 
 module _ (r : ApplyAsked) (time : SimTime) (server : NodeId) (index : LogIndex) (x : Payload) (expected : ℕ) where
-  -- The state after the first report, and after both.
+  -- The state after the first report.
   abbrev ordered : State → State
   ordered s = reportedIf (r .late) time ApplyOrder (server .0 ∷ index .0 ∷ expected ∷ []) s
 
+  -- The state after both.
   abbrev compared : State → State
   compared s = reportedIf (r .other) time StateMachineSafety (server .0 ∷ index .0 ∷ []) (ordered s)
 
@@ -77,16 +78,19 @@ module _ (r : ApplyAsked) (time : SimTime) (server : NodeId) (index : LogIndex) 
 -- ---- a status
 
 module _ (r : StatusAsked) (time : SimTime) (server : NodeId) (status : Status) where
-  -- The numbers of the two reports, and the state after the first, and with the leader.
+  -- The numbers of the first report's text.
   abbrev first : List ℕ
   first = r .first ∷ server .0 ∷ status .term .0 ∷ []
 
+  -- Those of the second's.
   abbrev lacking : List ℕ
   lacking = server .0 ∷ status .term .0 ∷ r .missing ∷ []
 
+  -- The state after the first report.
   abbrev elected : State → State
   elected s = reportedIf (r .other) time ElectionSafety first s
 
+  -- The state with the leader added.
   abbrev seated : State → State
   seated s = ledIf (r .fresh) (status .term) server (elected s)
 

@@ -147,6 +147,7 @@ module _ (b : List ℕ) (F : Capacity) (due : Bool) (index : LogIndex) (term : T
 
   module _ (d : not due ≡ false) where
     module _ (x : Payload) where
+      -- The entry.
       abbrev e : Seen
       e = record { index = index; term = term; payload = x }
 

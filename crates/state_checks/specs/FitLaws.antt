@@ -82,9 +82,11 @@ reportFits time check numbers c =
 
 module _ (s : State) (time : SimTime) (check : Check) (numbers : List ℕ)
     (h : tableFits violations maxRecorded (s .checker .violations) ≡ true) (k : word (s .checker .total) ≡ true) where
+  -- The violations that are kept.
   abbrev kept : List Violation
   kept = s .checker .violations
 
+  -- The violation that is reported.
   abbrev one : Violation
   one = record { time = time; check = check; detail = numbers }
 
@@ -100,6 +102,7 @@ module _ (s : State) (time : SimTime) (check : Check) (numbers : List ℕ)
           (λ l. le-leb (length (kept ++ one ∷ [])) maxRecorded (omega (arith, length-append kept (one ∷ []))))
           ∙ ap (λ (u : Bool). u and violationRow .good one) e ∙ true-and _
 
+  -- the tests after a report
   tests : checkerTests s (report (s .checker) time check numbers)
       ≡ set (set (checkerTests s (s .checker)) 3 (pick (ltb (length kept) maxRecorded) (violationRow .good one) true)) 4
       (word (s .checker .total + 1))

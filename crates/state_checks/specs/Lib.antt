@@ -8,3 +8,4 @@ pub mod EntryLaws
 pub mod LogLaws
 pub mod Acts
 pub mod ActLaws
+pub mod LoopLaws

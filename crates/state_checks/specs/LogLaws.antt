@@ -59,9 +59,11 @@ region-lent : (ns b : List ℕ) (i at w : ℕ) → i < length ns → 8 * at ≡ 
 region-lent ns b i at w k ea ew = lent-is at w b ∙ ap₂ (λ (n m : ℕ). take n (drop m b)) ew ea ∙ region ns b i k
 
 module _ {b : List ℕ} {s : State} (h : Area b s) (k : ℕ) (i : k < s .config .servers) where
+  -- The state's counts.
   abbrev F : Capacity
   F = capacityOf s
 
+  -- The words of a server's block.
   abbrev Z : ℕ
   Z = blockWords F
 

@@ -31,7 +31,7 @@ use units::Term;
 
 pub mod acts; // each check acted on
 
-// Word j of the counts of rows.
+// Word j of the counts of rows, which is the area's word 83 + j.
 fn count_of(area: &[u8], f: Capacity, j: usize) -> u64
     requires { ⌜ Inside (now area) f ⌝ }
     requires { ⌜ j < 8 ⌝ }
@@ -40,7 +40,7 @@ fn count_of(area: &[u8], f: Capacity, j: usize) -> u64
     words::load(&area[664..728], j)
 }
 
-// Counts a violation that is due, and keeps it while fewer than 32 are kept.
+// Counts a violation that is due, and keeps it while fewer than 32 are kept. Nothing is written where the total has no 64 bits.
 pub fn keep(area: &mut [u8], f: Capacity, due: bool, time: SimTime, check: Check, detail: Detail)
     requires { ⌜ Inside (now area) f ⌝ }
     ensures { λ _. ⌜ Changes (now (area .entry)) (now (area .exit)) f (reportedIf due time check (detailOf detail)) ⌝ }
