@@ -110,10 +110,11 @@ module _ (b : List ℕ) (F : Capacity) where
 
 -- ---- the queue as it is lent
 
--- The table of a state's queue, and the bytes of it with the events q.
+-- The table of a state's queue.
 abbrev tableOf : State → Table Scheduled
 tableOf s = events (s .config .servers) (s .config .clients) (s .limits .«log_indexes») (s .limits .message)
 
+-- The bytes y are the queue's words in a state's area, with the events q.
 abbrev InQueue : State → List ℕ → Queue → Type 0
 InQueue s y q = Held (tableOf s) (queueWords (capacityOf s)) (length (s .queue)) y q
 

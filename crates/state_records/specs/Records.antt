@@ -105,10 +105,11 @@ unfoldable pub payloadBytes : Option Payload → List ℕ
 payloadBytes none = []
 payloadBytes (some x) = bodyOf x
 
--- How many payloads were applied, and how many violations are kept.
+-- How many payloads were applied.
 unfoldable pub appliedCount : State → ℕ
 appliedCount s = length (s .checker .applied)
 
+-- How many violations are kept.
 unfoldable pub violationCount : State → ℕ
 violationCount s = length (s .checker .violations)
 
