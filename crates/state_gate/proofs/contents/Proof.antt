@@ -1,4 +1,4 @@
--- Made by tools/uniform from proofs.txt, not by hand: 80575d513a156e15
+-- Made by tools/uniform from proofs.txt, not by hand: ae3c166ce96eeea2
 use Rattle.state_gate.specs.Laws.{all-ok}
 use borrow.Author.Needs.{needs}
 use Rattle.state_gate.proofs.contents.Statement.{statement}
@@ -12,4 +12,4 @@ contents-spec =
     (λ c κs. search needs)  -- servers-requires
     (λ c κs. search needs)  -- tables-requires
     (λ c κs. search needs)  -- spare-requires
-    (λ c. all-ok _ _ _ _ _ _ (c .before .before .before .header .ensures) (c .before .before .servers .ensures) (c .before .tables .ensures) (c .spare .ensures)))  -- returns
+    (λ c. all-ok (c .before .before .before .before .before .args .f) _ _ _ _ _ (c .before .before .before .header .ensures) (c .before .before .servers .ensures) (c .before .tables .ensures) (c .spare .ensures)))  -- returns

@@ -1,4 +1,4 @@
--- Made by tools/uniform from proofs.txt, not by hand: 4798cadec7522de3
+-- Made by tools/uniform from proofs.txt, not by hand: 6d577af61b891774
 use Rattle.state_gate_header.specs.Laws.{first-offsets}
 use borrow.Author.Needs.{needs}
 use Rattle.state_gate_header.proofs.first_offsets.Statement.{statement}
@@ -21,4 +21,4 @@ first-offsets-spec =
     (λ c. search needs)  -- mul-result-3
     (λ c κs. search needs)  -- load-requires-5
     (λ c. search needs)  -- mul-result-4
-    (λ c. first-offsets _ _ _ _ _ _ _ _ _ _ _ (c .before .before .before .before .load .ensures) (c .before .before .before .load2 .ensures) (c .before .before .load3 .ensures) (c .before .load4 .ensures) (c .load5 .ensures) (c .before .before .before .before .before .before .before .before .block-words .ensures) (c .before .before .before .before .before .before .before .queue-at .ensures) (c .before .before .before .before .before .before .seen-at .ensures) (c .before .before .before .before .before .leaders-at .ensures)))  -- returns
+    (λ c. first-offsets (c .before .before .before .before .before .before .before .before .before .before .args .f) _ _ _ _ _ _ _ _ _ _ (c .before .before .before .before .load .ensures) (c .before .before .before .load2 .ensures) (c .before .before .load3 .ensures) (c .before .load4 .ensures) (c .load5 .ensures) (c .before .before .before .before .before .before .before .before .block-words .ensures) (c .before .before .before .before .before .before .before .queue-at .ensures) (c .before .before .before .before .before .before .seen-at .ensures) (c .before .before .before .before .before .leaders-at .ensures)))  -- returns

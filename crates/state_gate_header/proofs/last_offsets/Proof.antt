@@ -1,4 +1,4 @@
--- Made by tools/uniform from proofs.txt, not by hand: 65faa4661d4586a7
+-- Made by tools/uniform from proofs.txt, not by hand: f9c57d6deb4e3870
 use Rattle.state_gate_header.specs.Laws.{last-offsets}
 use borrow.Author.Needs.{needs}
 use Rattle.state_gate_header.proofs.last_offsets.Statement.{statement}
@@ -25,4 +25,4 @@ last-offsets-spec =
     (λ c κs. search needs)  -- load-requires-5
     (λ c. search needs)  -- mul-result-5
     (λ c κs. search needs)  -- load-requires-6
-    (λ c. last-offsets _ _ _ _ _ _ _ _ _ _ _ _ _ _ (c .before .before .before .before .before .load .ensures) (c .before .before .before .before .load2 .ensures) (c .before .before .before .load3 .ensures) (c .before .before .load4 .ensures) (c .before .load5 .ensures) (c .load6 .ensures) (c .before .before .before .before .before .before .before .before .before .before .before .replies-at .ensures) (c .before .before .before .before .before .before .before .before .before .before .confirmations-at .ensures) (c .before .before .before .before .before .before .before .before .before .applied-at .ensures) (c .before .before .before .before .before .before .before .before .clients-at .ensures) (c .before .before .before .before .before .before .before .whole-words .ensures) (c .before .before .before .before .before .before .area-length .ensures .0)))  -- returns
+    (λ c. last-offsets (c .before .before .before .before .before .before .before .before .before .before .before .before .before .args .f) _ _ _ _ _ _ _ _ _ _ _ _ _ (c .before .before .before .before .before .load .ensures) (c .before .before .before .before .load2 .ensures) (c .before .before .before .load3 .ensures) (c .before .before .load4 .ensures) (c .before .load5 .ensures) (c .load6 .ensures) (c .before .before .before .before .before .before .before .before .before .before .before .replies-at .ensures) (c .before .before .before .before .before .before .before .before .before .before .confirmations-at .ensures) (c .before .before .before .before .before .before .before .before .before .applied-at .ensures) (c .before .before .before .before .before .before .before .before .clients-at .ensures) (c .before .before .before .before .before .before .before .whole-words .ensures) (c .before .before .before .before .before .before .area-length .ensures .0)))  -- returns

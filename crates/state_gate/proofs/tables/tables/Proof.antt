@@ -1,4 +1,4 @@
--- Made by tools/uniform from proofs.txt, not by hand: bb615c7b6e967162
+-- Made by tools/uniform from proofs.txt, not by hand: 2e8aed59ccdd54f9
 use Rattle.state_gate.specs.TableLaws.{tables-ok}
 use borrow.Author.Needs.{needs}
 use Rattle.state_gate.proofs.tables.tables.Statement.{statement}
@@ -15,4 +15,4 @@ tables-spec =
     (λ c κs. search needs)  -- confirmations-requires
     (λ c κs. search needs)  -- applied-requires
     (λ c κs. search needs)  -- clients-requires
-    (λ c. tables-ok _ _ _ _ _ _ _ _ _ (c .before .before .before .before .before .before .queue .ensures) (c .before .before .before .before .before .seen .ensures) (c .before .before .before .before .leaders .ensures) (c .before .before .before .replies .ensures) (c .before .before .confirmations .ensures) (c .before .applied .ensures) (c .clients .ensures)))  -- returns
+    (λ c. tables-ok (c .before .before .before .before .before .before .before .before .args .f) _ _ _ _ _ _ _ _ (c .before .before .before .before .before .before .queue .ensures) (c .before .before .before .before .before .seen .ensures) (c .before .before .before .before .leaders .ensures) (c .before .before .before .replies .ensures) (c .before .before .confirmations .ensures) (c .before .applied .ensures) (c .clients .ensures)))  -- returns
