@@ -68,16 +68,18 @@ module _ (F : Capacity) (server : ℕ) where
 
 -- ---- the exits of a read that asks question 7
 
-module _ {A R : Type 0} (no : ℕ → R) (say : A → R) (b : List ℕ) (g : Gate) (server : ℕ) (o : ServerAsked) (q : Gated b g) (y : g .refusal ≤ 0) (a : AsksServer (g .capacity) server o) where
-  z : g .refusal ≡ 0
-  z = omega arith
+-- whether the server is in the cluster, by the counts of the area
+pub cluster-known : (b : List ℕ) (g : Gate) (server : ℕ) → Gated b g → g .refusal ≤ 0 → inCluster (decode b) server ≡ (leb 1 server and leb server (g .capacity .servers))
+unfolding faults.inCluster
+cluster-known b g server q y =
+    let z : g .refusal ≡ 0 = omega arith in
+    let s : State = decode b in
+    let e : length (s .servers) ≡ g .capacity .servers = server-count s (area-fits (q .area z)) ∙ sym (ap (λ (G : Capacity). G .servers) (q .capacity z)) in
+    ap (λ (n : ℕ). leb 1 server and leb server n) e
 
+module _ {A R : Type 0} (no : ℕ → R) (say : A → R) (b : List ℕ) (g : Gate) (server : ℕ) (o : ServerAsked) (q : Gated b g) (y : g .refusal ≤ 0) (a : AsksServer (g .capacity) server o) where
   same : inCluster (decode b) server ≡ (leb 1 server and leb server (g .capacity .servers))
-  unfolding faults.inCluster
-  same =
-      let s : State = decode b in
-      let e : length (s .servers) ≡ g .capacity .servers = server-count s (area-fits (q .area z)) ∙ sym (ap (λ (G : Capacity). G .servers) (q .capacity z)) in
-      ap (λ (n : ℕ). leb 1 server and leb server n) e
+  same = cluster-known b g server q y
 
   module _ (f : State → Out A) (get : State → A) (is : (s : State) → f s ≡ pick (inCluster s server) (done (get s) s) (refused 7)) where
     seven : (r : R) → 0 < o .code → r ≡ no (o .code) → r ≡ reading no say b f

@@ -5,13 +5,15 @@ ghost use Prim.Native.Nat.{_-_, _<_};
 ghost use Rattle.model.specs.Reads.{readHardState, readLog, readStatus, readApplied, readSentBy};
 ghost use Rattle.state.specs.Changes.{Inside, Gated, Reads};
 ghost use Rattle.state.specs.Call.{reading};
-ghost use Rattle.answers.specs.Answers.{nodePresent, nodeId, hardStateNo, hardStateYes, logNo, logYes, statusNo, statusYes, appliedNo, appliedYes, sentByNo, sentByYes};
-ghost use Rattle.sim_reads.specs.Servers.{AsksServer, logRead, statusGiven, sentAt};
+ghost use Rattle.answers.specs.Answers.{nodePresent, nodeId, hardStateNo, hardStateYes, logNo, logYes, statusNo, statusYes, appliedNo, appliedYes, sentByNo, sentByYes, entryNo};
+ghost use Rattle.sim_reads.specs.Servers.{AsksServer, logRead, statusGiven, sentAt, entryGiven, EntryRead};
 use answers::AppliedAnswer;
+use answers::EntryAnswer;
 use answers::HardStateAnswer;
 use answers::LogAnswer;
 use answers::SentByAnswer;
 use answers::StatusAnswer;
+use log::Place;
 use metrics::Counts;
 use protocol::Status;
 use state::Capacity;
@@ -19,6 +21,7 @@ use state::Gate;
 use state::StatusOption;
 use state_disk::LogNumbers;
 use storage::HardState;
+use units::LogIndex;
 use units::NodeId;
 use units::NodeOption;
 
@@ -318,4 +321,72 @@ pub fn read_sent_by_in(area: &[u8], g: Gate, server: u64) -> SentByAnswer
     }
     let sent = sent_at(area, f, slot);
     sent_by_yes(sent)
+}
+
+// ---- an entry of the log
+
+// A refused read of an entry, or that there is none at an index.
+fn entry_no(refusal: u64) -> EntryAnswer
+    ensures { λ r. ⌜ r ≡ entryNo refusal ⌝ }
+{
+    EntryAnswer {
+        refusal,
+        present: 0,
+        term: 0,
+        kind: 0,
+        length: 0,
+    }
+}
+
+// What stands at an index in numbers.
+fn entry_yes(place: Place) -> EntryAnswer
+    ensures { λ r. ⌜ r ≡ entryGiven place ⌝ }
+{
+    match place {
+        Place::None => entry_no(0),
+        Place::Noop { term } => EntryAnswer {
+            refusal: 0,
+            present: 1,
+            term: term.0,
+            kind: 0,
+            length: 0,
+        },
+        Place::Command { term, length } => EntryAnswer {
+            refusal: 0,
+            present: 1,
+            term: term.0,
+            kind: 1,
+            length: length as u64,
+        },
+    }
+}
+
+// The entry at an index of a server's log as written so far; the bytes of a command go to the front of the buffer.
+pub fn read_entry_in(
+    area: &[u8],
+    g: Gate,
+    server: u64,
+    index: u64,
+    buffer: &mut [u8],
+) -> EntryAnswer
+    requires { ⌜ Gated (now area) g ⌝ }
+    ensures { λ r. ⌜ EntryRead (now (area .entry)) server index (now (buffer .entry)) (now (buffer .exit)) r ⌝ }
+{
+    let refusal = g.refusal;
+    let f = g.capacity;
+    if 0 < refusal {
+        return entry_no(refusal);
+    }
+    let asked = server_asked(f, server);
+    let code = asked.code;
+    let slot = asked.slot;
+    if 0 < code {
+        return entry_no(code);
+    }
+    let limits = f.limits;
+    if (buffer.len() as u64) < limits.payload {
+        return entry_no(9);
+    }
+    let place = state_disk::read_entry(area, f, slot as usize, LogIndex(index), buffer);
+    entry_yes(place)
 }
