@@ -1,7 +1,7 @@
 -- What the proof of the read of an entry cites. Assumes nothing.
-use mathlib.Core.Path.{_≡_, refl, sym, ap, subst, _∙_}
-use mathlib.Core.Bool.{Bool, true, false}
-use mathlib.Core.List.{List, []}
+use mathlib.Core.Path.{_≡_, refl, sym, ap, _∙_}
+use mathlib.Core.Bool.{Bool, true}
+use mathlib.Core.List.{List}
 use mathlib.Core.Option.{Option, none, some}
 use Prim.Native.Nat.{ℕ, _-_, _≤_, _<_}
 use native.Mathlib.Omega.{arith}
@@ -13,7 +13,7 @@ use Rattle.laws.specs.Bools.{pick, cases, _and_}
 use Rattle.units.specs.Types.{Payload, noop, command, Entry}
 use Rattle.units.specs.declared.Term.{Term}
 use Rattle.layout.specs.Payload.{bodyOf}
-use Rattle.log.specs.Log.{Log, entryAt}
+use Rattle.log.specs.Log.{entryAt}
 use Rattle.log.specs.Places.{kindIn, placeOf, placeAt, bytesIn}
 use Rattle.log.specs.declared.Place.{Place}
 use Rattle.log.specs.declared.Place.the-variants as place
@@ -23,9 +23,7 @@ use Rattle.model.specs.Reads as reads
 use Rattle.model.specs.Outcome.{readEntry, gotEntry, Answer, no, got, given, readOutcome}
 use Rattle.state.specs.declared.Capacity.{Capacity}
 use Rattle.state.specs.declared.Gate.{Gate}
-use Rattle.state.specs.Area.{Area, capacityOf}
 use Rattle.state.specs.Decode.{decode}
-use Rattle.state.specs.Call.{reading}
 use Rattle.state.specs.Changes.{Gated}
 use Rattle.state.specs.Exits.{read-shut, read-refused, read-answered}
 use Rattle.claims.specs.OnArea as claims

@@ -1,34 +1,32 @@
 -- What the proofs of the reads of one server cite. Assumes nothing.
-use mathlib.Core.Path.{_≡_, refl, sym, ap, ap₂, subst, _∙_}
-use mathlib.Core.Bool.{Bool, true, false}
+use mathlib.Core.Path.{_≡_, refl, sym, ap, ap₂, _∙_}
+use mathlib.Core.Bool.{Bool}
 use mathlib.Core.List.{List}
-use mathlib.Core.Option.{Option, none, some}
+use mathlib.Core.Option.{some}
 use Prim.Native.Nat.{ℕ, _+_, _-_, _≤_, _<_}
 use native.Mathlib.Omega.{arith}
 use lib.Dec.{leb}
 use lib.ListN.{length, getD}
-use borrow.Author.Tests.{le-leb, lt-leb, leb-true}
-use Rattle.laws.specs.Bools.{pick, cases, _and_, and-both, and-left, and-right, and-no, no-and}
-use Rattle.units.specs.declared.NodeOption.{NodeOption}
+use borrow.Author.Tests.{le-leb, lt-leb}
+use Rattle.laws.specs.Bools.{pick, cases, _and_, and-both, and-no, no-and}
 use Rattle.protocol.specs.Numbers.{roleNumber}
 use Rattle.protocol.specs.declared.Status.{Status}
 use Rattle.metrics.specs.Metrics.{sentBy}
 use Rattle.metrics.specs.declared.Counts.{Counts}
 use Rattle.metrics.specs.declared.Metrics.{Metrics}
-use Rattle.log.specs.Log.{Log, count, lastIndex, gaps}
+use Rattle.log.specs.Log.{count, lastIndex, gaps}
 use Rattle.storage.specs.declared.HardState.{HardState}
 use Rattle.storage.specs.declared.StorageState.{StorageState}
 use Rattle.faults.specs.Fault as faults
-use Rattle.model.specs.State.{State, Server, serverAt}
+use Rattle.model.specs.State.{State, serverAt}
 use Rattle.model.specs.Calls.{Out, refused, done, inCluster}
-use Rattle.model.specs.Reads.{LogRead, readHardState, readLog, readStatus, readApplied, readSentBy}
+use Rattle.model.specs.Reads.{readHardState, readLog, readStatus, readApplied, readSentBy}
 use Rattle.state.specs.declared.Capacity.{Capacity}
 use Rattle.state.specs.declared.Gate.{Gate}
 use Rattle.state.specs.declared.ServerState.{ServerState}
 use Rattle.state.specs.declared.StatusOption.{StatusOption}
 use Rattle.state.specs.declared.StatusOption.the-variants as status
-use Rattle.state.specs.Server.{statusOption, optionStatus, status-there}
-use Rattle.state.specs.Area.{Area, capacityOf}
+use Rattle.state.specs.Server.{statusOption, status-there}
 use Rattle.state.specs.Decode.{decode}
 use Rattle.state.specs.Fitting.{area-fits}
 use Rattle.state.specs.FitsBy.{server-count}

@@ -1,11 +1,11 @@
 -- What the proofs of the reads of a run's report cite. Assumes nothing.
-use mathlib.Core.Path.{_≡_, refl, sym, ap, ap₂, subst, _∙_}
+use mathlib.Core.Path.{_≡_, refl, sym, ap, ap₂, _∙_}
 use mathlib.Core.Bool.{Bool, true, false, not}
 use mathlib.Core.List.{List, [], _∷_}
 use mathlib.Core.Option.{Option, none, some}
 use Prim.Native.Nat.{ℕ, _^_, _≤_, _<_}
 use native.Mathlib.Omega.{arith}
-use lib.Dec.{leb, ltb}
+use lib.Dec.{ltb}
 use lib.ListN.{length}
 use lib.Seq.{sets}
 use borrow.Author.Tests.{le-leb, lt-leb}
@@ -13,8 +13,6 @@ use Rattle.laws.specs.Bools.{pick}
 use Rattle.laws.specs.Decides.{false-true}
 use Rattle.laws.specs.Lists.{at}
 use Rattle.units.specs.Types.{Payload, noop, command}
-use Rattle.layout.specs.Payload.{bodyOf}
-use Rattle.layout.specs.MarkedCalls.{kindOf}
 use Rattle.layout.specs.declared.marked.Kind.{Kind}
 use Rattle.layout.specs.declared.marked.Kind.the-variants as kind
 use Rattle.metrics.specs.declared.Metrics.{Metrics}
@@ -23,12 +21,12 @@ use Rattle.checks.specs.declared.violations.Violation.{Violation}
 use Rattle.model.specs.State.{State}
 use Rattle.model.specs.Calls.{Out, refused, done}
 use Rattle.model.specs.Reads as reads
-use Rattle.model.specs.Reads.{appliedAt, discardedBy, MetricsRead, readViolation, readMetrics}
+use Rattle.model.specs.Reads.{appliedAt, discardedBy, readViolation, readMetrics}
 use Rattle.model.specs.Outcome.{readAppliedEntry, gotAppliedEntry, Answer, no, got, given, readOutcome}
 use Rattle.state.specs.declared.Capacity.{Capacity}
 use Rattle.state.specs.declared.Gate.{Gate}
 use Rattle.state.specs.declared.Run.{Run}
-use Rattle.state.specs.Area.{Area, capacityOf, runOf}
+use Rattle.state.specs.Area.{runOf}
 use Rattle.state.specs.Decode.{decode}
 use Rattle.state.specs.Call.{reading}
 use Rattle.state.specs.Changes.{Gated, Reads}
@@ -45,8 +43,7 @@ use Rattle.state_records.specs.Records.{violationAt, payloadKind, payloadBytes,
 use Rattle.answers.specs.declared.ViolationAnswer.{ViolationAnswer}
 use Rattle.answers.specs.declared.MetricsAnswer.{MetricsAnswer}
 use Rattle.answers.specs.declared.AppliedEntryAnswer.{AppliedEntryAnswer}
-use Rattle.answers.specs.Answers as answer
-use Rattle.answers.specs.Answers.{commandBytes, violationNo, violationYes, metricsNo, metricsYes, appliedEntryNo, appliedEntryYes}
+use Rattle.answers.specs.Answers.{violationNo, violationYes, metricsNo, metricsYes, appliedEntryNo, appliedEntryYes}
 use Rattle.answers.specs.Numbers.{appliedBytes, readingBytes, bytesOf}
 use Rattle.sim_reads_report.specs.Report.{violationGiven, metricsTold, kindGiven, appliedGiven, AppliedRead}
 

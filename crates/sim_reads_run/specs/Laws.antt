@@ -1,11 +1,10 @@
 -- What the proofs of the reads of the run cite. Assumes nothing.
 use mathlib.Core.Path.{_≡_, refl, sym, ap, ap₂, subst, _∙_}
-use mathlib.Core.Bool.{Bool, true, false}
+use mathlib.Core.Bool.{Bool, true}
 use mathlib.Core.List.{List}
-use mathlib.Core.Option.{Option, none, some}
 use Prim.Native.Nat.{ℕ, _+_, _≤_, _<_}
 use native.Mathlib.Omega.{arith}
-use lib.Dec.{eqb, leb, ltb}
+use lib.Dec.{ltb}
 use borrow.Author.Tests.{eq-eqb, ne-eqb, le-leb, lt-leb, lt-ltb, le-ltb, ltb-true}
 use Rattle.laws.specs.Bools.{pick, _and_, and-left}
 use Rattle.units.specs.declared.NodeId.{NodeId}
@@ -22,7 +21,6 @@ use Rattle.clients.specs.declared.confirmations.IndexOption.{IndexOption}
 use Rattle.clients.specs.declared.confirmations.IndexOption.the-variants as index
 use Rattle.model.specs.State.{State, Input, startInput, messageInput, timerInput, proposeInput, direct, fromClient, confirmInput, Phase, closed, writing, sending}
 use Rattle.model.specs.Simulation.{leaderOf}
-use Rattle.model.specs.Calls.{Out, done}
 use Rattle.model.specs.Fits.{phaseFits}
 use Rattle.model.specs.Reads.{readLeader, readRun, readSettings, readReply, readConfirmation}
 use Rattle.state.specs.declared.Capacity.{Capacity}
@@ -31,7 +29,7 @@ use Rattle.state.specs.declared.OpenInput.{OpenInput}
 use Rattle.state.specs.declared.Run.{Run}
 use Rattle.state.specs.declared.TableCounts.{TableCounts}
 use Rattle.state.specs.Parts.{openOf, phaseKind, phaseSlot, phaseInput, inputKind}
-use Rattle.state.specs.Area.{Area, capacityOf, runOf, countsOf}
+use Rattle.state.specs.Area.{runOf, countsOf}
 use Rattle.state.specs.Decode.{decode}
 use Rattle.state.specs.Fitting.{area-fits}
 use Rattle.state.specs.FitsBy.{fits-test}

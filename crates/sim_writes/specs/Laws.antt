@@ -1,21 +1,21 @@
 -- What the proofs of the writes cite. Assumes nothing.
-use mathlib.Core.Path.{_≡_, refl, sym, ap, ap₂, subst, _∙_}
+use mathlib.Core.Path.{_≡_, refl, sym, ap, subst, _∙_}
 use mathlib.Core.Bool.{Bool, true, false}
 use mathlib.Core.List.{List}
-use Prim.Native.Nat.{ℕ, zero, suc, _*_, _≤_, _<_}
+use Prim.Native.Nat.{ℕ, zero, suc, _≤_, _<_}
 use native.Mathlib.Omega.{arith}
-use lib.Dec.{eqb, leb, ltb}
+use lib.Dec.{eqb, leb}
 use lib.ListN.{length}
 use borrow.Author.Tests.{eq-eqb, ne-eqb, le-leb, lt-leb, eqb-true, ltb-true}
 use Rattle.laws.specs.Decides.{false-true}
-use Rattle.laws.specs.Bools.{pick, cases, _and_, and-both, and-left, and-right, and-no, no-and}
+use Rattle.laws.specs.Bools.{pick, cases, _and_, and-both, and-left, and-no, no-and}
 use Rattle.units.specs.Types.{payloadOf}
 use Rattle.units.specs.declared.NodeOption.the-variants.{None, Some}
 use Rattle.storage.specs.declared.HardState.{HardState}
 use Rattle.storage.specs.Storage.{Write, writeHardState, writePut, writeTruncate}
 use Rattle.model.specs.State.{State, Input, Owed, Phase, closed, writing, sending}
 use Rattle.model.specs.Simulation.{writeAt}
-use Rattle.model.specs.Calls.{Out, refused, done, whileWriting, nodeOption, isFlag, isPayload, writeHardStateCall, writePutCall, writeTruncateCall}
+use Rattle.model.specs.Calls.{Out, refused, done, whileWriting, nodeOption, isFlag, writeHardStateCall, writePutCall, writeTruncateCall}
 use Rattle.model.specs.Fits.{stateFits, phaseFits}
 use Rattle.state.specs.declared.Capacity.{Capacity}
 use Rattle.state.specs.declared.Gate.{Gate}
@@ -26,7 +26,7 @@ use Rattle.state.specs.Decode.{decode}
 use Rattle.state.specs.Fitting.{area-fits}
 use Rattle.state.specs.FitsBy.{fits-test}
 use Rattle.state.specs.Call.{call}
-use Rattle.state.specs.Changes.{Inside, Gated, Reads, Changes, Planned, judged}
+use Rattle.state.specs.Changes.{Gated, Reads, Changes, Planned, judged}
 use Rattle.state.specs.Exits.{call-refused, call-done}
 use Rattle.answers.specs.declared.DoneAnswer.{DoneAnswer}
 use Rattle.answers.specs.Answers.{doneNo, doneYes}
