@@ -1,0 +1,3 @@
+pub mod Servers
+pub mod Laws
+pub mod EntryLaws
