@@ -6,9 +6,11 @@ use Prim.Native.Nat.{ℕ, zero, suc, _+_, _-_, _*_, _≤_, _<_}
 use native.Mathlib.Omega.{arith}
 use lib.ListN.{length, getD, set, drop, take, length-append, length-drop, length-set, take-append-drop, drop-of-length-le}
 use lib.Seq.{length-take-le, getD-set-same, take-at, drop-at}
-use Rattle.laws.specs.Bools.{_and_, every, every-get, and-left, and-right}
+use Rattle.laws.specs.Bools.{_and_, every, every-get, every-set, and-left, and-right}
 use Rattle.laws.specs.Lists.{modify}
 use Rattle.metrics.specs.Laws.{modify-set}
+use Rattle.config.specs.declared.SimConfig.{SimConfig}
+use Rattle.config.specs.declared.Limits.{Limits}
 use Rattle.client.specs.declared.ClientKey.{ClientKey}
 use Rattle.words.specs.Words.{bytes}
 use Rattle.words.specs.Lift.{bytes-append, length-bytes, bytes-zeros}
@@ -178,11 +180,34 @@ module _ (s : State) (k : ℕ) (f : Server → Server) where
       subst (λ (x : Server). serverFits (s .config) (s .limits) x ≡ true) (server-after i)
       (every-get (serverFits (s .config) (s .limits)) (modify k f (s .servers)) k (newServer 0) (omega (arith, n)) (fits-test (onServer s k f) t 5))
 
-  -- question 10: that server's tests, and all tests that were before
-  pub fits-on-server : length (s .servers) ≡ s .config .servers → k < s .config .servers → every (serverFits (s .config) (s .limits)) (s .servers) ≡ true
-      → stateFits (onServer s k f) ≡ (serverFits (s .config) (s .limits) (f (serverAt s k)) and stateFits s)
-  fits-on-server n i h =
-      ap (λ (l : List Server). stateFits (withServers s l)) (modify-set f (newServer 0) k (s .servers)) ∙ fits-server s k (f (serverAt s k)) n i h
+-- The servers are as many as the settings say, and each is in range.
+pub record ServersIn (config : SimConfig) (limits : Limits) (vs : List Server) : Type 0 where
+  pub count : length vs ≡ config .servers
+  pub each : every (serverFits config limits) vs ≡ true
+
+-- The servers of a state fit.
+abbrev pub ServersFit : State → Type 0
+ServersFit s = ServersIn (s .config) (s .limits) (s .servers)
+
+-- those of a state that fits do
+pub servers-fit : (s : State) → stateFits s ≡ true → ServersFit s
+servers-fit s t = record { count = server-count s t; each = fits-test s t 5 }
+
+module _ (s : State) (k : ℕ) (h : ServersFit s) (i : k < s .config .servers) where
+  -- each of servers that fit is in range
+  pub server-fine : serverFits (s .config) (s .limits) (serverAt s k) ≡ true
+  server-fine = every-get (serverFits (s .config) (s .limits)) (s .servers) k (newServer 0) (rw (h .count) i) (h .each)
+
+  -- question 10 of a change of one server: that server's tests, and all tests that were before
+  pub fits-on-server : (f : Server → Server) → stateFits (onServer s k f) ≡ (serverFits (s .config) (s .limits) (f (serverAt s k)) and stateFits s)
+  fits-on-server f =
+      ap (λ (l : List Server). stateFits (withServers s l)) (modify-set f (newServer 0) k (s .servers)) ∙ fits-server s k (f (serverAt s k)) (h .count) i (h .each)
+
+  -- and where that server is in range, the servers fit after the change
+  pub servers-kept : (f : Server → Server) → serverFits (s .config) (s .limits) (f (serverAt s k)) ≡ true → ServersFit (onServer s k f)
+  servers-kept f t =
+      subst (ServersIn (s .config) (s .limits)) (sym (modify-set f (newServer 0) k (s .servers)))
+      (record { count = length-set (s .servers) k (f (serverAt s k)) ∙ h .count; each = every-set (serverFits (s .config) (s .limits)) (s .servers) k (f (serverAt s k)) (h .each) t })
 
 -- ---- the block in the area
 

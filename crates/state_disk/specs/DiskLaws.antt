@@ -8,7 +8,7 @@ use native.Mathlib.Omega.{arith}
 use lib.Dec.{eqb}
 use lib.ListN.{length, take, length-append, length-take, length-replicate, length-set}
 use borrow.Author.Tests.{lt-ltb, ltb-true, le-leb}
-use Rattle.laws.specs.Bools.{_and_, every, every-set, every-get, every-first, allb-in, and-left, and-right, and-both, true-and}
+use Rattle.laws.specs.Bools.{_and_, every, every-set, every-first, allb-in, and-left, and-right, and-both, true-and}
 use Rattle.units.specs.Types.{Payload, noop, command, Entry}
 use Rattle.config.specs.declared.SimConfig.{SimConfig}
 use Rattle.config.specs.declared.Limits.{Limits}
@@ -20,10 +20,13 @@ use Rattle.log.specs.Log.{Log, emptyLog, putAt, truncateAt}
 use Rattle.log.specs.Places.{place}
 use Rattle.storage.specs.Storage.{Disk, Write, writeHardState, writePut, writeTruncate, Storage, applyWrite, applyWrites, sync, crash}
 use Rattle.storage.specs.Waiting.{writeCode, putWithin, kindMarking, payloadKind}
-use Rattle.model.specs.State.{State, newServer, serverAt}
+use Rattle.model.specs.State.{State, serverAt}
+use Rattle.model.specs.Fields.{withStorage}
+use Rattle.model.specs.Simulation.{onServer}
 use Rattle.model.specs.Fits.{stateFits, serverFits, serverTests, storageFits, diskFits}
+use Rattle.state.specs.Lens.{ServersFit, server-fine, fits-on-server, servers-kept}
 use Rattle.state_disk.specs.Disks.{syncedAt, crashedAt}
-use Rattle.state_disk.specs.Laws.{current-fits, fits-storage}
+use Rattle.state_disk.specs.Laws.{current-fits, in-storage}
 
 -- ---- a write made on a disk
 
@@ -84,21 +87,37 @@ module _ (config : SimConfig) (limits : Limits) where
       let r = and-right _ _ h in
       and-both _ _ (and-left _ _ r) (and-both _ _ (and-left _ _ r) (and-both _ _ (and-both _ _ (le-leb 0 (limits .writes) (omega arith)) (and-both _ _ refl refl)) (and-right _ _ (and-right _ _ r))))
 
--- ---- question 10
+-- ---- question 10 of each change, and that the servers fit after it
 
-module _ (s : State) (k : ℕ) (n : length (s .servers) ≡ s .config .servers) (i : k < s .config .servers) (h : every (serverFits (s .config) (s .limits)) (s .servers) ≡ true) where
-  old : serverFits (s .config) (s .limits) (serverAt s k) ≡ true
-  old = every-get (serverFits (s .config) (s .limits)) (s .servers) k (newServer 0) (rw n i) h
+module _ (s : State) (k : ℕ) (h : ServersFit s) (i : k < s .config .servers) where
+  old : storageFits (s .config) (s .limits) (serverAt s k .storage) ≡ true
+  old = allb-in (serverTests (s .config) (s .limits) (serverAt s k)) (server-fine s k h i) 1
 
-  old-storage : storageFits (s .config) (s .limits) (serverAt s k .storage) ≡ true
-  old-storage = allb-in (serverTests (s .config) (s .limits) (serverAt s k)) old 1
+  -- a storage that stays in range
+  module _ (op : Storage → Storage) (t : storageFits (s .config) (s .limits) (op (serverAt s k .storage)) ≡ true) where
+    in-op : serverFits (s .config) (s .limits) (withStorage (serverAt s k) (op (serverAt s k .storage))) ≡ true
+    in-op = in-storage s k h i (op (serverAt s k .storage)) ∙ t
+
+    fits-op : stateFits (onServer s k (λ v. withStorage v (op (v .storage)))) ≡ stateFits s
+    fits-op = fits-on-server s k h i (λ v. withStorage v (op (v .storage))) ∙ ap (λ (u : Bool). u and stateFits s) in-op ∙ true-and (stateFits s)
+
+    kept-op : ServersFit (onServer s k (λ v. withStorage v (op (v .storage))))
+    kept-op = servers-kept s k h i (λ v. withStorage v (op (v .storage))) in-op
 
   -- a sync
   pub fits-synced : stateFits (syncedAt k s) ≡ stateFits s
   unfolding syncedAt
-  fits-synced = fits-storage s k n i h sync ∙ ap (λ (t : Bool). t and stateFits s) (sync-fits (s .config) (s .limits) (serverAt s k .storage) old-storage) ∙ true-and (stateFits s)
+  fits-synced = fits-op sync (sync-fits (s .config) (s .limits) (serverAt s k .storage) old)
+
+  pub kept-synced : ServersFit (syncedAt k s)
+  unfolding syncedAt
+  kept-synced = kept-op sync (sync-fits (s .config) (s .limits) (serverAt s k .storage) old)
 
   -- a crash
   pub fits-crashed : stateFits (crashedAt k s) ≡ stateFits s
   unfolding crashedAt
-  fits-crashed = fits-storage s k n i h crash ∙ ap (λ (t : Bool). t and stateFits s) (crash-fits (s .config) (s .limits) (serverAt s k .storage) old-storage) ∙ true-and (stateFits s)
+  fits-crashed = fits-op crash (crash-fits (s .config) (s .limits) (serverAt s k .storage) old)
+
+  pub kept-crashed : ServersFit (crashedAt k s)
+  unfolding crashedAt
+  kept-crashed = kept-op crash (crash-fits (s .config) (s .limits) (serverAt s k .storage) old)

@@ -7,7 +7,7 @@ use native.Mathlib.Omega.{arith}
 use lib.Dec.{ltb, eqb}
 use lib.ListN.{length, getD, set, take, drop, length-append}
 use borrow.Author.Tests.{le-leb, leb-true, eq-eqb}
-use Rattle.laws.specs.Bools.{_and_, pick, cases, every, every-append, every-get, every-both, allb-in, and-left, and-right, and-both, and-true}
+use Rattle.laws.specs.Bools.{_and_, pick, cases, every, every-append, every-both, allb-in, and-left, and-right, and-both, and-true}
 use Rattle.laws.specs.Decides.{false-true}
 use Rattle.units.specs.Types.{payloadOf}
 use Rattle.units.specs.declared.LogIndex.{LogIndex}
@@ -38,7 +38,7 @@ use Rattle.storage.specs.Stores.{diskBytes, Parts, Stores, Syncs, Crashes}
 use Rattle.storage.specs.Replay.{Sums}
 use Rattle.storage.specs.Writes.{writtenNumber, storageRoom, Writes}
 use Rattle.storage.specs.PartLaws.{lent, back, current-lent, waiting-lent}
-use Rattle.model.specs.State.{State, Server, newServer, serverAt}
+use Rattle.model.specs.State.{State, Server, serverAt}
 use Rattle.model.specs.Fields.{withStorage}
 use Rattle.model.specs.Simulation.{onServer, writeAt}
 use Rattle.model.specs.Fits.{stateFits, serverFits, serverTests, storageFits, hardStateFits, nodeFits}
@@ -49,9 +49,9 @@ use Rattle.state.specs.Parts.{storageStateIn, storageStateWords, storageStateCo
 use Rattle.state.specs.Server.{storageOfServer}
 use Rattle.state.specs.Area.{Area, capacityOf}
 use Rattle.state.specs.Fitting.{area-fits}
-use Rattle.state.specs.FitsBy.{fits-test, server-count, server-fits-at, fits-server-one}
+use Rattle.state.specs.FitsBy.{server-fits-at, fits-server-one}
 use Rattle.state.specs.Changes.{Inside, AreaOf, Changes, Reads}
-use Rattle.state.specs.Lens.{diskContent, area-of, put-same, ServerCut, serverContents, server-cut, server-at-held, part-lent, part-put, cut-server, fits-on-server}
+use Rattle.state.specs.Lens.{diskContent, area-of, put-same, ServerCut, serverContents, server-cut, server-at-held, part-lent, part-put, cut-server, ServersFit, servers-fit, server-fine, fits-on-server}
 use Rattle.state_disk.specs.declared.DiskPlace.{DiskPlace}
 use Rattle.state_disk.specs.declared.LogPlace.{LogPlace}
 use Rattle.state_disk.specs.Disks.{LogIn, DiskIn, storageAt, StorageIn, StoresAt, written, writeAnswer, Finishes, WritesAt, unsyncedAt, syncedAt, SyncsAt, crashedAt, logAt, ReadsEntryAt, logNumbersAt}
@@ -204,14 +204,9 @@ module _ (config : SimConfig) (limits : Limits) where
   current-fits d (writePut index e) t g = t
   current-fits d (writeTruncate from) t g = t
 
-module _ (s : State) (k : ℕ) (n : length (s .servers) ≡ s .config .servers) (i : k < s .config .servers) (h : every (serverFits (s .config) (s .limits)) (s .servers) ≡ true) where
-  -- another storage: its tests, and all tests that were before
-  pub fits-storage : (op : Storage → Storage) → stateFits (onServer s k (λ v. withStorage v (op (v .storage)))) ≡ (storageFits (s .config) (s .limits) (op (serverAt s k .storage)) and stateFits s)
-  fits-storage op =
-      fits-on-server s k (λ v. withStorage v (op (v .storage))) n i h
-      ∙ ap (λ (t : Bool). t and stateFits s)
-      (fits-server-one (s .config) (s .limits) (serverAt s k) (withStorage (serverAt s k) (op (serverAt s k .storage))) 1 (storageFits (s .config) (s .limits) (op (serverAt s k .storage))) (omega arith)
-      (every-get (serverFits (s .config) (s .limits)) (s .servers) k (newServer 0) (rw n i) h) refl)
+-- a server with another storage is in range where that is
+pub in-storage : (s : State) (k : ℕ) → ServersFit s → k < s .config .servers → (x : Storage) → serverFits (s .config) (s .limits) (withStorage (serverAt s k) x) ≡ storageFits (s .config) (s .limits) x
+in-storage s k h i x = fits-server-one (s .config) (s .limits) (serverAt s k) (withStorage (serverAt s k) x) 1 (storageFits (s .config) (s .limits) x) (omega arith) (server-fine s k h i) refl
 
 -- ---- writes
 
@@ -245,8 +240,8 @@ module _ (b b₂ ys : List ℕ) (F : Capacity) (k : ℕ) (d : DiskPlace) (v : St
     fits-is : stateFits (writeAt s k w) ≡ storageFits (s .config) (s .limits) (write y w)
     unfolding writeAt
     fits-is =
-        fits-storage s k (server-count s (area-fits (h .area))) below (fits-test s (area-fits (h .area)) 5) (λ x. write x w)
-        ∙ ap (λ (t : Bool). storageFits (s .config) (s .limits) (write y w) and t) (area-fits (h .area)) ∙ and-true (storageFits (s .config) (s .limits) (write y w))
+        fits-on-server s k (servers-fit s (area-fits (h .area))) below (λ v. withStorage v (write (v .storage) w))
+        ∙ ap₂ (λ (t u : Bool). t and u) (in-storage s k (servers-fit s (area-fits (h .area))) below (write y w)) (area-fits (h .area)) ∙ and-true (storageFits (s .config) (s .limits) (write y w))
 
     -- it was made: the storage with it fits
     made-fits : (v′ : StorageState) → StoresIn F v′ ys (write y w) → storageRoom (F .limits .writes) (write y w) ≡ true → storageFits (s .config) (s .limits) (write y w) ≡ true

@@ -8,7 +8,7 @@ use native.Mathlib.Omega.{arith}
 use lib.Dec.{leb}
 use lib.ListN.{length, getD}
 use borrow.Author.Tests.{le-leb, leb-true}
-use Rattle.laws.specs.Bools.{_and_, every, cases, allb-in, and-left, and-right, and-both, and-true, true-and, every-get}
+use Rattle.laws.specs.Bools.{_and_, every, cases, allb-in, and-left, and-right, and-both, and-true, true-and}
 use Rattle.laws.specs.Decides.{false-true}
 use Rattle.laws.specs.Order.{pairs, insertBy, removeBy, chain}
 use Rattle.laws.specs.OrderLaws.{every-insert, every-remove, remove-most}
@@ -19,13 +19,14 @@ use Rattle.protocol.specs.declared.Status.{Status}
 use Rattle.layout.specs.Keys.{keys}
 use Rattle.layout.specs.Sorted.{rising-insert, rising-remove}
 use Rattle.storage.specs.Storage.{Storage}
-use Rattle.model.specs.State.{State, Server, newServer, serverAt}
+use Rattle.model.specs.State.{State, Server, serverAt}
 use Rattle.model.specs.Fields.{withPending}
 use Rattle.model.specs.Simulation.{onServer}
 use Rattle.model.specs.Fits.{stateFits, serverFits, serverTests, tableFits}
+use Rattle.state.specs.declared.ServerState.{ServerState}
 use Rattle.state.specs.Server.{stateOfServer, statusOption, optionStatus, termOption′, optionTerm, status-there, term-there}
 use Rattle.state.specs.FitsBy.{fits-server-one}
-use Rattle.state.specs.Lens.{server-same, fits-on-server}
+use Rattle.state.specs.Lens.{server-same, ServersFit, server-fine, fits-on-server, servers-kept}
 use Rattle.state_server.specs.Servers.{withState, serverStateSet, stateInRange, pendingRoom, keyInRange, registered, forgotten, pendingCleared}
 use Rattle.state_server.specs.Laws.{insert-tested}
 
@@ -56,55 +57,79 @@ pub server-state-set : (s : State) (k : ℕ) (g : Server → Server) → g (serv
 unfolding serverStateSet
 server-state-set s k g d e = server-same s k (withState (stateOfServer (g (serverAt s k)))) g (state-of-other (g (serverAt s k)) (serverAt s k) d e)
 
--- ---- question 10
+-- ---- question 10 of each change, and that the servers fit after it
 
-module _ (s : State) (k : ℕ) (n : length (s .servers) ≡ s .config .servers) (i : k < s .config .servers) (h : every (serverFits (s .config) (s .limits)) (s .servers) ≡ true) where
+module _ (s : State) (k : ℕ) (h : ServersFit s) (i : k < s .config .servers) where
   abbrev v : Server
   v = serverAt s k
 
-  old : serverFits (s .config) (s .limits) v ≡ true
-  old = every-get (serverFits (s .config) (s .limits)) (s .servers) k (newServer 0) (rw n i) h
-
   test : (j : ℕ) → getD (serverTests (s .config) (s .limits) v) j true ≡ true
-  test = allb-in (serverTests (s .config) (s .limits) v) old
+  test = allb-in (serverTests (s .config) (s .limits) v) (server-fine s k h i)
 
-  -- another state of a server
-  pub fits-server-state : (x : _) → stateFits (serverStateSet k x s) ≡ (stateInRange (s .config) (s .limits) x and stateFits s)
-  unfolding serverStateSet stateInRange _and_
-  fits-server-state x = fits-on-server s k (withState x) n i h ∙ rw (test 1, test 7)
+  -- a server in another state is in range where that state is
+  in-state : (x : ServerState) → serverFits (s .config) (s .limits) (withState x v) ≡ stateInRange (s .config) (s .limits) x
+  unfolding stateInRange _and_
+  in-state x = rw (test 1, test 7)
 
-  -- other pending keys
-  fits-keys : (op : List ClientKey → List ClientKey) → stateFits (onServer s k (λ v. withPending v (op (v .pending)))) ≡ (tableFits (keys (s .config .clients)) (s .limits .history) (op (v .pending)) and stateFits s)
-  fits-keys op =
-      fits-on-server s k (λ v. withPending v (op (v .pending))) n i h
-      ∙ ap (λ (t : Bool). t and stateFits s) (fits-server-one (s .config) (s .limits) v (withPending v (op (v .pending))) 7 (tableFits (keys (s .config .clients)) (s .limits .history) (op (v .pending))) (omega arith) old refl)
+  pub fits-server-state : (x : ServerState) → stateFits (serverStateSet k x s) ≡ (stateInRange (s .config) (s .limits) x and stateFits s)
+  unfolding serverStateSet
+  fits-server-state x = fits-on-server s k h i (withState x) ∙ ap (λ (t : Bool). t and stateFits s) (in-state x)
+
+  pub kept-server-state : (x : ServerState) → stateInRange (s .config) (s .limits) x ≡ true → ServersFit (serverStateSet k x s)
+  unfolding serverStateSet
+  kept-server-state x t = servers-kept s k h i (withState x) (in-state x ∙ t)
+
+  -- a server with other pending keys is in range where they are
+  in-keys : (ks : List ClientKey) → serverFits (s .config) (s .limits) (withPending v ks) ≡ tableFits (keys (s .config .clients)) (s .limits .history) ks
+  in-keys ks = fits-server-one (s .config) (s .limits) v (withPending v ks) 7 (tableFits (keys (s .config .clients)) (s .limits .history) ks) (omega arith) (server-fine s k h i) refl
 
   -- a key registered: room for it, and its range
-  pub fits-registered : (key : ClientKey) → stateFits (registered k key s) ≡ ((pendingRoom k key s and keyInRange (s .config .clients) key) and stateFits s)
-  unfolding registered pendingRoom keyInRange
-  fits-registered key =
+  in-registered : (key : ClientKey) → serverFits (s .config) (s .limits) (withPending v (insertBy pairs keyOf key (v .pending))) ≡ (pendingRoom k key s and keyInRange (s .config .clients) key)
+  unfolding pendingRoom keyInRange
+  in-registered key =
       let t = keys (s .config .clients) in
+      let x : List ClientKey = insertBy pairs keyOf key (v .pending) in
       let g : every (t .row .good) (v .pending) ≡ true = and-left _ _ (and-right _ _ (test 7)) in
-      let e : every (t .row .good) (insertBy pairs keyOf key (v .pending)) ≡ t .row .good key =
+      let e : every (t .row .good) x ≡ t .row .good key =
       cases (t .row .good key) (λ y. every-insert pairs keyOf (t .row .good) key (v .pending) y g ∙ sym y)
-      (λ y. cases (every (t .row .good) (insertBy pairs keyOf key (v .pending))) (λ z. absurd (false-true (sym y ∙ insert-tested (t .row .good) key (v .pending) z))) (λ z. z ∙ sym y)) in
-      let r : t .rule (insertBy pairs keyOf key (v .pending)) ≡ true = rising-insert pairs keyOf key (v .pending) (and-right _ _ (and-right _ _ (test 7))) in
-      fits-keys (insertBy pairs keyOf key)
-      ∙ ap₂ (λ (a c : Bool). (leb (length (insertBy pairs keyOf key (v .pending))) (s .limits .history) and (a and c)) and stateFits s) e r
-      ∙ ap (λ (a : Bool). (leb (length (insertBy pairs keyOf key (v .pending))) (s .limits .history) and a) and stateFits s) (and-true (t .row .good key))
+      (λ y. cases (every (t .row .good) x) (λ z. absurd (false-true (sym y ∙ insert-tested (t .row .good) key (v .pending) z))) (λ z. z ∙ sym y)) in
+      let r : t .rule x ≡ true = rising-insert pairs keyOf key (v .pending) (and-right _ _ (and-right _ _ (test 7))) in
+      in-keys x ∙ ap₂ (λ (a c : Bool). leb (length x) (s .limits .history) and (a and c)) e r ∙ ap (λ (a : Bool). leb (length x) (s .limits .history) and a) (and-true (t .row .good key))
+
+  pub fits-registered : (key : ClientKey) → stateFits (registered k key s) ≡ ((pendingRoom k key s and keyInRange (s .config .clients) key) and stateFits s)
+  unfolding registered
+  fits-registered key = fits-on-server s k h i (λ v. withPending v (insertBy pairs keyOf key (v .pending))) ∙ ap (λ (t : Bool). t and stateFits s) (in-registered key)
+
+  pub kept-registered : (key : ClientKey) → (pendingRoom k key s and keyInRange (s .config .clients) key) ≡ true → ServersFit (registered k key s)
+  unfolding registered
+  kept-registered key t = servers-kept s k h i (λ v. withPending v (insertBy pairs keyOf key (v .pending))) (in-registered key ∙ t)
 
   -- a key taken out
-  pub fits-forgotten : (key : ClientKey) → stateFits (forgotten k key s) ≡ stateFits s
-  unfolding forgotten
-  fits-forgotten key =
+  in-forgotten : (key : ClientKey) → serverFits (s .config) (s .limits) (withPending v (removeBy pairs keyOf (keyOf key) (v .pending))) ≡ true
+  in-forgotten key =
       let t = keys (s .config .clients) in
       let x : List ClientKey = removeBy pairs keyOf (keyOf key) (v .pending) in
-      let f : tableFits t (s .limits .history) x ≡ true =
-      and-both _ _ (le-leb (length x) (s .limits .history) (omega (arith, remove-most pairs keyOf (keyOf key) (v .pending), leb-true (length (v .pending)) (s .limits .history) (and-left _ _ (test 7)))))
-      (and-both _ _ (every-remove pairs keyOf (t .row .good) (keyOf key) (v .pending) (and-left _ _ (and-right _ _ (test 7)))) (rising-remove pairs keyOf (keyOf key) (v .pending) (and-right _ _ (and-right _ _ (test 7))))) in
-      fits-keys (removeBy pairs keyOf (keyOf key)) ∙ ap (λ (a : Bool). a and stateFits s) f ∙ true-and (stateFits s)
+      in-keys x
+      ∙ and-both _ _ (le-leb (length x) (s .limits .history) (omega (arith, remove-most pairs keyOf (keyOf key) (v .pending), leb-true (length (v .pending)) (s .limits .history) (and-left _ _ (test 7)))))
+      (and-both _ _ (every-remove pairs keyOf (t .row .good) (keyOf key) (v .pending) (and-left _ _ (and-right _ _ (test 7)))) (rising-remove pairs keyOf (keyOf key) (v .pending) (and-right _ _ (and-right _ _ (test 7)))))
+
+  pub fits-forgotten : (key : ClientKey) → stateFits (forgotten k key s) ≡ stateFits s
+  unfolding forgotten
+  fits-forgotten key = fits-on-server s k h i (λ v. withPending v (removeBy pairs keyOf (keyOf key) (v .pending))) ∙ ap (λ (t : Bool). t and stateFits s) (in-forgotten key) ∙ true-and (stateFits s)
+
+  pub kept-forgotten : (key : ClientKey) → ServersFit (forgotten k key s)
+  unfolding forgotten
+  kept-forgotten key = servers-kept s k h i (λ v. withPending v (removeBy pairs keyOf (keyOf key) (v .pending))) (in-forgotten key)
 
   -- all keys taken out
+  in-cleared : serverFits (s .config) (s .limits) (withPending v []) ≡ true
+  unfolding chain
+  in-cleared = in-keys [] ∙ and-both _ _ (le-leb 0 (s .limits .history) (omega arith)) (and-both _ _ refl refl)
+
   pub fits-pending-cleared : stateFits (pendingCleared k s) ≡ stateFits s
-  unfolding pendingCleared chain _and_
-  fits-pending-cleared = fits-keys (λ x. []) ∙ ap (λ (a : Bool). (a and (true and true)) and stateFits s) (le-leb 0 (s .limits .history) (omega arith))
+  unfolding pendingCleared
+  fits-pending-cleared = fits-on-server s k h i (λ v. withPending v []) ∙ ap (λ (t : Bool). t and stateFits s) in-cleared ∙ true-and (stateFits s)
+
+  pub kept-pending-cleared : ServersFit (pendingCleared k s)
+  unfolding pendingCleared
+  kept-pending-cleared = servers-kept s k h i (λ v. withPending v []) in-cleared
