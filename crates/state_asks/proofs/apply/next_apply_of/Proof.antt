@@ -1,4 +1,4 @@
--- Made by tools/uniform from proofs.txt, not by hand: 3a9796b56a80917f
+-- Made by tools/uniform from proofs.txt, not by hand: 68da416cb82da6f7
 use Rattle.state_asks.specs.Laws.{next-apply-read}
 use borrow.Author.Needs.{needs}
 use Rattle.state_asks.proofs.apply.next_apply_of.Statement.{statement}
@@ -8,13 +8,13 @@ pub next-apply-of-spec : {M : Type 1} → statement M
 next-apply-of-spec =
     tie.close
     (tie.spec
-    (λ c κs. search (next-apply-read, needs))  -- block-at-requires
-    (λ c. search (next-apply-read, needs))  -- add-at
-    (λ c. search (next-apply-read, needs))  -- mul-a
-    (λ c. search (next-apply-read, needs))  -- add-e
-    (λ c. search (next-apply-read, needs))  -- mul-e
-    (λ c. search (next-apply-read, needs))  -- sub-load
-    (λ c. search (next-apply-read, needs))  -- part-load-start
-    (λ c. search (next-apply-read, needs))  -- part-load-end
-    (λ c κs. search (next-apply-read, needs))  -- load-requires
-    (λ c. search (next-apply-read, needs)))  -- returns
+    (λ c κs. search needs)  -- block-at-requires
+    (λ c. search needs)  -- add-at
+    (λ c. search needs)  -- mul-a
+    (λ c. search needs)  -- add-e
+    (λ c. search needs)  -- mul-e
+    (λ c. search needs)  -- sub-load
+    (λ c. search needs)  -- part-load-start
+    (λ c. search needs)  -- part-load-end
+    (λ c κs. search needs)  -- load-requires
+    (λ c. next-apply-read _ _ _ _ _ (c .before .before .before .before .pre .1) (c .before .before .block-at .ensures) (c .load .ensures)))  -- returns

@@ -1,4 +1,4 @@
--- Made by tools/uniform from proofs.txt, not by hand: 0a791cdbdd80c38c
+-- Made by tools/uniform from proofs.txt, not by hand: 97c929a937402366
 use Prim.Native.Nat.{_-_}
 use Rattle.state_asks.specs.DurabilityLaws.{Filling, filling-start, filling-turn, filling-done}
 use borrow.Author.Needs.{needs}
@@ -17,11 +17,11 @@ applied-up-to-spec =
     (tie.spec
     Inv-loop
     μ-loop
-    (λ c. search (filling-start, filling-done, needs))  -- loop-holds
-    (λ c κs. search (filling-start, filling-done, needs))  -- applied-of-requires
-    (λ c. search (filling-start, filling-done, needs))  -- mul-up-to
-    (λ c. search (filling-start, filling-done, needs))  -- array-write-up-to
-    (λ c. search (filling-start, filling-done, needs))  -- add-k
-    (λ c. search (filling-start, filling-done, needs))  -- loop-less
+    (λ c. filling-start _ _)  -- loop-holds
+    (λ c κs. search (filling-done, needs))  -- applied-of-requires
+    (λ c. search (filling-done, needs))  -- mul-up-to
+    (λ c. search (filling-done, needs))  -- array-write-up-to
+    (λ c. search (filling-done, needs))  -- add-k
+    (λ c. search (filling-done, needs))  -- loop-less
     (λ c. filling-turn (c .before .before .loop .inv) (search needs) (search needs) (c .applied-of .ensures))  -- loop-again
-    (λ c. search (filling-start, filling-done, needs)))  -- returns
+    (λ c. search (filling-done, needs)))  -- returns

@@ -1,4 +1,4 @@
--- Made by tools/uniform from proofs.txt, not by hand: bfd6ae060992f548
+-- Made by tools/uniform from proofs.txt, not by hand: bb85a4bef5b7ee6d
 use Rattle.state_asks.specs.WriteLaws.{write-count-read}
 use borrow.Author.Needs.{needs}
 use Rattle.state_asks.proofs.writes.write_count.Statement.{statement}
@@ -8,12 +8,12 @@ pub write-count-spec : {M : Type 1} → statement M
 write-count-spec =
     tie.close
     (tie.spec
-    (λ c κs. search (write-count-read, needs))  -- block-at-requires
-    (λ c. search (write-count-read, needs))  -- mul-a
-    (λ c. search (write-count-read, needs))  -- add-e
-    (λ c. search (write-count-read, needs))  -- mul-e
-    (λ c. search (write-count-read, needs))  -- sub-load
-    (λ c. search (write-count-read, needs))  -- part-load-start
-    (λ c. search (write-count-read, needs))  -- part-load-end
-    (λ c κs. search (write-count-read, needs))  -- load-requires
-    (λ c. search (write-count-read, needs)))  -- returns
+    (λ c κs. search needs)  -- block-at-requires
+    (λ c. search needs)  -- mul-a
+    (λ c. search needs)  -- add-e
+    (λ c. search needs)  -- mul-e
+    (λ c. search needs)  -- sub-load
+    (λ c. search needs)  -- part-load-start
+    (λ c. search needs)  -- part-load-end
+    (λ c κs. search needs)  -- load-requires
+    (λ c. write-count-read _ _ _ _ _ (c .before .before .before .before .pre .1) (c .before .before .block-at .ensures) (c .load .ensures)))  -- returns
