@@ -24,11 +24,11 @@ use Rattle.state.specs.Server.{stateOfServer}
 use Rattle.state.specs.Area.{Area, capacityOf}
 use Rattle.state.specs.Fitting.{area-fits, laid-limits}
 use Rattle.state.specs.FitsBy.{fits-test, server-count, server-fits-at, fits-server-one}
-use Rattle.state.specs.Lens.{server-same, fits-on-server}
+use Rattle.state.specs.Lens.{server-same, fits-on-server, servers-fit}
 use Rattle.state.specs.Changes.{AreaOf, Changes, Reads, judged}
 use Rattle.state_server.specs.Servers.{serverStateAt, serverStateSet}
 use Rattle.state_server.specs.ServerLaws.{server-state-set}
-use Rattle.state_queue.specs.Events.{queueRoom, eventInRange, pushed}
+use Rattle.state_queue.specs.Events.{plain, queueRoom, eventInRange, pushed}
 use Rattle.state_queue.specs.Fits.{fits-push}
 use Rattle.sim_outputs.specs.declared.Sum.{Sum}
 use Rattle.sim_outputs.specs.declared.Sender.{Sender}
@@ -101,7 +101,7 @@ event-tests : (t u : Bool) {k a b d i m : Bool} → k ≡ true → a ≡ true �
 event-tests t u {k} {a} {b} {d} {i} {m} hk ha hb hd hi hm = simp (hk, ha, hb, hd, hi, hm, true-and, and-true)
 
 timer-event : (s : State) (k : ℕ) (t : Timer) (n at : ℕ) → s .config .servers ≤ 8 → k < s .config .servers → eventInRange s (timerEvent k t n at) ≡ (word at and word n)
-unfolding eventInRange
+unfolding eventInRange plain
 timer-event s k Election n at o i =
     event-tests (word at) (word n) refl (lt-ltb k (2 ^ 64) (omega arith)) refl refl (lt-ltb k (s .config .servers) i)
     (and-both _ _ refl (and-both _ _ (le-leb 0 (messageRoom (s .limits .message) (event.Timer k Election n)) (omega arith)) refl))
@@ -122,7 +122,7 @@ module _ {b : List ℕ} {s : State} (h : Area b s) (k : ℕ) (i : k < s .config 
   unfolding generationSet
   fits-generation =
       let f = area-fits h in
-      fits-on-server s k (λ v. withGeneration v t n) (server-count s f) i (fits-test s f 5)
+      fits-on-server s k (servers-fit s f) i (λ v. withGeneration v t n)
       ∙ ap₂ (λ (x y : Bool). x and y) (generation-fits (s .config) (s .limits) (serverAt s k) t n (server-fits-at s f k i)) f ∙ and-true (word n)
 
   room-same : queueRoom 1 (generationSet k t n s) ≡ queueRoom 1 s
@@ -151,7 +151,7 @@ unfolding cancelTimer generationSet
 cancelled s k t = server-same s k (λ v. raised v t) (λ v. withGeneration v t (generationOf (serverAt s k) t + 1)) (raised-is (serverAt s k) t)
 
 pub timer-set : (s : State) (k : ℕ) (t : Timer) (after : ℕ) → setTimer s k t (record { 0 = after }) ≡ timerSet k t (generationOf (serverAt s k) t + 1) (s .now .0 + after) s
-unfolding setTimer timerSet pushed cancelTimer
+unfolding setTimer timerSet pushed cancelTimer plain
 timer-set s k t after = ap (pushed (timerEvent k t (generationOf (serverAt s k) t + 1) (s .now .0 + after))) (cancelled s k t)
 
 -- ---- cancelling
