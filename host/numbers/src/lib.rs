@@ -329,6 +329,21 @@ pub fn settings_of(settings: &Settings) -> SimConfig {
     }
 }
 
+/// The counts that a run is started with.
+pub fn capacities(settings: &port::Settings, limits: &port::Limits) -> port::Capacities {
+    port::Capacities {
+        refusal: 0,
+        servers: settings.servers,
+        clients: settings.clients,
+        log: limits.log,
+        payload: limits.payload,
+        message: limits.message,
+        events: limits.events,
+        writes: limits.writes,
+        history: limits.history,
+    }
+}
+
 #[cfg(test)]
 mod tests {
     use super::*;
@@ -374,20 +389,5 @@ mod tests {
         let numbers = violation(Some(&reported));
         assert_eq!((numbers.time, numbers.check, numbers.count), (17, 6, 5));
         assert_eq!(numbers.numbers, [1, 2, 3, 40, 39]);
-    }
-}
-
-/// The counts that a run is started with.
-pub fn capacities(settings: &port::Settings, limits: &port::Limits) -> port::Capacities {
-    port::Capacities {
-        refusal: 0,
-        servers: settings.servers,
-        clients: settings.clients,
-        log: limits.log,
-        payload: limits.payload,
-        message: limits.message,
-        events: limits.events,
-        writes: limits.writes,
-        history: limits.history,
     }
 }
