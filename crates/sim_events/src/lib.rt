@@ -35,7 +35,7 @@ fn runs(status: StatusOption) -> bool
 }
 
 // Whether the server at a place runs.
-fn runs_at(area: &[u8], f: Capacity, slot: u64) -> bool
+pub fn runs_at(area: &[u8], f: Capacity, slot: u64) -> bool
     requires { ⌜ Inside (now area) f ⌝ }
     requires { ⌜ slot < f .servers ⌝ }
     ensures { λ r. ⌜ Reads (now (area .entry)) f r (runsAt slot) ⌝ }
