@@ -1,11 +1,11 @@
 -- Question 10 of an event: the state after it fits where its test is true, if the state before it fits; and an event leaves the count of events. Assumes nothing.
 use mathlib.Core.Path.{_≡_, refl, sym, ap, ap₂, _∙_}
 use mathlib.Core.Bool.{Bool, true, false, not, _&&_}
-use mathlib.Core.List.{List, []}
+use mathlib.Core.List.{List}
 use mathlib.Core.Option.{Option, none, some}
 use Prim.Native.Nat.{ℕ, _+_, _-_, _^_, _≤_, _<_}
 use native.Mathlib.Omega.{arith}
-use lib.Dec.{eqb, leb, ltb}
+use lib.Dec.{eqb}
 use borrow.Author.Tests.{lt-ltb}
 use Rattle.laws.specs.Bools.{pick, pick-both, cases, _and_, and-both, and-true, true-and}
 use Rattle.laws.specs.Decides.{false-true}
@@ -20,12 +20,11 @@ use Rattle.config.specs.declared.SimConfig.{SimConfig}
 use Rattle.config.specs.declared.Limits.{Limits}
 use Rattle.metrics.specs.Metrics.{deliverToLeader}
 use Rattle.metrics.specs.Laws.{delivered-in-range}
-use Rattle.layout.specs.Keys.{keys}
 use Rattle.queue.specs.Range.{word}
 use Rattle.queue.specs.declared.Event.{Event}
 use Rattle.queue.specs.declared.Event.the-variants as event
 use Rattle.model.specs.State.{State, Phase, fromClient, startInput, messageInput, timerInput, proposeInput, nothing, closed, writing, serverAt}
-use Rattle.model.specs.Fields.{withMetrics, withPhase}
+use Rattle.model.specs.Fields.{withPhase}
 use Rattle.model.specs.Simulation.{Moved, running, contends, generationOf, idle, startServer, openedTimer, deliver, clientArrive, openMessage, openProposal, process}
 use Rattle.model.specs.Fits.{stateFits, phaseFits}
 use Rattle.state.specs.FitsBy.{fits-test}

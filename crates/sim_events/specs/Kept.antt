@@ -1,9 +1,9 @@
 -- What an event of a client leaves as it was: settings, limits, the phase, the count of events. Assumes nothing.
 use mathlib.Core.Path.{_≡_, refl, sym, ap, _∙_}
-use mathlib.Core.Bool.{Bool, true, _&&_}
+use mathlib.Core.Bool.{true, _&&_}
 use mathlib.Core.List.{List, []}
 use mathlib.Core.Option.{Option, none, some}
-use Prim.Native.Nat.{ℕ, _+_}
+use Prim.Native.Nat.{ℕ}
 use lib.Dec.{eqb}
 use lib.ListN.{length}
 use Rattle.laws.specs.Bools.{pick-both, true-and}

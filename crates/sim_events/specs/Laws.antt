@@ -3,12 +3,9 @@ use mathlib.Core.Path.{_≡_, refl, sym, ap, ap₂, subst, _∙_}
 use mathlib.Core.Bool.{Bool, true, false, not, _&&_}
 use mathlib.Core.List.{List, []}
 use mathlib.Core.Option.{Option, none, some}
-use Prim.Native.Nat.{ℕ, _+_, _-_, _^_, _≤_, _<_}
-use native.Mathlib.Omega.{arith}
+use Prim.Native.Nat.{ℕ, _+_, _-_}
 use lib.Dec.{eqb}
-use lib.ListN.{length}
-use Rattle.laws.specs.Bools.{pick, pick-both, cases, _and_, and-right}
-use Rattle.laws.specs.Decides.{false-true}
+use Rattle.laws.specs.Bools.{pick, pick-both, _and_, and-right}
 use Rattle.laws.specs.Lists.{isSome}
 use Rattle.units.specs.declared.NodeId.{NodeId}
 use Rattle.protocol.specs.declared.Status.{Status}
@@ -16,13 +13,12 @@ use Rattle.protocol.specs.declared.Timer.{Timer}
 use Rattle.protocol.specs.declared.Timer.the-variants.{Election, Heartbeat}
 use Rattle.protocol.specs.declared.Role.{Role}
 use Rattle.protocol.specs.declared.Role.the-variants.{Follower, Candidate, Leader}
-use Rattle.client.specs.declared.ClientKey.{ClientKey}
 use Rattle.metrics.specs.declared.Metrics.{Metrics}
 use Rattle.metrics.specs.declared.Counted.{Counted}
 use Rattle.metrics.specs.Metrics.{countersFit, deliverToLeader, counted}
 use Rattle.metrics.specs.Laws.{counters-fit, counted-fits}
 use Rattle.queue.specs.declared.Event.the-variants as event
-use Rattle.model.specs.State.{State, Server, Phase, fromClient, messageInput, timerInput, proposeInput, nothing, writing, serverAt, slotOf}
+use Rattle.model.specs.State.{State, Server, Phase, fromClient, messageInput, timerInput, proposeInput, nothing, writing, serverAt}
 use Rattle.model.specs.Fields.{withMetrics, withPhase}
 use Rattle.model.specs.Simulation.{Moved, openMessage, openTimer, openProposal, running, contends, generationOf, idle, startServer, openedTimer, deliver, clientArrive, process}
 use Rattle.model.specs.Fits.{stateFits}
@@ -35,7 +31,6 @@ use Rattle.state.specs.Area.{Area, capacityOf}
 use Rattle.state.specs.Server.{optionStatus, stateOfServer}
 use Rattle.state.specs.Fitting.{area-fits}
 use Rattle.state.specs.FitsBy.{fits-test}
-use Rattle.state.specs.Lens.{area-of}
 use Rattle.state.specs.Changes.{AreaOf, Changes, Reads}
 use Rattle.state_header.specs.Header.{metricsOf, metricsSet, phaseSet, SetsPhase}
 use Rattle.state_header.specs.Laws.{fits-phase}
@@ -43,20 +38,14 @@ use Rattle.state_server.specs.Servers.{serverStateAt, statusAt, pendingRoom, re
 use Rattle.answers.specs.declared.InputNumbers.{InputNumbers}
 use Rattle.answers.specs.Answers.{inputOf, messageNumbers}
 use Rattle.sim_outputs.specs.Timers.{generationIn}
+use Rattle.sim_clients.specs.EventLaws.{not-true, not-false}
+use Rattle.sim_clients.specs.ReplyLaws.{counted-is}
 use Rattle.sim_owed.specs.declared.Owed.the-variants as owed
 use Rattle.sim_owed.specs.Servers.{Opens, owedOf, startAt}
 use Rattle.sim_owed.specs.Closes.{statusRuns, runsAt, idleAt}
 use Rattle.sim_owed.specs.ServerLaws.{opens-is}
-use Rattle.sim_events.specs.Moves.{processed, Processes, inputOpened, messageOpen, timerOpen, proposalOpen, freshIn, firesIn, roleContends, statusContends, ServerId, deliveryRoom, deliverTest, deliveryCounted, arriveTest}
+use Rattle.sim_events.specs.Moves.{processed, Processes, inputOpened, messageOpen, timerOpen, proposalOpen, freshIn, firesIn, roleContends, statusContends, deliveryRoom, deliverTest, deliveryCounted, arriveTest}
 use Rattle.sim_events.specs.Kept.{Keeps, same, phase-kept}
-
-not-true : (t : Bool) → not t ≡ true → t ≡ false
-not-true true h = absurd (false-true h)
-not-true false h = refl
-
-not-false : (t : Bool) → not t ≡ false → t ≡ true
-not-false true h = refl
-not-false false h = absurd (false-true (sym h))
 
 -- ---- a server's status
 
@@ -235,10 +224,6 @@ module _ (b : List ℕ) (F : Capacity) (to : NodeId) (entries : ℕ) (x : Status
   deliver-asked fits n r = record {
     to = λ s h ef. r .to s h ef ∙ sym (ap (λ (t : Bool). pick t (deliveryRoom entries s) true) (sym (e ∙ contends-read b F (to .0 - 1) x q s h ef) ∙ not-false u n));
   }
-
-counted-is : (m m′ : Metrics) → countersFit m′ ≡ true → counted m m′ .metrics ≡ m′
-unfolding counted
-counted-is m m′ t = ap (λ (u : Bool). let x : Counted = pick u (record { fits = true; metrics = m′ }) (record { fits = false; metrics = m }) in x .metrics) t
 
 pub uncounted : (b : List ℕ) (F : Capacity) (due : Bool) (entries : ℕ) → not due ≡ true → Changes b b F (deliveryCounted due entries)
 unfolding deliveryCounted

@@ -10,7 +10,6 @@ use Rattle.units.specs.declared.NodeId.{NodeId}
 use Rattle.protocol.specs.declared.Timer.{Timer}
 use Rattle.protocol.specs.declared.Role.{Role}
 use Rattle.protocol.specs.declared.Role.the-variants.{Follower, Candidate, Leader}
-use Rattle.client.specs.declared.ClientKey.{ClientKey}
 use Rattle.metrics.specs.Metrics.{countersFit, deliverToLeader}
 use Rattle.queue.specs.declared.Event.{Event}
 use Rattle.model.specs.State.{State, fromClient, messageInput, timerInput, proposeInput, nothing, writing, serverAt, slotOf}

@@ -1,5 +1,4 @@
 // A client's command reaches a server: where it runs its key is registered, and a proposal opens.
-ghost use mathlib.Core.Path.{_≡_};
 ghost use mathlib.Core.List.{[]};
 ghost use Prim.Native.Nat.{_<_};
 ghost use Rattle.queue.specs.declared.Event.the-variants.{ClientArrive};

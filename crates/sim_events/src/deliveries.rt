@@ -1,6 +1,5 @@
 // A message reaches a server: a stopped one loses it.
 ghost use mathlib.Core.Path.{_≡_};
-ghost use Prim.Native.Nat.{_≤_, _<_};
 ghost use Rattle.queue.specs.declared.Event.the-variants.{Deliver};
 ghost use Rattle.state.specs.Changes.{Inside, Reads, Changes};
 ghost use Rattle.sim_events.specs.Moves.{roleContends, statusContends, ServerId, deliveryRoom, deliverTest, deliveryCounted, Processes};

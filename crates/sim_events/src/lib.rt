@@ -2,7 +2,7 @@
 // state fits is asked before the event is taken.
 ghost use mathlib.Core.Path.{_≡_};
 ghost use mathlib.Core.List.{[]};
-ghost use Prim.Native.Nat.{_≤_, _<_};
+ghost use Prim.Native.Nat.{_<_};
 ghost use Rattle.queue.specs.declared.Event.the-variants.{Start, Timer as TimerEvent};
 ghost use Rattle.state.specs.Changes.{Inside, Reads, Changes};
 ghost use Rattle.sim_owed.specs.Servers.{Opens};
