@@ -4,7 +4,16 @@ ghost use mathlib.Core.Path.{_≡_};
 ghost use Prim.Native.Nat.{_<_};
 ghost use Rattle.state.specs.Changes.{Reads, Changes};
 ghost use Rattle.sim_outputs.specs.Outputs.{Passed};
-ghost use Rattle.sim_clients.specs.ClientEvents.{targetPut, awaitsIn, Begins, sendTest, clientSent, againTest, clientRetried, clientTimedOut};
+ghost use Rattle.sim_clients.specs.ClientEvents.{
+  targetPut,
+  awaitsIn,
+  Begins,
+  sendTest,
+  clientSent,
+  againTest,
+  clientRetried,
+  clientTimedOut,
+};
 use clients::Client;
 use clients::OutstandingOption;
 use state::Capacity;

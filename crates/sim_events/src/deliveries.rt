@@ -2,7 +2,15 @@
 ghost use mathlib.Core.Path.{_≡_};
 ghost use Rattle.queue.specs.declared.Event.the-variants.{Deliver};
 ghost use Rattle.state.specs.Changes.{Inside, Reads, Changes};
-ghost use Rattle.sim_events.specs.Moves.{roleContends, statusContends, ServerId, deliveryRoom, deliverTest, deliveryCounted, Processes};
+ghost use Rattle.sim_events.specs.Moves.{
+  roleContends,
+  statusContends,
+  ServerId,
+  deliveryRoom,
+  deliverTest,
+  deliveryCounted,
+  Processes,
+};
 use crate::open_message;
 use crate::runs;
 use answers::InputNumbers;

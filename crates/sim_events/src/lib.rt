@@ -1,5 +1,5 @@
-// What an event does once it is taken (process of simulation.rs), over an area: the state after it, and the input that it opens. Whether that
-// state fits is asked before the event is taken.
+// What an event does once it is taken (process of simulation.rs), over an area: the state after it, and the input that it opens. Whether
+// that state fits is asked before the event is taken.
 ghost use mathlib.Core.Path.{_≡_};
 ghost use mathlib.Core.List.{[]};
 ghost use Prim.Native.Nat.{_<_};
@@ -7,7 +7,15 @@ ghost use Rattle.queue.specs.declared.Event.the-variants.{Start, Timer as Timer
 ghost use Rattle.state.specs.Changes.{Inside, Reads, Changes};
 ghost use Rattle.sim_owed.specs.Servers.{Opens};
 ghost use Rattle.sim_owed.specs.Closes.{statusRuns, runsAt};
-ghost use Rattle.sim_events.specs.Moves.{processed, freshIn, firesIn, inputOpened, messageOpen, timerOpen, proposalOpen};
+ghost use Rattle.sim_events.specs.Moves.{
+  processed,
+  freshIn,
+  firesIn,
+  inputOpened,
+  messageOpen,
+  timerOpen,
+  proposalOpen,
+};
 use answers::InputNumbers;
 use answers::opened;
 use protocol::Timer;

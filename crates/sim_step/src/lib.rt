@@ -112,8 +112,8 @@ fn step_passed(area: &mut [u8], f: Capacity, deadline: u64, buffer: &mut [u8]) -
     }
 }
 
-// The first event at or before the deadline happens; where there is none, the time rises to the deadline. The bytes of a message that opens go to the
-// front of the buffer.
+// The first event at or before the deadline happens; where there is none, the time rises to the deadline. The bytes of a message that opens
+// go to the front of the buffer.
 pub fn step_in(area: &mut [u8], g: Gate, deadline: u64, buffer: &mut [u8]) -> SteppedAnswer
     requires { ⌜ Gated (now area) g ⌝ }
     ensures { λ r. ⌜ StepMade (now (area .entry)) (now (area .exit)) deadline (now (buffer .entry)) (now (buffer .exit)) r ⌝ }
