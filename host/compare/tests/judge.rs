@@ -117,7 +117,8 @@ fn is_raised<P: Port + Default>() {
     }
     assert!(full.iter().all(|raised| raised.to == 2 * raised.from));
     for capacity in [Capacity::Events, Capacity::Writes, Capacity::History] {
-        assert!(full.iter().any(|raised| raised.capacity == capacity));
+        let met = full.iter().any(|raised| raised.capacity == capacity);
+        assert!(met, "{capacity} in {full:?}");
     }
 }
 

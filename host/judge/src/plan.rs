@@ -65,7 +65,7 @@ pub struct Plan {
 }
 
 impl Default for Plan {
-    /// Three servers, three clients, every fault.
+    /// Three servers, three clients, every fault, five seconds.
     fn default() -> Self {
         Plan {
             settings: Settings {
@@ -75,7 +75,7 @@ impl Default for Plan {
                 election_timeout_max: 200 * MS,
                 max_entries_per_message: 8,
                 max_entries_in_flight: 1_024,
-                one_way_delay: 20 * MS,
+                one_way_delay: 7_500_000,
                 clients: 3,
                 command_bytes: 16,
                 client_timeout: 500 * MS,
@@ -88,12 +88,12 @@ impl Default for Plan {
                 log: 512,
                 payload: 16,
                 message: 256,
-                events: 128,
+                events: 256,
                 writes: 64,
                 history: 512,
             },
             faults: Faults::ALL,
-            time: 2_500 * MS,
+            time: 5_000 * MS,
             patience: 3_000,
             events: 1_000_000,
         }
@@ -299,20 +299,19 @@ impl<D: Driver> Driven<'_, D> {
             .schedule(back, &Fault::of(kinds::fault::RESTART, id))
     }
 
-    /// Two candidates at once, and crashes with quick restarts while the votes are on their way.
+    /// Two candidates at once, and crashes with quick restarts of the others while the votes are on
+    /// their way: who does not remember its vote has a second one.
     fn contest(&mut self, now: u64) -> Result<(), D::Stop> {
         let servers = self.plan.settings.servers;
         let delay = self.plan.settings.one_way_delay;
-        let leader = self.driver.leader();
-        let others: Vec<u64> = (1..=servers).filter(|id| Some(*id) != leader).collect();
-        let first = self.below(servers) as usize;
-        for id in others.iter().cycle().skip(first).take(2.min(others.len())) {
-            self.driver.fire_timer(*id, Timer::Election)?;
-        }
+        let first = self.server();
+        let second = 1 + first % servers;
         for id in 1..=servers {
-            if self.one_in(2) {
-                let at = now + delay / 2 + self.below(2 * delay);
-                let back = at + self.below(delay / 4);
+            if id == first || id == second {
+                self.driver.fire_timer(id, Timer::Election)?;
+            } else if !self.one_in(4) {
+                let at = now + delay / 2 + self.below(delay);
+                let back = at + self.below(delay / 8);
                 self.driver
                     .schedule(at, &Fault::of(kinds::fault::CRASH, id))?;
                 self.driver
@@ -352,7 +351,7 @@ impl<D: Driver> Driven<'_, D> {
         let mut contest = if self.plan.faults.contests { 0 } else { end };
         while self.driver.longest_log() < self.plan.long_log() {
             if self.step(contest.min(end))? {
-                if self.plan.faults.calls && self.one_in(48) {
+                if self.plan.faults.calls && self.one_in(24) {
                     self.direct_call()?;
                 }
                 if self.one_in(512) {

@@ -59,21 +59,10 @@ pub struct Simulation<N, P, W = ()> {
 }
 
 impl<N: Consensus, P: Port, W: Watch> Simulation<N, P, W> {
-    /// Begins a run: the area is made, and every server is started that starts at time zero.
-    ///
-    /// # Errors
-    ///
-    /// Why the run cannot go on, with the run as it is then; none where it did not begin.
-    #[allow(clippy::type_complexity)]
-    pub fn start(
-        port: P,
-        settings: &Settings,
-        limits: &Limits,
-        seed: u64,
-        watch: W,
-    ) -> Result<Self, (Stop, Option<Self>)> {
+    /// A run that is yet to be started, with its area.
+    pub fn new(port: P, settings: &Settings, limits: &Limits, seed: u64, watch: W) -> Self {
         let servers = settings.servers.min(8);
-        let mut simulation = Simulation {
+        Simulation {
             port,
             area: vec![0; area_bytes(settings, limits)],
             buffer: vec![0; limits.message.max(limits.payload).min(1 << 12) as usize],
@@ -89,24 +78,26 @@ impl<N: Consensus, P: Port, W: Watch> Simulation<N, P, W> {
             now: 0,
             told: 0,
             due: VecDeque::new(),
-        };
-        let opened = (simulation.port).start(&mut simulation.area, settings, limits, seed);
+        }
+    }
+
+    /// Starts the run, and every server that starts at time zero. It is called first, and once.
+    ///
+    /// # Errors
+    ///
+    /// Why the run cannot go on; so with every call below. Where the call itself was refused, there
+    /// is no run to read.
+    pub fn start(&mut self) -> Result<(), Stop> {
+        let opened = (self.port).start(&mut self.area, &self.settings, &self.limits, self.seed);
         if opened.refusal != 0 {
-            return Err((simulation.not_begun(opened.refusal), None));
+            return Err(self.not_started(opened.refusal));
         }
-        match simulation.follow(opened.input) {
-            Ok(_) => Ok(simulation),
-            Err(stop) => Err((stop, Some(simulation))),
-        }
+        self.follow(opened.input).map(|_| ())
     }
 
     // ----- Running -------------------------------------------------------------------
 
     /// Takes one event that is due by the deadline, and follows it. Returns whether there was one.
-    ///
-    /// # Errors
-    ///
-    /// Why the run cannot go on; so with every call below.
     pub fn step(&mut self, deadline: u64) -> Result<bool, Stop> {
         let stepped = (self.port).step(&mut self.area, deadline, &mut self.buffer);
         self.own("step", stepped.refusal)?;
@@ -300,7 +291,7 @@ impl<N: Consensus, P: Port, W: Watch> Simulation<N, P, W> {
     }
 
     /// The start was refused: there is nothing to read. Only events can be too many for a table.
-    fn not_begun(&self, refusal: u64) -> Stop {
+    fn not_started(&self, refusal: u64) -> Stop {
         let call = "start";
         let from = self.limits.events;
         if refusal == kinds::refusal::ROOM && from < Capacity::MOST {

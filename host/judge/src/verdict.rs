@@ -75,20 +75,13 @@ fn attempt<N: Consensus, P: Port + Default>(
     seed: u64,
     watch: &mut impl Watch,
 ) -> Result<Verdict, Failed> {
-    let started = Simulation::<N, P, _>::start(P::default(), &plan.settings, limits, seed, watch);
-    let (run, stop) = match started {
-        Ok(mut run) => {
-            let stop = drive(plan, seed, &mut run).err();
-            (Some(run), stop)
-        }
-        Err((stop, run)) => (run, Some(stop)),
-    };
-    match (stop, run) {
-        (None, Some(run)) => Ok(told(run, seed, None)),
-        (Some(Stop::Node(fault)), Some(run)) => Ok(told(run, seed, Some(fault))),
-        (Some(Stop::Full(raise)), _) => Err(Failed::Full(raise)),
-        (Some(Stop::Call(refused)), _) => Err(Failed::Refused(refused)),
-        (None | Some(Stop::Node(_)), None) => unreachable!("a run that began is at hand"),
+    let mut run = Simulation::<N, P, _>::new(P::default(), &plan.settings, limits, seed, watch);
+    let made = run.start().and_then(|()| drive(plan, seed, &mut run));
+    match made {
+        Ok(()) => Ok(told(run, seed, None)),
+        Err(Stop::Node(fault)) => Ok(told(run, seed, Some(fault))),
+        Err(Stop::Full(raise)) => Err(Failed::Full(raise)),
+        Err(Stop::Call(refused)) => Err(Failed::Refused(refused)),
     }
 }
 
