@@ -21,6 +21,8 @@ const KEPT: u64 = 32;
 pub(crate) struct Server<N> {
     pub(crate) node: Option<N>,
     pub(crate) disk: Disk,
+    /// The last index of a server that was cut, whose disk is read again when it starts.
+    pub(crate) last: u64,
     /// What a watch was told: whether it runs, and its role and term.
     pub(crate) running: bool,
     pub(crate) shown: Option<(Role, Term)>,
@@ -31,6 +33,7 @@ impl<N> Default for Server<N> {
         Server {
             node: None,
             disk: Disk::default(),
+            last: 0,
             running: false,
             shown: None,
         }
@@ -238,7 +241,8 @@ impl<N: Consensus, P: Port, W: Watch> Simulation<N, P, W> {
 
     /// The highest index that any server's log holds.
     pub fn longest_log(&self) -> u64 {
-        let last = self.servers.iter().map(|server| server.disk.last_index().0);
+        let servers = self.servers.iter();
+        let last = servers.map(|server| server.disk.last_index().0.max(server.last));
         last.max().unwrap_or_default()
     }
 
