@@ -12,7 +12,7 @@ use port::{
 use stepwise::Stepwise;
 
 /// The calls over the reference's modules, which also refuse with 10 where the queue or the history
-/// may not have room. They are stricter than document 01: a verdict is the same in any case.
+/// may not have room, by rules of their own: a verdict is the same in any case.
 #[derive(Default)]
 struct Tight {
     calls: Stepwise,
@@ -68,7 +68,7 @@ impl Port for Tight {
     fn seal(&mut self, area: &mut [u8], refused: u64, hinted: u64, leader: u64) -> Sealed {
         let server = self.calls.read_run(area).server;
         let seen = self.calls.read_log(area, server).count;
-        let full = self.history(seen);
+        let full = self.history(seen / 2);
         full.unwrap_or_else(|| self.calls.seal(area, refused, hinted, leader))
     }
 
@@ -172,7 +172,6 @@ fn the_table_that_was_full_is_raised() {
         ("step", Capacity::History),
         ("seal", Capacity::History),
         ("output_send", Capacity::Events),
-        ("output_set_timer", Capacity::Events),
         ("end", Capacity::Events),
         ("schedule", Capacity::Events),
         ("write_put", Capacity::Writes),
