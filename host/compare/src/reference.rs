@@ -19,11 +19,12 @@ pub fn judge<N: Consensus>(plan: &Plan, seed: u64) -> Verdict {
     let mut reference = Reference {
         sim: Simulation::<N>::new(settings, seed),
     };
-    let Ok(()) = drive(plan, seed, &mut reference);
+    let Ok(settled) = drive(plan, seed, &mut reference);
     let sim = &reference.sim;
     let kept = sim.violations().iter().map(Some);
     Verdict {
         seed,
+        settled,
         violations: kept.map(numbers::violation).collect(),
         reported: sim.violation_count(),
         events: sim.events(),
@@ -103,6 +104,10 @@ impl<N: Consensus> Driver for Reference<N> {
         Ok(())
     }
 
+    fn now(&mut self) -> u64 {
+        leaves::nanos(self.sim.now())
+    }
+
     fn leader(&mut self) -> Option<u64> {
         self.sim.leader().map(|(id, _)| id.0)
     }
@@ -113,10 +118,14 @@ impl<N: Consensus> Driver for Reference<N> {
         last.max().unwrap_or_default()
     }
 
-    fn caught_up(&mut self) -> bool {
+    fn acknowledged(&mut self) -> u64 {
         let replies = self.sim.replies().iter();
-        let acknowledged = replies.map(|reply| reply.index).max();
-        let applied = self.sim.ids().iter().map(|id| self.sim.applied(*id)).min();
-        acknowledged <= applied
+        replies.map(|reply| reply.index.0).max().unwrap_or_default()
+    }
+
+    fn applied_by_all(&mut self) -> u64 {
+        let ids = self.sim.ids().iter();
+        let applied = ids.map(|id| self.sim.applied(*id).0);
+        applied.min().unwrap_or_default()
     }
 }

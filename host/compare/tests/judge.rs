@@ -76,11 +76,28 @@ fn passes<P: Port + Default>(seeds: u64) {
     let failed: Vec<_> = verdicts.iter().filter(|v| !v.passed()).collect();
     assert!(failed.is_empty(), "{failed:?}");
     assert!(verdicts.iter().all(|v| v.metrics.client_replies > 10));
+    assert!(verdicts.iter().all(|v| v.settled));
 }
 
 #[test]
 fn the_correct_node_passes() {
     passes::<Stepwise>(100);
+}
+
+/// Many clients leave no moment in which all have caught up, unless power fails everywhere.
+#[test]
+fn a_busy_node_is_not_blamed() {
+    let mut plan = Plan::default();
+    plan.settings.clients = 40;
+    plan.settings.servers = 5;
+    let verdicts = campaign::<Raft<Correct>, Stepwise>(&plan, 0..40, |_| ());
+    let verdicts = verdicts.expect("the plan is accepted");
+    assert!(verdicts.iter().all(Verdict::passed));
+    assert!(verdicts.iter().any(|verdict| verdict.settled));
+    for verdict in &verdicts[..4] {
+        let expected = reference::judge::<Adapted<Raft<Correct>>>(&plan, verdict.seed);
+        same(verdict, &expected);
+    }
 }
 
 fn is_caught<V: Variant, P: Port + Default>() {
@@ -408,7 +425,9 @@ mod linked {
 
     #[test]
     fn a_watch_is_told_everything() {
-        (0..3).for_each(|seed| drop(is_told::<Correct, Library>(seed)));
+        for seed in 0..3 {
+            is_told::<Correct, Library>(seed);
+        }
     }
 
     #[test]

@@ -14,6 +14,9 @@ const FAULTS_BEGIN: u64 = 100 * MS;
 /// The longest time to a quick restart.
 const QUICK: u64 = 50 * MS;
 
+/// How often power fails at every server at the end of a run with many clients, at most.
+const POWER_FAILURES: u64 = 8;
+
 /// Which faults a run has.
 #[derive(Debug, Clone, Copy, PartialEq, Eq)]
 pub struct Faults {
@@ -111,12 +114,14 @@ impl Plan {
         self.time.saturating_mul(8).min(1 << 62)
     }
 
-    /// The log index at which a run is brought to its end, since the log has L places.
+    /// The log index at which a run is brought to its end, since the log has L places: each client
+    /// may add some more by then.
     fn long_log(&self) -> u64 {
-        self.limits.log - self.limits.log / 8
+        let (places, clients) = (self.limits.log, self.settings.clients);
+        places - (places / 8).max(4 * clients).min(places / 2)
     }
 
-    /// The log index at which it ends in any case.
+    /// The log index at which it ends in any case, so that none is put outside the log.
     fn longest_log(&self) -> u64 {
         self.limits.log - self.limits.log / 32
     }
@@ -197,22 +202,29 @@ pub trait Driver {
     /// Looks for the acknowledged commands.
     fn check_durability(&mut self) -> Result<(), Self::Stop>;
 
+    /// The time.
+    fn now(&mut self) -> u64;
+
     /// The server that leads.
     fn leader(&mut self) -> Option<u64>;
 
     /// The highest index that any server's log holds.
     fn longest_log(&mut self) -> u64;
 
-    /// Whether every server has applied what was acknowledged.
-    fn caught_up(&mut self) -> bool;
+    /// The highest index that an acknowledged command has.
+    fn acknowledged(&mut self) -> u64;
+
+    /// The highest index that every server has applied since it last started.
+    fn applied_by_all(&mut self) -> u64;
 }
 
-/// Makes the run of a plan and a seed: faults, then quiet, then both checks.
+/// Makes the run of a plan and a seed: faults, then quiet, then the checks. Returns whether
+/// durability was checked: not, where it could only have been told that the run is not over.
 ///
 /// # Errors
 ///
 /// Why the run could not go on.
-pub fn drive<D: Driver>(plan: &Plan, seed: u64, driver: &mut D) -> Result<(), D::Stop> {
+pub fn drive<D: Driver>(plan: &Plan, seed: u64, driver: &mut D) -> Result<bool, D::Stop> {
     let mut driven = Driven {
         plan,
         driver,
@@ -221,9 +233,24 @@ pub fn drive<D: Driver>(plan: &Plan, seed: u64, driver: &mut D) -> Result<(), D:
     };
     driven.schedule(seed)?;
     driven.faults()?;
-    driven.quiet()?;
+    let settled = driven.quiet()? != End::Busy;
     driver.check_log_matching()?;
-    driver.check_durability()
+    if settled {
+        driver.check_durability()?;
+    }
+    Ok(settled)
+}
+
+/// How a run comes to its end.
+#[derive(Debug, Clone, Copy, PartialEq, Eq)]
+enum End {
+    /// Every server has applied what was acknowledged.
+    CaughtUp,
+    /// A server does not come to apply what was acknowledged long ago: the check says which.
+    Stuck,
+    /// The log or the plan's events are used up, or clients are acknowledged faster than the last
+    /// server applies: that a server is behind shows no mistake.
+    Busy,
 }
 
 /// A run that is being made, with the choices that are left.
@@ -349,7 +376,7 @@ impl<D: Driver> Driven<'_, D> {
     fn faults(&mut self) -> Result<(), D::Stop> {
         let end = self.plan.faults_end();
         let mut contest = if self.plan.faults.contests { 0 } else { end };
-        while self.driver.longest_log() < self.plan.long_log() {
+        while !self.long_log() {
             if self.step(contest.min(end))? {
                 if self.plan.faults.calls && self.one_in(24) {
                     self.direct_call()?;
@@ -368,15 +395,61 @@ impl<D: Driver> Driven<'_, D> {
     }
 
     /// No more faults but those that are due: until every server has applied what was acknowledged,
-    /// or patience is over.
-    fn quiet(&mut self) -> Result<(), D::Stop> {
-        while self.driver.longest_log() < self.plan.long_log() && self.step(self.plan.time)? {}
+    /// or patience is over, or a log is long.
+    fn quiet(&mut self) -> Result<End, D::Stop> {
+        while !self.long_log() && self.step(self.plan.time)? {}
+        if self.long_log() || self.events > self.plan.events {
+            return self.settle();
+        }
+        let before = self.driver.acknowledged();
         for _ in 0..self.plan.patience {
-            if self.driver.caught_up() || self.driver.longest_log() >= self.plan.longest_log() {
-                break;
+            if self.caught_up() {
+                return Ok(End::CaughtUp);
+            }
+            if self.long_log() {
+                return self.settle();
             }
             self.step(self.plan.latest())?;
         }
-        Ok(())
+        if self.driver.applied_by_all() < before {
+            return Ok(End::Stuck);
+        }
+        self.settle()
+    }
+
+    /// Where many clients leave no moment in which all servers have caught up: power fails at every
+    /// server, some times in a row. Until there is a leader again nothing is acknowledged, and what
+    /// was is applied again by all.
+    fn settle(&mut self) -> Result<End, D::Stop> {
+        for _ in 0..POWER_FAILURES {
+            let settings = &self.plan.settings;
+            let back = self.driver.now() + 2 * settings.one_way_delay;
+            let deadline = back + 4 * settings.election_timeout_max + 20 * settings.one_way_delay;
+            for id in 1..=settings.servers {
+                self.driver
+                    .schedule(0, &Fault::of(kinds::fault::CRASH, id))?;
+            }
+            self.driver
+                .schedule(back, &Fault::of(kinds::fault::HEAL_ALL, 0))?;
+            while self.step(deadline)? {
+                if self.driver.longest_log() >= self.plan.longest_log() {
+                    return Ok(End::Busy);
+                }
+                if self.caught_up() {
+                    return Ok(End::CaughtUp);
+                }
+            }
+        }
+        Ok(End::Busy)
+    }
+
+    /// Whether every server has applied what was acknowledged.
+    fn caught_up(&mut self) -> bool {
+        self.driver.acknowledged() <= self.driver.applied_by_all()
+    }
+
+    /// Whether a log is so long that the run is brought to its end.
+    fn long_log(&mut self) -> bool {
+        self.driver.longest_log() >= self.plan.long_log()
     }
 }

@@ -466,6 +466,10 @@ impl<N: Consensus, P: Port, W: Watch> Driver for Simulation<N, P, W> {
         Simulation::check_durability(self)
     }
 
+    fn now(&mut self) -> u64 {
+        self.run().now
+    }
+
     fn leader(&mut self) -> Option<u64> {
         Simulation::leader(self).map(|(id, _)| id.0)
     }
@@ -474,8 +478,12 @@ impl<N: Consensus, P: Port, W: Watch> Driver for Simulation<N, P, W> {
         Simulation::longest_log(self)
     }
 
-    fn caught_up(&mut self) -> bool {
-        self.acknowledged() <= self.applied_by_all()
+    fn acknowledged(&mut self) -> u64 {
+        Simulation::acknowledged(self)
+    }
+
+    fn applied_by_all(&mut self) -> u64 {
+        Simulation::applied_by_all(self)
     }
 }
 

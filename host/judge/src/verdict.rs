@@ -17,6 +17,10 @@ pub struct Verdict {
     pub violations: Vec<Violation>,
     /// All that were reported.
     pub reported: u64,
+    /// Whether durability was checked at the end. Not, where the node broke its contract, or where
+    /// the run came to no moment in which every server had applied what was acknowledged, though
+    /// none was stuck: more clients than it can settle with, or a log that is full.
+    pub settled: bool,
     /// Events taken.
     pub events: u64,
     /// The simulated time at the end, in nanoseconds.
@@ -78,8 +82,8 @@ fn attempt<N: Consensus, P: Port + Default>(
     let mut run = Simulation::<N, P, _>::new(P::default(), &plan.settings, limits, seed, watch);
     let made = run.start().and_then(|()| drive(plan, seed, &mut run));
     match made {
-        Ok(()) => Ok(told(run, seed, None)),
-        Err(Stop::Node(fault)) => Ok(told(run, seed, Some(fault))),
+        Ok(settled) => Ok(told(run, settled, None)),
+        Err(Stop::Node(fault)) => Ok(told(run, false, Some(fault))),
         Err(Stop::Full(raise)) => Err(Failed::Full(raise)),
         Err(Stop::Call(refused)) => Err(Failed::Refused(refused)),
     }
@@ -88,12 +92,13 @@ fn attempt<N: Consensus, P: Port + Default>(
 /// What a run that is over tells.
 fn told<N: Consensus, P: Port, W: Watch>(
     mut run: Simulation<N, P, W>,
-    seed: u64,
+    settled: bool,
     fault: Option<NodeFault>,
 ) -> Verdict {
     let whole = run.run();
     Verdict {
-        seed,
+        seed: whole.seed,
+        settled,
         violations: run.violations(),
         reported: whole.violations,
         events: whole.events,
