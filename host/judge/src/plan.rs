@@ -68,7 +68,8 @@ pub struct Plan {
 }
 
 impl Default for Plan {
-    /// Three servers, three clients, every fault, five seconds.
+    /// Three servers, three clients, every fault, five seconds. The tables are as large as nearly all
+    /// runs need: each call looks at the whole area, so that larger ones cost time.
     fn default() -> Self {
         Plan {
             settings: Settings {
@@ -88,7 +89,7 @@ impl Default for Plan {
                 start_spread: 0,
             },
             limits: Limits {
-                log: 512,
+                log: 384,
                 payload: 16,
                 message: 256,
                 events: 256,
