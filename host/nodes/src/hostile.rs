@@ -6,16 +6,15 @@
 //! nothing to it, bound it: messages are shorter than `max_entries_per_message` bytes, and log
 //! indexes go up to 1 + `max_entries_in_flight` - `max_entries_per_message`.
 
-use std::fmt;
 use std::time::Duration;
 
 use consensus::{
     Command, Config, Consensus, Entry, HardState, LogIndex, NodeId, NotLeader, Output, Payload,
     RequestId, Rng, Role, Status, Storage, Term, Timer,
 };
-use serde::de::{self, SeqAccess};
-use serde::ser::SerializeTuple;
-use serde::{Deserialize, Deserializer, Serialize, Serializer};
+use node::Wire;
+
+use crate::Carried;
 
 /// The longest timer of document 01, in nanoseconds.
 const LONGEST: u64 = 1 << 40;
@@ -26,40 +25,17 @@ const PAYLOAD: u64 = 256;
 /// How many commands a node remembers.
 const REMEMBERED: usize = 4;
 
-/// A message: any bytes. On the wire it is those bytes and nothing more, so that it can have
-/// every length, 0 included.
+/// A message: any bytes.
 #[derive(Debug, Clone, PartialEq, Eq, Hash)]
-pub struct Noise(Vec<u8>);
+pub struct Noise(pub Vec<u8>);
 
-impl Serialize for Noise {
-    fn serialize<S: Serializer>(&self, serializer: S) -> Result<S::Ok, S::Error> {
-        let mut tuple = serializer.serialize_tuple(self.0.len())?;
-        for byte in &self.0 {
-            tuple.serialize_element(byte)?;
-        }
-        tuple.end()
-    }
-}
-
-impl<'de> Deserialize<'de> for Noise {
-    fn deserialize<D: Deserializer<'de>>(deserializer: D) -> Result<Self, D::Error> {
-        deserializer.deserialize_tuple(usize::MAX, Rest)
-    }
-}
-
-/// Takes every byte that is left.
-struct Rest;
-
-impl<'de> de::Visitor<'de> for Rest {
-    type Value = Noise;
-
-    fn expecting(&self, f: &mut fmt::Formatter<'_>) -> fmt::Result {
-        f.write_str("bytes")
+impl Wire for Noise {
+    fn to_bytes(&self) -> Vec<u8> {
+        self.0.clone()
     }
 
-    fn visit_seq<A: SeqAccess<'de>>(self, mut bytes: A) -> Result<Noise, A::Error> {
-        let next = || bytes.next_element().ok().flatten();
-        Ok(Noise(std::iter::from_fn(next).collect()))
+    fn from_bytes(bytes: &[u8]) -> Option<Self> {
+        Some(Noise(bytes.to_vec()))
     }
 }
 
@@ -176,7 +152,7 @@ impl Hostile {
         }
     }
 
-    fn apply<S: Storage>(&mut self, storage: &S) -> Output<Noise> {
+    fn apply<S: Storage>(&mut self, storage: &S) -> Output<Carried<Noise>> {
         let index = match self.rng.below(4) {
             0 => self.rng.below(self.log + 1),
             _ => self.next.min(self.log),
@@ -191,11 +167,11 @@ impl Hostile {
         Output::Apply { index, payload }
     }
 
-    fn output<S: Storage>(&mut self, storage: &S) -> Output<Noise> {
+    fn output<S: Storage>(&mut self, storage: &S) -> Output<Carried<Noise>> {
         match self.rng.below(16) {
             0..6 => Output::Send {
                 to: self.member(),
-                message: Noise(self.bytes(self.message)),
+                message: Carried(Noise(self.bytes(self.message))),
             },
             6..10 => {
                 let bound = if self.one_in(16) {
@@ -222,7 +198,7 @@ impl Hostile {
     }
 
     /// One input, whatever it was.
-    fn act<S: Storage>(&mut self, storage: &mut S) -> Vec<Output<Noise>> {
+    fn act<S: Storage>(&mut self, storage: &mut S) -> Vec<Output<Carried<Noise>>> {
         let writes = match self.rng.below(24) {
             0 => 40,
             _ => self.rng.below(4),
@@ -248,7 +224,7 @@ impl Hostile {
     fn act_or_refuse<S: Storage>(
         &mut self,
         storage: &mut S,
-    ) -> Result<Vec<Output<Noise>>, NotLeader> {
+    ) -> Result<Vec<Output<Carried<Noise>>>, NotLeader> {
         let outputs = self.act(storage);
         if self.one_in(3) {
             let leader = self.anyone();
@@ -260,7 +236,7 @@ impl Hostile {
 }
 
 impl Consensus for Hostile {
-    type Message = Noise;
+    type Message = Carried<Noise>;
 
     fn start<S: Storage>(
         _id: NodeId,
@@ -268,7 +244,7 @@ impl Consensus for Hostile {
         config: &Config,
         seed: u64,
         storage: &mut S,
-    ) -> (Self, Vec<Output<Noise>>) {
+    ) -> (Self, Vec<Output<Carried<Noise>>>) {
         let message = config.max_entries_per_message as u64;
         let mut node = Hostile {
             cluster: cluster.to_vec(),
@@ -292,12 +268,16 @@ impl Consensus for Hostile {
         &mut self,
         storage: &mut S,
         _from: NodeId,
-        _message: Noise,
-    ) -> Vec<Output<Noise>> {
+        _message: Carried<Noise>,
+    ) -> Vec<Output<Carried<Noise>>> {
         self.act(storage)
     }
 
-    fn on_timer<S: Storage>(&mut self, storage: &mut S, _timer: Timer) -> Vec<Output<Noise>> {
+    fn on_timer<S: Storage>(
+        &mut self,
+        storage: &mut S,
+        _timer: Timer,
+    ) -> Vec<Output<Carried<Noise>>> {
         self.act(storage)
     }
 
@@ -305,7 +285,7 @@ impl Consensus for Hostile {
         &mut self,
         storage: &mut S,
         command: Command,
-    ) -> Result<Vec<Output<Noise>>, NotLeader> {
+    ) -> Result<Vec<Output<Carried<Noise>>>, NotLeader> {
         if self.remembered.len() == REMEMBERED {
             self.remembered.remove(0);
         }
@@ -317,7 +297,7 @@ impl Consensus for Hostile {
         &mut self,
         storage: &mut S,
         _request: RequestId,
-    ) -> Result<Vec<Output<Noise>>, NotLeader> {
+    ) -> Result<Vec<Output<Carried<Noise>>>, NotLeader> {
         self.act_or_refuse(storage)
     }
 
@@ -325,13 +305,13 @@ impl Consensus for Hostile {
         self.status
     }
 
-    fn message_kind(_message: &Noise) -> &'static str {
+    fn message_kind(_message: &Carried<Noise>) -> &'static str {
         "Noise"
     }
 
     /// Any 32 bits: the first four bytes.
-    fn entry_count(message: &Noise) -> usize {
-        let first = message.0.iter().take(4).rev();
+    fn entry_count(message: &Carried<Noise>) -> usize {
+        let first = message.0.0.iter().take(4).rev();
         first.fold(0, |count, byte| count << 8 | usize::from(*byte))
     }
 }

@@ -1,13 +1,21 @@
-//! Nodes for the simulator.
+//! Nodes under the reference, and the reference's under the judge.
 //!
-//! [`Raft`] is a small Raft by Figure 2 of the paper. Its parameter is a [`Variant`]: [`Correct`],
-//! or one of four classic mistakes, which a run must show as a violation. [`Hostile`] keeps to no
-//! rule but the limits of document 01.
+//! [`Adapted`] runs a node of the judge under the reference's trait, so that the same node runs on
+//! both sides; [`Raft`] is the embedded one. [`Foreign`] is the inverse: it runs a node that was
+//! written for the reference's trait under the judge, unchanged. [`Hostile`] is such a node; it
+//! keeps to no rule but the limits of document 01.
 
+mod adapted;
+mod carried;
+mod foreign;
 mod hostile;
-mod raft;
-mod variant;
+mod same;
 
+pub use adapted::Adapted;
+pub use carried::Carried;
+pub use foreign::Foreign;
 pub use hostile::{Hostile, Noise};
-pub use raft::{Message, Raft};
-pub use variant::{AppliesEarly, Correct, TermNotSaved, TruncatesTooFar, Variant, VoteNotSaved};
+pub use node::{AppliesEarly, Correct, TermNotSaved, TruncatesTooFar, Variant, VoteNotSaved};
+
+/// The embedded Raft under the reference's trait.
+pub type Raft<V> = Adapted<node::Raft<V>>;

@@ -1,67 +1,34 @@
 //! Messages on the wire.
 
-use consensus::{Command, Consensus, Entry, LogIndex, Payload, Term};
-use nodes::{Correct, Hostile, Message, Noise, Raft};
+use consensus::Consensus;
+use node::{Message, Term};
+use nodes::{Carried, Hostile, Noise};
 
 #[test]
-fn raft_messages_come_back() {
-    let entry = Entry {
-        term: Term(3),
-        payload: Payload::Command(Command(vec![7; 200])),
-    };
-    let noop = Entry {
-        term: Term(u64::MAX),
-        payload: Payload::Noop,
-    };
-    let messages = [
-        Message::RequestVote {
-            term: Term(1),
-            last_index: LogIndex(300),
-            last_term: Term(0),
-        },
-        Message::Vote {
-            term: Term(2),
-            granted: true,
-        },
-        Message::AppendEntries {
-            term: Term(4),
-            prev_index: LogIndex(1),
-            prev_term: Term(3),
-            entries: vec![entry, noop],
-            commit: LogIndex(2),
-            round: 128,
-        },
-        Message::Appended {
-            term: Term(4),
-            success: false,
-            index: LogIndex(0),
-            round: 0,
-        },
-    ];
-    for message in messages {
-        let bytes = postcard::to_allocvec(&message).unwrap();
-        assert_eq!(postcard::from_bytes::<Message>(&bytes), Ok(message));
-    }
-}
-
-#[test]
-fn noise_is_its_bytes() {
+fn a_message_is_its_bytes() {
     for length in [0, 1, 3, 4, 127, 128, 4_096] {
         let bytes: Vec<u8> = (0..length).map(|place: u32| place as u8).collect();
-        let noise = postcard::from_bytes::<Noise>(&bytes).unwrap();
-        assert_eq!(postcard::to_allocvec(&noise).unwrap(), bytes);
+        let message = postcard::from_bytes::<Carried<Noise>>(&bytes).unwrap();
+        assert_eq!(postcard::to_allocvec(&message).unwrap(), bytes);
     }
 }
 
 #[test]
 fn entries_are_counted() {
-    let noise = |bytes: &[u8]| postcard::from_bytes::<Noise>(bytes).unwrap();
+    let noise = |bytes: &[u8]| Carried(Noise(bytes.to_vec()));
     assert_eq!(Hostile::entry_count(&noise(&[])), 0);
     assert_eq!(Hostile::entry_count(&noise(&[2, 1])), 258);
     assert_eq!(Hostile::entry_count(&noise(&[255; 9])), 0xFFFF_FFFF);
+}
+
+#[test]
+fn the_embedded_raft_sends_the_same_bytes_under_the_reference() {
     let vote = Message::Vote {
         term: Term(2),
         granted: true,
     };
-    assert_eq!(Raft::<Correct>::entry_count(&vote), 0);
+    let bytes = postcard::to_allocvec(&Carried(vote.clone())).unwrap();
+    assert_eq!(bytes, postcard::to_allocvec(&vote).unwrap());
+    assert_eq!(postcard::from_bytes(&bytes), Ok(Carried(vote)));
+    assert!(postcard::from_bytes::<Carried<Message>>(&[9]).is_err());
 }

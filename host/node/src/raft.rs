@@ -6,13 +6,12 @@
 use std::collections::{BTreeMap, BTreeSet};
 use std::marker::PhantomData;
 
-use consensus::{
-    Command, Config, Consensus, Entry, HardState, LogIndex, NodeId, NotLeader, Output, Payload,
-    RequestId, Rng, Role, Status, Storage, Term, Timer,
-};
 use serde::{Deserialize, Serialize};
 
-use crate::Variant;
+use crate::{
+    Command, Config, Consensus, Entry, HardState, LogIndex, NodeId, NotLeader, Output, Payload,
+    RequestId, Rng, Role, Status, Storage, Term, Timer, Variant,
+};
 
 /// What servers say to one another.
 #[derive(Debug, Clone, PartialEq, Eq, Hash, Serialize, Deserialize)]
