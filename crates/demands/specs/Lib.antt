@@ -1,0 +1,5 @@
+pub mod Heard
+pub mod Returned
+pub mod Clean
+pub mod Exported
+pub mod Demands
