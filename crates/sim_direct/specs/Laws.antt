@@ -41,11 +41,11 @@ use Rattle.state_server.specs.Servers.{statusAt}
 use Rattle.sim_direct.specs.declared.DirectAsked.{DirectAsked}
 use Rattle.sim_direct.specs.Direct.{statusRuns, timerGiven, directCode, serverRuns, AsksDirect, timerOpen, FirePlanned, OpensTimer}
 
-not-true : (t : Bool) → not t ≡ true → t ≡ false
+pub not-true : (t : Bool) → not t ≡ true → t ≡ false
 not-true true e = absurd (false-true e)
 not-true false e = refl
 
-not-false : (t : Bool) → not t ≡ false → t ≡ true
+pub not-false : (t : Bool) → not t ≡ false → t ≡ true
 not-false true e = refl
 not-false false e = absurd (false-true (sym e))
 
@@ -135,18 +135,19 @@ unfolding timerOpen phaseSet
 timer-opens b b′ F slot p = record { changes = p .to (writing slot timerInput nothing) refl }
 
 -- what the questions 6 and 7 make of a call
-module _ (server timer : ℕ) (s : State) where
-  closed-known : directCode server s ≡ 0 → (isClosed (s .phase) ≡ true) × (inCluster s server ≡ true)
+module _ (server : ℕ) (s : State) where
+  pub closed-known : directCode server s ≡ 0 → (isClosed (s .phase) ≡ true) × (inCluster s server ≡ true)
   unfolding directCode
   closed-known e =
       cases (isClosed (s .phase))
       (λ t. cases (inCluster s server) (λ u. (t, u)) (λ u. let z : _≡_ {A = ℕ} 7 0 = rw (t, u) at e in absurd (omega arith)))
       (λ t. let z : _≡_ {A = ℕ} 6 0 = rw t at e in absurd (omega arith))
 
-  known-low : directCode server s ≡ 0 → 1 ≤ server
+  pub known-low : directCode server s ≡ 0 → 1 ≤ server
   unfolding faults.inCluster
   known-low e = leb-true 1 server (and-left _ _ (closed-known e .1))
 
+module _ (server timer : ℕ) (s : State) where
   fire-refused : 0 < directCode server s → fireTimer server timer s ≡ refused (directCode server s)
   unfolding directCode fireTimer
   fire-refused l =
@@ -158,7 +159,7 @@ module _ (server timer : ℕ) (s : State) where
   fire-asks : directCode server s ≡ 0 → fireTimer server timer s
       ≡ pick (isFlag timer) (pick (running s (server - 1)) (done (openTimer (idOf (server - 1)) (timerOf timer)) (timerOpen (server - 1) s)) (done noInput s)) (refused 9)
   unfolding fireTimer timerOpen
-  fire-asks e = let k = closed-known e in rw (k .0, k .1)
+  fire-asks e = let k = closed-known server s e in rw (k .0, k .1)
 
   -- an open input of a server in the cluster fits
   timer-fits : stateFits s ≡ true → server - 1 < s .config .servers → stateFits (timerOpen (server - 1) s) ≡ true
@@ -220,7 +221,7 @@ module _ (b : List ℕ) (F : Capacity) (server timer : ℕ) (r : DirectAsked) (q
         gives : (s : State) → Area b s → F ≡ capacityOf s → fireTimer server timer s ≡ pick (r .running) (done (openTimer (record { 0 = server }) (timerGiven timer)) (timerOpen (r .slot) s)) (done noInput s)
         gives s h ef =
             let k : directCode server s ≡ 0 = sym (q .code .to s h ef) ∙ zero in
-            let id : server - 1 + 1 ≡ server = omega (arith, known-low server timer s k) in
+            let id : server - 1 + 1 ≡ server = omega (arith, known-low server s k) in
             fire-asks server timer s k
             ∙ rw (le-leb timer 1 l, timers-same timer l, sym (q .running zero .to s h ef), id, sym (q .slot zero))
 

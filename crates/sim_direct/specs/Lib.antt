@@ -1,2 +1,4 @@
 pub mod Direct
 pub mod Laws
+pub mod Asked
+pub mod AskedLaws

@@ -15,6 +15,8 @@ use state::OpenInput;
 use state::StatusOption;
 use units::NodeId;
 
+pub mod asked; // a proposal, leadership to be confirmed
+
 // What a direct call asks of its server: 0, or the refusal; its place, and whether it runs.
 pub struct DirectAsked {
     pub code: u64,

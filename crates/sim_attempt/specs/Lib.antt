@@ -1,0 +1,4 @@
+pub mod Attempts
+pub mod Networks
+pub mod Laws
+pub mod Acts

@@ -1,0 +1,4 @@
+pub mod Replies
+pub mod Laws
+pub mod TellLaws
+pub mod RedirectLaws
