@@ -1,9 +1,19 @@
 // The direct calls: each opens an input of a server that runs.
 ghost use mathlib.Core.Path.{_≡_};
-ghost use Rattle.model.specs.Calls.{fireTimer};
+ghost use Rattle.model.specs.Calls.{propose, fireTimer, confirmLeadership};
 ghost use Rattle.state.specs.Call.{call};
-ghost use Rattle.answers.specs.Answers.{openedNo, openedYes};
+ghost use Rattle.answers.specs.Answers.{openedNo, openedYes, askedYes};
 use answers::OpenedAnswer;
+use sim_direct::asked;
+
+// A command proposed at a server: a sequence number is used, whether or not it runs.
+#[no_mangle]
+pub extern "C" fn sim_propose(area: &mut [u8], server: u64) -> OpenedAnswer
+    ensures { λ r. ⌜ (r, now (area .exit)) ≡ call openedNo askedYes (now (area .entry)) (propose server) ⌝ }
+{
+    let g = state_gate::gate(area);
+    asked::propose_in(area, g, server)
+}
 
 // A timer fired at a server, whether or not it is pending.
 #[no_mangle]
@@ -12,4 +22,13 @@ pub extern "C" fn sim_fire_timer(area: &mut [u8], server: u64, timer: u64) -> Op
 {
     let g = state_gate::gate(area);
     sim_direct::fire_timer_in(area, g, server, timer)
+}
+
+// Leadership to be confirmed by a server.
+#[no_mangle]
+pub extern "C" fn sim_confirm_leadership(area: &mut [u8], server: u64, request: u64) -> OpenedAnswer
+    ensures { λ r. ⌜ (r, now (area .exit)) ≡ call openedNo askedYes (now (area .entry)) (confirmLeadership server (record { 0 = request })) ⌝ }
+{
+    let g = state_gate::gate(area);
+    asked::confirm_leadership_in(area, g, server, request)
 }

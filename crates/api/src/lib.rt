@@ -4,5 +4,6 @@ pub mod settings; // settings and limits as C gives them
 pub mod direct; // direct calls
 pub mod writes; // writes of the open input
 pub mod outputs; // outputs of the open input
+pub mod requested; // checks on request
 pub mod reads; // reads
 pub mod schedules; // schedules, seeds and sizes: no area is lent

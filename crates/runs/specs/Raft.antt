@@ -1,6 +1,6 @@
 -- 500 exchanges from the beginning of the Rust's run of the node `raft` with seed 169. Between them stand calls that document 01 refuses; of these and of the reads one in 31 is kept, and every read that finds a reply, confirmation, violation or applied entry. Made by `write_run raft 169 500 31` (host/README.md). Assumes nothing.
 use mathlib.Core.List.{List, [], _∷_}
-use Rattle.model.specs.Outcome.{hardState, put, truncate, send, setTimer, cancelTimer, apply, confirmed, lost, readStatus, readHardState, readLog, readEntry, readLeader, readApplied, readAppliedEntry, readMetrics, readSentBy, readReply, readConfirmation, readViolation, readRun, start, step, propose, fireTimer, confirmLeadership, schedule, write, seal, output, end, checkLogMatching, checkDurability, read}
+use Rattle.model.specs.Outcome.{hardState, put, truncate, send, setTimer, cancelTimer, apply, confirmed, lost, readStatus, readHardState, readLog, readEntry, readLeader, readApplied, readAppliedEntry, readMetrics, readSentBy, readReply, readConfirmation, readViolation, readRun, readSettings, start, step, propose, fireTimer, confirmLeadership, schedule, write, seal, output, end, checkLogMatching, checkDurability, read}
 use Rattle.runs.specs.Trace.{Exchange, exchange}
 
 -- The exchanges in order.
@@ -43,7 +43,7 @@ exchanges =
     ∷ exchange (read (readViolation 0)) (0 ∷ 0 ∷ 0 ∷ 0 ∷ 0 ∷ 0 ∷ 0 ∷ 0 ∷ 0 ∷ 0 ∷ []) []
     ∷ exchange (schedule (record { 0 = 306784663 }) 2 3 0 []) (0 ∷ []) []
     ∷ exchange (schedule (record { 0 = 27859057 }) 1 2 0 []) (0 ∷ []) []
-    ∷ exchange (read readRun) (0 ∷ 0 ∷ 0 ∷ 169 ∷ 0 ∷ 24 ∷ 0 ∷ 0 ∷ 0 ∷ []) []
+    ∷ exchange (read readRun) (0 ∷ 0 ∷ 0 ∷ 169 ∷ 0 ∷ 0 ∷ 0 ∷ 24 ∷ 0 ∷ 0 ∷ 0 ∷ []) []
     ∷ exchange (schedule (record { 0 = 40301217 }) 2 2 0 []) (0 ∷ []) []
     ∷ exchange (read (readStatus 1)) (0 ∷ 0 ∷ 0 ∷ 0 ∷ 0 ∷ 0 ∷ 0 ∷ []) []
     ∷ exchange (step (record { 0 = 1500000000 }) 71) (0 ∷ 1 ∷ 0 ∷ 0 ∷ 0 ∷ 0 ∷ 0 ∷ []) []
@@ -57,7 +57,7 @@ exchanges =
     ∷ exchange (schedule (record { 0 = 6218622 }) 2 1 0 []) (0 ∷ []) []
     ∷ exchange (read (readApplied 3)) (0 ∷ 0 ∷ []) []
     ∷ exchange (schedule (record { 0 = 16481306 }) 0 2 0 []) (0 ∷ []) []
-    ∷ exchange (read (readReply 0)) (0 ∷ 0 ∷ 0 ∷ 0 ∷ 0 ∷ []) []
+    ∷ exchange (read (readReply 0)) (0 ∷ 0 ∷ 0 ∷ 0 ∷ 0 ∷ 0 ∷ 0 ∷ []) []
     ∷ exchange (schedule (record { 0 = 16949288 }) 2 2 0 []) (0 ∷ []) []
     ∷ exchange (output (lost (record { 0 = 0 }))) (6 ∷ []) []
     ∷ exchange (schedule (record { 0 = 15602290 }) 0 3 0 []) (0 ∷ []) []
@@ -81,7 +81,7 @@ exchanges =
     ∷ exchange (seal 0 0 0) (0 ∷ 2 ∷ 0 ∷ 0 ∷ 0 ∷ 0 ∷ 0 ∷ []) []
     ∷ exchange (output (setTimer 0 (record { 0 = 154445477 }))) (0 ∷ []) []
     ∷ exchange (end 0 (record { 0 = 0 }) 0 0 (record { 0 = 0 })) (0 ∷ 0 ∷ 0 ∷ 0 ∷ 0 ∷ 0 ∷ []) []
-    ∷ exchange (read readRun) (0 ∷ 16182743 ∷ 7 ∷ 169 ∷ 0 ∷ 30 ∷ 0 ∷ 0 ∷ 0 ∷ []) []
+    ∷ exchange (read readRun) (0 ∷ 16182743 ∷ 7 ∷ 169 ∷ 0 ∷ 0 ∷ 0 ∷ 30 ∷ 0 ∷ 0 ∷ 0 ∷ []) []
     ∷ exchange (step (record { 0 = 1500000000 }) 71) (0 ∷ 1 ∷ 0 ∷ 0 ∷ 0 ∷ 0 ∷ 0 ∷ []) []
     ∷ exchange (read readLeader) (0 ∷ 0 ∷ 0 ∷ 0 ∷ []) []
     ∷ exchange (step (record { 0 = 1500000000 }) 71) (0 ∷ 1 ∷ 0 ∷ 0 ∷ 0 ∷ 0 ∷ 0 ∷ []) []
@@ -90,7 +90,7 @@ exchanges =
     ∷ exchange (seal 0 0 0) (0 ∷ 2 ∷ 0 ∷ 0 ∷ 0 ∷ 0 ∷ 0 ∷ []) []
     ∷ exchange (output (setTimer 0 (record { 0 = 150559089 }))) (0 ∷ []) []
     ∷ exchange (end 0 (record { 0 = 0 }) 0 0 (record { 0 = 0 })) (0 ∷ 0 ∷ 0 ∷ 0 ∷ 0 ∷ 0 ∷ []) []
-    ∷ exchange (read readRun) (0 ∷ 16949288 ∷ 10 ∷ 169 ∷ 0 ∷ 28 ∷ 0 ∷ 0 ∷ 0 ∷ []) []
+    ∷ exchange (read readRun) (0 ∷ 16949288 ∷ 10 ∷ 169 ∷ 0 ∷ 0 ∷ 0 ∷ 28 ∷ 0 ∷ 0 ∷ 0 ∷ []) []
     ∷ exchange (step (record { 0 = 1500000000 }) 71) (0 ∷ 1 ∷ 0 ∷ 0 ∷ 0 ∷ 0 ∷ 0 ∷ []) []
     ∷ exchange (read (readStatus 1)) (0 ∷ 1 ∷ 0 ∷ 0 ∷ 0 ∷ 0 ∷ 0 ∷ []) []
     ∷ exchange (step (record { 0 = 1500000000 }) 71) (0 ∷ 1 ∷ 0 ∷ 0 ∷ 0 ∷ 0 ∷ 0 ∷ []) []
@@ -108,7 +108,7 @@ exchanges =
     ∷ exchange (step (record { 0 = 1500000000 }) 71) (0 ∷ 1 ∷ 0 ∷ 0 ∷ 0 ∷ 0 ∷ 0 ∷ []) []
     ∷ exchange (read (readLog 18446744073709551615)) (7 ∷ []) []
     ∷ exchange (step (record { 0 = 1500000000 }) 71) (0 ∷ 1 ∷ 0 ∷ 0 ∷ 0 ∷ 0 ∷ 0 ∷ []) []
-    ∷ exchange (read (readReply 0)) (0 ∷ 0 ∷ 0 ∷ 0 ∷ 0 ∷ []) []
+    ∷ exchange (read (readReply 0)) (0 ∷ 0 ∷ 0 ∷ 0 ∷ 0 ∷ 0 ∷ 0 ∷ []) []
     ∷ exchange (step (record { 0 = 1500000000 }) 71) (0 ∷ 1 ∷ 0 ∷ 0 ∷ 0 ∷ 0 ∷ 0 ∷ []) []
     ∷ exchange (read (readAppliedEntry 1 71)) (0 ∷ 0 ∷ 0 ∷ 0 ∷ []) []
     ∷ exchange (confirmLeadership 1 (record { 0 = 123 })) (0 ∷ 5 ∷ 1 ∷ 123 ∷ 0 ∷ 0 ∷ []) []
@@ -157,7 +157,7 @@ exchanges =
     ∷ exchange (start (record { servers = 3; consensus = record { «heartbeat_interval» = record { 0 = 30000000 }; «election_timeout_min» = record { 0 = 150000000 }; «election_timeout_max» = record { 0 = 300000000 }; «max_entries_per_message» = 4; «max_entries_in_flight» = 1024 }; «one_way_delay» = record { 0 = 7500000 }; clients = 1; «command_bytes» = 13; «client_timeout» = record { 0 = 100000000 }; «client_backoff» = record { 0 = 50000000 }; «count_bytes» = 1; «raft_checks» = 1; «start_spread» = record { 0 = 100000000 } }) (record { «log_indexes» = 35; payload = 257; message = 71; events = 64; writes = 3; history = 36 }) 0) (3 ∷ []) []
     ∷ exchange (step (record { 0 = 1500000000 }) 71) (0 ∷ 1 ∷ 0 ∷ 0 ∷ 0 ∷ 0 ∷ 0 ∷ []) []
     ∷ exchange (step (record { 0 = 1500000000 }) 71) (0 ∷ 1 ∷ 0 ∷ 0 ∷ 0 ∷ 0 ∷ 0 ∷ []) []
-    ∷ exchange (read readRun) (0 ∷ 186387442 ∷ 29 ∷ 169 ∷ 0 ∷ 28 ∷ 0 ∷ 0 ∷ 0 ∷ []) []
+    ∷ exchange (read readRun) (0 ∷ 186387442 ∷ 29 ∷ 169 ∷ 0 ∷ 0 ∷ 0 ∷ 28 ∷ 0 ∷ 0 ∷ 0 ∷ []) []
     ∷ exchange (step (record { 0 = 1500000000 }) 71) (0 ∷ 1 ∷ 2 ∷ 1 ∷ 3 ∷ 9 ∷ 1 ∷ []) (2 ∷ 1 ∷ 0 ∷ 0 ∷ 1 ∷ 1 ∷ 0 ∷ 0 ∷ 1 ∷ [])
     ∷ exchange (write (put (record { 0 = 1 }) (record { 0 = 1 }) 0 [])) (0 ∷ []) []
     ∷ exchange (start (record { servers = 3; consensus = record { «heartbeat_interval» = record { 0 = 30000000 }; «election_timeout_min» = record { 0 = 150000000 }; «election_timeout_max» = record { 0 = 300000000 }; «max_entries_per_message» = 4; «max_entries_in_flight» = 1024 }; «one_way_delay» = record { 0 = 7500000 }; clients = 1; «command_bytes» = 13; «client_timeout» = record { 0 = 100000000 }; «client_backoff» = record { 0 = 50000000 }; «count_bytes» = 1; «raft_checks» = 1; «start_spread» = record { 0 = 100000000 } }) (record { «log_indexes» = 35; payload = 13; message = 71; events = 64; writes = 0; history = 36 }) 0) (3 ∷ []) []
@@ -325,7 +325,7 @@ exchanges =
     ∷ exchange (output (apply (record { 0 = 2 }) 0 [])) (0 ∷ []) []
     ∷ exchange (output (send 1 (3 ∷ 2 ∷ 1 ∷ 2 ∷ 3 ∷ []) 0)) (0 ∷ []) []
     ∷ exchange (end 0 (record { 0 = 2 }) 1 1 (record { 0 = 2 })) (0 ∷ 0 ∷ 0 ∷ 0 ∷ 0 ∷ 0 ∷ []) []
-    ∷ exchange (read readRun) (0 ∷ 294771975 ∷ 60 ∷ 169 ∷ 0 ∷ 37 ∷ 0 ∷ 0 ∷ 0 ∷ []) []
+    ∷ exchange (read readRun) (0 ∷ 294771975 ∷ 60 ∷ 169 ∷ 0 ∷ 0 ∷ 0 ∷ 37 ∷ 0 ∷ 0 ∷ 0 ∷ []) []
     ∷ exchange (step (record { 0 = 1500000000 }) 71) (0 ∷ 1 ∷ 2 ∷ 1 ∷ 2 ∷ 5 ∷ 0 ∷ []) (3 ∷ 2 ∷ 1 ∷ 2 ∷ 4 ∷ [])
     ∷ exchange (seal 0 0 0) (0 ∷ 2 ∷ 0 ∷ 0 ∷ 0 ∷ 0 ∷ 0 ∷ []) []
     ∷ exchange (output (send 2 (2 ∷ 2 ∷ 2 ∷ 2 ∷ 1 ∷ 2 ∷ 1 ∷ 13 ∷ 0 ∷ 0 ∷ 0 ∷ 0 ∷ 0 ∷ 0 ∷ 0 ∷ 0 ∷ 0 ∷ 0 ∷ 0 ∷ 0 ∷ 0 ∷ 2 ∷ 5 ∷ []) 1)) (0 ∷ []) []
@@ -337,7 +337,7 @@ exchanges =
     ∷ exchange (output (send 2 (2 ∷ 2 ∷ 2 ∷ 2 ∷ 1 ∷ 2 ∷ 1 ∷ 13 ∷ 0 ∷ 0 ∷ 0 ∷ 0 ∷ 0 ∷ 0 ∷ 0 ∷ 0 ∷ 0 ∷ 0 ∷ 0 ∷ 0 ∷ 0 ∷ 2 ∷ 6 ∷ []) 1)) (0 ∷ []) []
     ∷ exchange (output (send 3 (2 ∷ 2 ∷ 2 ∷ 2 ∷ 1 ∷ 2 ∷ 1 ∷ 13 ∷ 0 ∷ 0 ∷ 0 ∷ 0 ∷ 0 ∷ 0 ∷ 0 ∷ 0 ∷ 0 ∷ 0 ∷ 0 ∷ 0 ∷ 0 ∷ 2 ∷ 7 ∷ []) 1)) (0 ∷ []) []
     ∷ exchange (end 2 (record { 0 = 2 }) 1 1 (record { 0 = 2 })) (0 ∷ 0 ∷ 0 ∷ 0 ∷ 0 ∷ 0 ∷ []) []
-    ∷ exchange (read readRun) (0 ∷ 300345878 ∷ 62 ∷ 169 ∷ 0 ∷ 39 ∷ 0 ∷ 0 ∷ 0 ∷ []) []
+    ∷ exchange (read readRun) (0 ∷ 300345878 ∷ 62 ∷ 169 ∷ 0 ∷ 0 ∷ 0 ∷ 39 ∷ 0 ∷ 0 ∷ 0 ∷ []) []
     ∷ exchange (step (record { 0 = 1500000000 }) 71) (0 ∷ 1 ∷ 2 ∷ 1 ∷ 3 ∷ 5 ∷ 0 ∷ []) (3 ∷ 2 ∷ 1 ∷ 2 ∷ 3 ∷ [])
     ∷ exchange (seal 0 0 0) (0 ∷ 2 ∷ 0 ∷ 0 ∷ 0 ∷ 0 ∷ 0 ∷ []) []
     ∷ exchange (end 2 (record { 0 = 2 }) 1 1 (record { 0 = 2 })) (0 ∷ 0 ∷ 0 ∷ 0 ∷ 0 ∷ 0 ∷ []) []
@@ -416,7 +416,7 @@ exchanges =
     ∷ exchange (read (readConfirmation 0)) (0 ∷ 1 ∷ 964 ∷ 1 ∷ 2 ∷ []) []
     ∷ exchange (step (record { 0 = 1500000000 }) 71) (0 ∷ 1 ∷ 0 ∷ 0 ∷ 0 ∷ 0 ∷ 0 ∷ []) []
     ∷ exchange (schedule (record { 0 = 4611686018427387905 }) 11 0 0 []) (9 ∷ []) []
-    ∷ exchange (read (readReply 0)) (0 ∷ 1 ∷ 0 ∷ 321640081 ∷ 3 ∷ []) []
+    ∷ exchange (read (readReply 0)) (0 ∷ 1 ∷ 0 ∷ 321640081 ∷ 3 ∷ 0 ∷ 0 ∷ []) []
     ∷ exchange (fireTimer 2 0) (0 ∷ 3 ∷ 2 ∷ 0 ∷ 0 ∷ 0 ∷ []) []
     ∷ exchange (write (hardState (record { 0 = 3 }) 1 2)) (0 ∷ []) []
     ∷ exchange (seal 0 0 0) (0 ∷ 1 ∷ 0 ∷ 0 ∷ 0 ∷ 0 ∷ 0 ∷ []) []
@@ -445,7 +445,7 @@ exchanges =
     ∷ exchange (read (readConfirmation 1)) (0 ∷ 0 ∷ 0 ∷ 0 ∷ 0 ∷ []) []
     ∷ exchange (schedule (record { 0 = 337923980 }) 0 3 0 []) (0 ∷ []) []
     ∷ exchange (schedule (record { 0 = 338385929 }) 2 3 0 []) (0 ∷ []) []
-    ∷ exchange (read readRun) (0 ∷ 321640081 ∷ 75 ∷ 169 ∷ 0 ∷ 56 ∷ 1 ∷ 1 ∷ 0 ∷ []) []
+    ∷ exchange (read readRun) (0 ∷ 321640081 ∷ 75 ∷ 169 ∷ 0 ∷ 0 ∷ 0 ∷ 56 ∷ 1 ∷ 1 ∷ 0 ∷ []) []
     ∷ exchange (step (record { 0 = 1500000000 }) 71) (0 ∷ 1 ∷ 0 ∷ 0 ∷ 0 ∷ 0 ∷ 0 ∷ []) []
     ∷ exchange (read readLeader) (0 ∷ 1 ∷ 1 ∷ 2 ∷ []) []
     ∷ exchange (step (record { 0 = 1500000000 }) 71) (0 ∷ 1 ∷ 2 ∷ 1 ∷ 3 ∷ 5 ∷ 0 ∷ []) (3 ∷ 2 ∷ 1 ∷ 3 ∷ 9 ∷ [])
@@ -472,7 +472,7 @@ exchanges =
     ∷ exchange (write (put (record { 0 = 4 }) (record { 0 = 2 }) 1 (0 ∷ 0 ∷ 0 ∷ 0 ∷ 1 ∷ 0 ∷ 0 ∷ 0 ∷ 0 ∷ 0 ∷ 0 ∷ 0 ∷ 0 ∷ []))) (0 ∷ []) []
     ∷ exchange (seal 0 0 0) (0 ∷ 1 ∷ 0 ∷ 0 ∷ 0 ∷ 0 ∷ 0 ∷ []) []
     ∷ exchange (end 2 (record { 0 = 2 }) 1 1 (record { 0 = 3 })) (0 ∷ 0 ∷ 0 ∷ 0 ∷ 0 ∷ 0 ∷ []) []
-    ∷ exchange (read readRun) (0 ∷ 329001552 ∷ 81 ∷ 169 ∷ 0 ∷ 56 ∷ 1 ∷ 1 ∷ 0 ∷ []) []
+    ∷ exchange (read readRun) (0 ∷ 329001552 ∷ 81 ∷ 169 ∷ 0 ∷ 0 ∷ 0 ∷ 56 ∷ 1 ∷ 1 ∷ 0 ∷ []) []
     ∷ exchange (step (record { 0 = 1500000000 }) 71) (0 ∷ 1 ∷ 2 ∷ 1 ∷ 3 ∷ 4 ∷ 0 ∷ []) (0 ∷ 3 ∷ 3 ∷ 2 ∷ [])
     ∷ exchange (write (hardState (record { 0 = 3 }) 0 0)) (0 ∷ []) []
     ∷ exchange (read (readLog 1)) (0 ∷ 4 ∷ 4 ∷ 0 ∷ []) []
@@ -490,12 +490,12 @@ exchanges =
     ∷ exchange (seal 0 0 0) (0 ∷ 2 ∷ 0 ∷ 0 ∷ 0 ∷ 0 ∷ 0 ∷ []) []
     ∷ exchange (output (setTimer 0 (record { 0 = 176420861 }))) (0 ∷ []) []
     ∷ exchange (end 0 (record { 0 = 3 }) 0 0 (record { 0 = 0 })) (0 ∷ 0 ∷ 0 ∷ 0 ∷ 0 ∷ 0 ∷ []) []
-    ∷ exchange (read (readReply 1)) (0 ∷ 0 ∷ 0 ∷ 0 ∷ 0 ∷ []) []
+    ∷ exchange (read (readReply 1)) (0 ∷ 0 ∷ 0 ∷ 0 ∷ 0 ∷ 0 ∷ 0 ∷ []) []
     ∷ exchange (step (record { 0 = 1500000000 }) 71) (0 ∷ 1 ∷ 2 ∷ 1 ∷ 2 ∷ 4 ∷ 0 ∷ []) (0 ∷ 3 ∷ 3 ∷ 2 ∷ [])
     ∷ exchange (seal 0 0 0) (0 ∷ 2 ∷ 0 ∷ 0 ∷ 0 ∷ 0 ∷ 0 ∷ []) []
     ∷ exchange (output (send 2 (1 ∷ 3 ∷ 0 ∷ []) 0)) (0 ∷ []) []
     ∷ exchange (end 0 (record { 0 = 3 }) 0 0 (record { 0 = 0 })) (0 ∷ 0 ∷ 0 ∷ 0 ∷ 0 ∷ 0 ∷ []) []
-    ∷ exchange (read (readReply 1)) (0 ∷ 0 ∷ 0 ∷ 0 ∷ 0 ∷ []) []
+    ∷ exchange (read (readReply 1)) (0 ∷ 0 ∷ 0 ∷ 0 ∷ 0 ∷ 0 ∷ 0 ∷ []) []
     ∷ exchange (step (record { 0 = 1500000000 }) 71) (0 ∷ 1 ∷ 2 ∷ 3 ∷ 1 ∷ 7 ∷ 0 ∷ []) (2 ∷ 2 ∷ 3 ∷ 2 ∷ 0 ∷ 3 ∷ 11 ∷ [])
     ∷ exchange (seal 0 0 0) (0 ∷ 2 ∷ 0 ∷ 0 ∷ 0 ∷ 0 ∷ 0 ∷ []) []
     ∷ exchange (output (send 1 (3 ∷ 3 ∷ 0 ∷ 0 ∷ 0 ∷ []) 0)) (0 ∷ []) []

@@ -26,6 +26,7 @@ use Rattle.model.specs.Calls as calls
 use Rattle.model.specs.Reads as reads
 use Rattle.model.specs.Fits as fits
 use Rattle.model.specs.Outcome as outcome
+use Rattle.answers.specs.Numbers as numbers
 use Rattle.runs.specs.Trace as trace
 
 -- Tests and lists.
@@ -75,7 +76,7 @@ read = tt
 
 -- Question 10, and the comparison of answers.
 unfoldable pub compared : Unit {0}
-unfolding fits.stateFits outcome.writeOutcome outcome.outputOutcome outcome.readOutcome outcome.outcome outcome.finish trace.readingNumbers trace.numbersOf trace.readingBytes trace.bytesOf trace.is trace.differs
+unfolding fits.stateFits outcome.writeOutcome outcome.outputOutcome outcome.readOutcome outcome.outcome outcome.finish numbers.readingNumbers numbers.numbersOf numbers.readingBytes numbers.bytesOf trace.is trace.differs
 compared = tt
 
 -- All of it.

@@ -1,6 +1,6 @@
 -- 300 exchanges from the beginning of the Rust's run of the node `vote-not-saved` with seed 20. Between them stand calls that document 01 refuses; of these and of the reads one in 23 is kept, and every read that finds a reply, confirmation, violation or applied entry. Made by `write_run vote-not-saved 20 300 23` (host/README.md). Assumes nothing.
 use mathlib.Core.List.{List, [], _∷_}
-use Rattle.model.specs.Outcome.{hardState, put, truncate, send, setTimer, cancelTimer, apply, confirmed, lost, readStatus, readHardState, readLog, readEntry, readLeader, readApplied, readAppliedEntry, readMetrics, readSentBy, readReply, readConfirmation, readViolation, readRun, start, step, propose, fireTimer, confirmLeadership, schedule, write, seal, output, end, checkLogMatching, checkDurability, read}
+use Rattle.model.specs.Outcome.{hardState, put, truncate, send, setTimer, cancelTimer, apply, confirmed, lost, readStatus, readHardState, readLog, readEntry, readLeader, readApplied, readAppliedEntry, readMetrics, readSentBy, readReply, readConfirmation, readViolation, readRun, readSettings, start, step, propose, fireTimer, confirmLeadership, schedule, write, seal, output, end, checkLogMatching, checkDurability, read}
 use Rattle.runs.specs.Trace.{Exchange, exchange}
 
 -- The exchanges in order.
@@ -54,8 +54,8 @@ exchanges =
     ∷ exchange (schedule (record { 0 = 703169487 }) 0 2 0 []) (0 ∷ []) []
     ∷ exchange (read (readHardState 1)) (0 ∷ 0 ∷ 0 ∷ 0 ∷ []) []
     ∷ exchange (schedule (record { 0 = 714263743 }) 5 2 1 []) (0 ∷ []) []
-    ∷ exchange (read readRun) (0 ∷ 0 ∷ 0 ∷ 20 ∷ 0 ∷ 23 ∷ 0 ∷ 0 ∷ 0 ∷ []) []
-    ∷ exchange (read (readReply 0)) (0 ∷ 0 ∷ 0 ∷ 0 ∷ 0 ∷ []) []
+    ∷ exchange (read readRun) (0 ∷ 0 ∷ 0 ∷ 20 ∷ 0 ∷ 0 ∷ 0 ∷ 23 ∷ 0 ∷ 0 ∷ 0 ∷ []) []
+    ∷ exchange (read (readReply 0)) (0 ∷ 0 ∷ 0 ∷ 0 ∷ 0 ∷ 0 ∷ 0 ∷ []) []
     ∷ exchange (schedule (record { 0 = 763911851 }) 9 0 0 []) (0 ∷ []) []
     ∷ exchange (read (readLog 3)) (0 ∷ 0 ∷ 0 ∷ 0 ∷ []) []
     ∷ exchange (schedule (record { 0 = 814171545 }) 8 500000 0 []) (0 ∷ []) []
@@ -105,8 +105,8 @@ exchanges =
     ∷ exchange (schedule (record { 0 = 1500000000 }) 9 0 0 []) (0 ∷ []) []
     ∷ exchange (read (readHardState 1)) (0 ∷ 0 ∷ 0 ∷ 0 ∷ []) []
     ∷ exchange (schedule (record { 0 = 1500000000 }) 2 3 0 []) (0 ∷ []) []
-    ∷ exchange (read readRun) (0 ∷ 0 ∷ 0 ∷ 20 ∷ 0 ∷ 47 ∷ 0 ∷ 0 ∷ 0 ∷ []) []
-    ∷ exchange (read (readReply 0)) (0 ∷ 0 ∷ 0 ∷ 0 ∷ 0 ∷ []) []
+    ∷ exchange (read readRun) (0 ∷ 0 ∷ 0 ∷ 20 ∷ 0 ∷ 0 ∷ 0 ∷ 47 ∷ 0 ∷ 0 ∷ 0 ∷ []) []
+    ∷ exchange (read (readReply 0)) (0 ∷ 0 ∷ 0 ∷ 0 ∷ 0 ∷ 0 ∷ 0 ∷ []) []
     ∷ exchange (schedule (record { 0 = 1500000000 }) 11 0 0 []) (0 ∷ []) []
     ∷ exchange (read (readLog 3)) (0 ∷ 0 ∷ 0 ∷ 0 ∷ []) []
     ∷ exchange (schedule (record { 0 = 1092318239 }) 0 1 0 []) (0 ∷ []) []
@@ -147,7 +147,7 @@ exchanges =
     ∷ exchange (schedule (record { 0 = 1110925853 }) 0 1 0 []) (0 ∷ []) []
     ∷ exchange (read (readHardState 1)) (0 ∷ 0 ∷ 0 ∷ 0 ∷ []) []
     ∷ exchange (schedule (record { 0 = 1147969234 }) 2 1 0 []) (0 ∷ []) []
-    ∷ exchange (read readRun) (0 ∷ 0 ∷ 0 ∷ 20 ∷ 0 ∷ 66 ∷ 0 ∷ 0 ∷ 0 ∷ []) []
+    ∷ exchange (read readRun) (0 ∷ 0 ∷ 0 ∷ 20 ∷ 0 ∷ 0 ∷ 0 ∷ 66 ∷ 0 ∷ 0 ∷ 0 ∷ []) []
     ∷ exchange (read (readLog 18446744073709551615)) (7 ∷ []) []
     ∷ exchange (schedule (record { 0 = 887069437 }) 1 3 0 []) (0 ∷ []) []
     ∷ exchange (schedule (record { 0 = 903547331 }) 2 3 0 []) (0 ∷ []) []
@@ -156,7 +156,7 @@ exchanges =
     ∷ exchange (fireTimer 1 2) (9 ∷ []) []
     ∷ exchange (schedule (record { 0 = 69596780 }) 1 3 0 []) (0 ∷ []) []
     ∷ exchange (schedule (record { 0 = 0 }) 5 1 4 []) (7 ∷ []) []
-    ∷ exchange (read (readReply 0)) (0 ∷ 0 ∷ 0 ∷ 0 ∷ 0 ∷ []) []
+    ∷ exchange (read (readReply 0)) (0 ∷ 0 ∷ 0 ∷ 0 ∷ 0 ∷ 0 ∷ 0 ∷ []) []
     ∷ exchange (schedule (record { 0 = 70866561 }) 2 3 0 []) (0 ∷ []) []
     ∷ exchange (read (readLog 3)) (0 ∷ 0 ∷ 0 ∷ 0 ∷ []) []
     ∷ exchange (schedule (record { 0 = 873359224 }) 0 3 0 []) (0 ∷ []) []
@@ -186,7 +186,7 @@ exchanges =
     ∷ exchange (start (record { servers = 3; consensus = record { «heartbeat_interval» = record { 0 = 0 }; «election_timeout_min» = record { 0 = 150000000 }; «election_timeout_max» = record { 0 = 300000000 }; «max_entries_per_message» = 16; «max_entries_in_flight» = 1024 }; «one_way_delay» = record { 0 = 7500000 }; clients = 2; «command_bytes» = 40; «client_timeout» = record { 0 = 100000000 }; «client_backoff» = record { 0 = 50000000 }; «count_bytes» = 0; «raft_checks» = 1; «start_spread» = record { 0 = 0 } }) (record { «log_indexes» = 65; payload = 40; message = 95; events = 94; writes = 3; history = 65 }) 0) (2 ∷ []) []
     ∷ exchange (schedule (record { 0 = 6827705 }) 0 1 0 []) (0 ∷ []) []
     ∷ exchange (start (record { servers = 3; consensus = record { «heartbeat_interval» = record { 0 = 30000000 }; «election_timeout_min» = record { 0 = 150000000 }; «election_timeout_max» = record { 0 = 300000000 }; «max_entries_per_message» = 16; «max_entries_in_flight» = 1024 }; «one_way_delay» = record { 0 = 7500000 }; clients = 2; «command_bytes» = 40; «client_timeout» = record { 0 = 100000000 }; «client_backoff» = record { 0 = 50000000 }; «count_bytes» = 0; «raft_checks» = 1; «start_spread» = record { 0 = 18446744073709551615 } }) (record { «log_indexes» = 65; payload = 40; message = 95; events = 94; writes = 3; history = 65 }) 0) (3 ∷ []) []
-    ∷ exchange (read (readReply 0)) (0 ∷ 0 ∷ 0 ∷ 0 ∷ 0 ∷ []) []
+    ∷ exchange (read (readReply 0)) (0 ∷ 0 ∷ 0 ∷ 0 ∷ 0 ∷ 0 ∷ 0 ∷ []) []
     ∷ exchange (schedule (record { 0 = 7332353 }) 2 1 0 []) (0 ∷ []) []
     ∷ exchange (read (readLog 3)) (0 ∷ 0 ∷ 0 ∷ 0 ∷ []) []
     ∷ exchange (step (record { 0 = 1500000000 }) 95) (0 ∷ 1 ∷ 0 ∷ 0 ∷ 0 ∷ 0 ∷ 0 ∷ []) []
