@@ -1,5 +1,5 @@
 -- What the proofs of the delay's functions cite, and question 10 of a delay drawn. Assumes nothing.
-use mathlib.Core.Path.{_≡_, refl, sym, ap, ap₂, subst, _∙_}
+use mathlib.Core.Path.{_≡_, sym, ap, ap₂, subst, _∙_}
 use mathlib.Core.Bool.{Bool, true}
 use mathlib.Core.List.{List}
 use Prim.Native.Nat.{ℕ, _+_, _^_, _≤_, _<_}
@@ -7,7 +7,7 @@ use native.Mathlib.Omega.{arith}
 use lib.Dec.{eqb, ltb}
 use lib.ListN.{set}
 use borrow.Author.Tests.{lt-ltb}
-use Rattle.laws.specs.Bools.{_and_, allb, and-left, and-right, and-both}
+use Rattle.laws.specs.Bools.{allb, and-left, and-right, and-both}
 use Rattle.rng.specs.declared.Rng.{Rng}
 use Rattle.rng.specs.Rng.{under, nextU64, moved}
 use Rattle.network.specs.declared.Network.{Network}

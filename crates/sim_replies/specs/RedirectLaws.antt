@@ -19,8 +19,7 @@ use Rattle.model.specs.Simulation.{redirect}
 use Rattle.model.specs.Fits.{stateFits, phaseFits}
 use Rattle.state.specs.declared.Capacity.{Capacity}
 use Rattle.state.specs.declared.OpenInput.{OpenInput}
-use Rattle.state.specs.Parts.{inputIn, verdictIn, openOf, inputKind, phaseSlot, input-back, verdict-back}
-use Rattle.state.specs.Area.{Area, capacityOf}
+use Rattle.state.specs.Parts.{inputIn, verdictIn, openOf, phaseSlot, input-back, verdict-back}
 use Rattle.state.specs.Fitting.{area-fits, laid-limits}
 use Rattle.state.specs.Lens.{ServersFit, servers-fit}
 use Rattle.state.specs.Changes.{AreaOf, Changes, Reads}

@@ -160,14 +160,18 @@ pub fn sent_by(sent: Counts) -> port::SentBy {
     }
 }
 
-/// A client's reply; zeros where there is none.
-pub fn reply(reply: Option<&Reply>) -> port::Reply {
-    reply.map_or_else(port::Reply::default, |reply| port::Reply {
-        refusal: 0,
-        present: 1,
-        sent: leaves::nanos(reply.sent),
-        received: leaves::nanos(reply.received),
-        index: reply.index.0,
+/// A client's reply to its command of this client and sequence number; zeros where there is none.
+pub fn reply(reply: Option<(&Reply, (u64, u64))>) -> port::Reply {
+    reply.map_or_else(port::Reply::default, |(reply, (client, sequence))| {
+        port::Reply {
+            refusal: 0,
+            present: 1,
+            sent: leaves::nanos(reply.sent),
+            received: leaves::nanos(reply.received),
+            index: reply.index.0,
+            client,
+            sequence,
+        }
     })
 }
 
@@ -322,6 +326,21 @@ pub fn settings_of(settings: &Settings) -> SimConfig {
         count_bytes: settings.count_bytes != 0,
         raft_checks: settings.raft_checks != 0,
         start_spread: time(settings.start_spread),
+    }
+}
+
+/// The counts that a run is started with.
+pub fn capacities(settings: &port::Settings, limits: &port::Limits) -> port::Capacities {
+    port::Capacities {
+        refusal: 0,
+        servers: settings.servers,
+        clients: settings.clients,
+        log: limits.log,
+        payload: limits.payload,
+        message: limits.message,
+        events: limits.events,
+        writes: limits.writes,
+        history: limits.history,
     }
 }
 

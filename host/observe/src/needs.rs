@@ -10,7 +10,7 @@ use trace::Call;
 use crate::recorded::{Kind, Seen};
 
 /// A client's command, by client and sequence.
-type Key = (u32, u64);
+pub(crate) type Key = (u32, u64);
 
 /// What a run has needed of each table so far.
 #[derive(Debug, Clone)]
@@ -22,6 +22,8 @@ pub(crate) struct Needs {
     entries: BTreeSet<(u64, u64)>,
     /// The terms that were led.
     led: BTreeSet<u64>,
+    /// The commands that were pending where they were applied, in order: each makes a reply due.
+    answered: Vec<Key>,
 }
 
 impl Needs {
@@ -38,6 +40,7 @@ impl Needs {
             pending: vec![BTreeSet::new(); settings.servers as usize],
             entries: BTreeSet::new(),
             led: BTreeSet::new(),
+            answered: Vec::new(),
         }
     }
 
@@ -49,6 +52,11 @@ impl Needs {
     /// A list or table that H bounds holds this many.
     pub(crate) fn history(&mut self, held: u64) {
         raise(&mut self.limits.history, held);
+    }
+
+    /// Takes the commands answered since the last call, in order.
+    pub(crate) fn take_answered(&mut self) -> Vec<Key> {
+        std::mem::take(&mut self.answered)
     }
 
     /// A server is stopped.
@@ -95,8 +103,10 @@ impl Needs {
             Call::WritePut { index, payload, .. } => self.entry(*index, payload),
             Call::OutputApply { index, payload, .. } => {
                 self.entry(*index, payload);
-                if let Some(key) = leaves::decode(&Command(payload.clone())) {
-                    self.pending_of(server).remove(&key);
+                if let Some(key) = leaves::decode(&Command(payload.clone()))
+                    && self.pending_of(server).remove(&key)
+                {
+                    self.answered.push(key);
                 }
             }
             Call::OutputSend { message, .. } => {

@@ -5,6 +5,7 @@ use port::kinds;
 use sim::{Simulation, leaves};
 use trace::{Call, Trace};
 
+use crate::needs::Key;
 use crate::recorded::Disk;
 
 /// How far the lists have been read.
@@ -24,6 +25,8 @@ pub(crate) struct Beside<'r> {
     pub queued: u64,
     /// The first payload applied at each index, from 1.
     pub applied: &'r [Payload],
+    /// The client and the sequence number of each reply, which the reference does not tell.
+    pub replied: &'r [Key],
 }
 
 impl Reads {
@@ -62,7 +65,8 @@ impl Reads {
     fn lists<C: Consensus>(&mut self, sim: &Simulation<C>, beside: &Beside<'_>, trace: &mut Trace) {
         let replies = sim.replies();
         for place in self.replies..=replies.len() {
-            let reply = numbers::reply(replies.get(place));
+            let keyed = replies.get(place).zip(beside.replied.get(place));
+            let reply = numbers::reply(keyed.map(|(reply, key)| (reply, (key.0.into(), key.1))));
             let place = place as u64;
             trace.push(Call::ReadReply { place }, reply);
         }
@@ -121,6 +125,8 @@ fn run<C: Consensus>(sim: &Simulation<C>, beside: &Beside<'_>) -> port::Run {
         events: sim.events(),
         seed: sim.seed(),
         phase: kinds::phase::CLOSED,
+        server: 0,
+        input: kinds::input::NONE,
         queued: beside.queued,
         replies: sim.replies().len() as u64,
         confirmations: sim.confirmations().len() as u64,

@@ -9,12 +9,15 @@ use sim::{Fault, SimTime, Simulation, Stream, chaos_schedule, leaves, stream_see
 use trace::{Answer, Call, Exchange, Trace};
 
 use crate::coverage::Coverage;
-use crate::needs::Needs;
+use crate::needs::{Key, Needs};
 use crate::reads::{self, Beside, Reads};
 use crate::recorded::{Kind, Recorded, Seen, take_seen};
 
 /// The number of the reference's event `Fault`.
 const FAULT_EVENT: u64 = 3;
+
+/// The number of the reference's event `ClientReply`.
+const REPLY_EVENT: u64 = 8;
 
 /// Bytes that a schedule's list has behind its entries: a place, and a part of one.
 const SPARE: usize = ENTRY + 8;
@@ -50,6 +53,14 @@ pub struct Run<N: Consensus> {
     queued: u64,
     /// The kinds of the faults in the queue, by push number.
     faults: BTreeMap<u64, u64>,
+    /// The reply events that the last call pushed.
+    told: Vec<u64>,
+    /// The commands that the reply events in the queue answer, by push number.
+    due: BTreeMap<u64, Key>,
+    /// The command of the reply event that the last call took, if it took one.
+    reached: Option<Key>,
+    /// The commands of the replies that their clients took, in order.
+    replied: Vec<Key>,
     fsyncs: u64,
 }
 
@@ -70,6 +81,10 @@ impl<N: Consensus> Run<N> {
             applied: Vec::new(),
             queued: 0,
             faults: BTreeMap::new(),
+            told: Vec::new(),
+            due: BTreeMap::new(),
+            reached: None,
+            replied: Vec::new(),
             fsyncs: 0,
         };
         run.happened(Call::Start {
@@ -179,9 +194,12 @@ impl<N: Consensus> Run<N> {
     /// Reads every log whole, and sets the limits.
     pub fn finish(mut self) -> Recording {
         Reads::whole_logs(&self.sim, &mut self.trace);
+        let needed = self.needs.limits();
         if let Call::Start { limits, .. } = &mut self.trace.exchanges[0].call {
-            **limits = self.needs.limits();
+            **limits = needed;
         }
+        let capacities = numbers::capacities(&self.settings, &needed);
+        self.trace.push(Call::ReadSettings {}, capacities);
         let kept = self.sim.violations().iter().map(Some);
         let violations: Vec<_> = kept.map(numbers::violation).collect();
         for violation in &violations {
@@ -223,12 +241,29 @@ impl<N: Consensus> Run<N> {
             "a sync for each input that wrote"
         );
         self.fsyncs = fsyncs;
+        self.replies_moved();
         self.closed(&seen);
+    }
+
+    /// Follows the replies: which command each reply event answers, and those that were taken.
+    fn replies_moved(&mut self) {
+        let (told, answered) = (std::mem::take(&mut self.told), self.needs.take_answered());
+        assert_eq!(
+            told.len(),
+            answered.len(),
+            "a reply event for each pending command applied"
+        );
+        self.due.extend(told.into_iter().zip(answered));
+        if self.sim.replies().len() > self.replied.len() {
+            let key = self.reached.expect("a reply comes with its event");
+            self.replied.push(key);
+        }
     }
 
     /// Follows the queue, and counts the event that was taken. Returns whether there was one.
     fn queue_moved(&mut self, call: &Call, opened: bool) -> bool {
         let mut taken = false;
+        self.reached = None;
         // A scheduled fault is the call's; one that an event pushed is a leader's restart.
         let scheduled = match call {
             Call::Schedule { fault, .. } => *fault,
@@ -239,8 +274,12 @@ impl<N: Consensus> Run<N> {
                 Note::Pushed(event) => {
                     self.queued = event.held;
                     self.needs.events(event.held);
-                    if event.kind == FAULT_EVENT {
-                        self.faults.insert(event.number, scheduled);
+                    match event.kind {
+                        FAULT_EVENT => {
+                            self.faults.insert(event.number, scheduled);
+                        }
+                        REPLY_EVENT => self.told.push(event.number),
+                        _ => {}
                     }
                 }
                 Note::Taken(event) => {
@@ -250,6 +289,7 @@ impl<N: Consensus> Run<N> {
                     if let Some(fault) = self.faults.remove(&event.number) {
                         self.coverage.fault(fault);
                     }
+                    self.reached = self.due.remove(&event.number);
                 }
             }
         }
@@ -441,6 +481,7 @@ impl<N: Consensus> Run<N> {
         let beside = Beside {
             queued: self.queued,
             applied: &self.applied,
+            replied: &self.replied,
         };
         self.reads
             .closed(&self.sim, &beside, &touched, &mut self.trace);

@@ -194,6 +194,10 @@ records! {
         received: u64,
         /// The index of its command.
         index: u64,
+        /// The client that sent the command.
+        client: u64,
+        /// The command's sequence number.
+        sequence: u64,
     }
 
     /// A leadership confirmation.
@@ -246,6 +250,10 @@ records! {
         seed: u64,
         /// The phase (`kinds::phase`).
         phase: u64,
+        /// The server whose input is open, or 0.
+        server: u64,
+        /// What the open input is (`kinds::input`).
+        input: u64,
         /// Events in the queue.
         queued: u64,
         /// Replies that have arrived.
@@ -254,6 +262,28 @@ records! {
         confirmations: u64,
         /// Violations reported, those not kept included.
         violations: u64,
+    }
+
+    /// The counts that a run was started with, by which a host sizes its buffers.
+    Capacities {
+        /// The refusal.
+        refusal: u64,
+        /// Number of servers.
+        servers: u64,
+        /// Number of clients.
+        clients: u64,
+        /// L: log indexes.
+        log: u64,
+        /// P: bytes of a payload.
+        payload: u64,
+        /// M: bytes of a message.
+        message: u64,
+        /// Q: events.
+        events: u64,
+        /// W: unsynced writes.
+        writes: u64,
+        /// H: history.
+        history: u64,
     }
 }
 
@@ -270,5 +300,5 @@ macro_rules! refused {
 
 refused! {
     Done, Opened, Stepped, Sealed, Status, HardState, Log, Entry, Leader, Applied, AppliedEntry,
-    Metrics, SentBy, Reply, Confirmation, Violation, Run, Drawn,
+    Metrics, SentBy, Reply, Confirmation, Violation, Run, Drawn, Capacities,
 }

@@ -11,8 +11,8 @@ mod settings;
 mod words;
 
 pub use answers::{
-    Applied, AppliedEntry, Confirmation, Done, Drawn, Entry, HardState, Input, Leader, Log,
-    Metrics, Opened, Refused, Reply, Run, Sealed, SentBy, Status, Stepped, Violation,
+    Applied, AppliedEntry, Capacities, Confirmation, Done, Drawn, Entry, HardState, Input, Leader,
+    Log, Metrics, Opened, Refused, Reply, Run, Sealed, SentBy, Status, Stepped, Violation,
 };
 pub use settings::{Chaos, Limits, Settings, area_length};
 pub use words::Words;
@@ -141,6 +141,9 @@ pub trait Port {
 
     /// The run as a whole.
     fn read_run(&mut self, area: &[u8]) -> Run;
+
+    /// The counts that the run was started with.
+    fn read_settings(&mut self, area: &[u8]) -> Capacities;
 
     /// Draws a schedule of faults for the servers, one byte each. `list`, of any length, gets
     /// [`ENTRY`] bytes an entry: time, fault and the two numbers, as words. A partition's first

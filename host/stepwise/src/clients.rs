@@ -96,11 +96,13 @@ impl State {
         let Some((_, sent)) = state.outstanding.filter(|(held, _)| *held == seq) else {
             return;
         };
-        self.replies.push(Reply {
+        let received = self.now;
+        let reply = Reply {
             sent,
-            received: self.now,
+            received,
             index,
-        });
+        };
+        self.replies.push((reply, (client as u64, seq)));
         let command = leaves::encode(client as u32, seq, self.config.command_bytes);
         self.acknowledged.push((index, Payload::Command(command)));
         self.metrics.client_replies += 1;

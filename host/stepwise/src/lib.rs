@@ -19,8 +19,9 @@ use std::time::Duration;
 
 use consensus::{Entry, HardState, LogIndex, NodeId, Rng, Storage, Term};
 use port::{
-    Applied, AppliedEntry, Chaos, Confirmation, Done, Drawn, Input, Leader, Limits, Log, Metrics,
-    Opened, Port, Refused, Reply, Run, Sealed, SentBy, Settings, Status, Stepped, Violation, kinds,
+    Applied, AppliedEntry, Capacities, Chaos, Confirmation, Done, Drawn, Input, Leader, Limits,
+    Log, Metrics, Opened, Port, Refused, Reply, Run, Sealed, SentBy, Settings, Status, Stepped,
+    Violation, kinds,
 };
 use sim::leaves;
 
@@ -369,7 +370,8 @@ impl Port for Stepwise {
     }
 
     fn read_reply(&mut self, _area: &[u8], place: u64) -> Reply {
-        numbers::reply(self.state().replies.get(place as usize))
+        let held = self.state().replies.get(place as usize);
+        numbers::reply(held.map(|(reply, key)| (reply, *key)))
     }
 
     fn read_confirmation(&mut self, _area: &[u8], place: u64) -> Confirmation {
@@ -382,6 +384,10 @@ impl Port for Stepwise {
 
     fn read_run(&mut self, _area: &[u8]) -> Run {
         self.state().read_run()
+    }
+
+    fn read_settings(&mut self, _area: &[u8]) -> Capacities {
+        self.state().read_settings()
     }
 
     fn chaos_schedule(

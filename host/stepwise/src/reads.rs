@@ -1,7 +1,7 @@
 //! What a run tells of itself as a whole.
 
 use consensus::Payload;
-use port::{Metrics, Run, kinds};
+use port::{Capacities, Metrics, Run, kinds};
 use sim::leaves;
 
 use crate::state::{Phase, State};
@@ -40,10 +40,29 @@ impl State {
                 Phase::Writing => kinds::phase::WRITING,
                 Phase::Sending => kinds::phase::SENDING,
             },
+            server: self.open.map_or(0, |open| open.slot as u64 + 1),
+            input: self
+                .open
+                .map_or(kinds::input::NONE, |open| open.kind.number()),
             queued: self.queued,
             replies: self.replies.len() as u64,
             confirmations: self.confirmations.len() as u64,
             violations: self.checker.total(),
+        }
+    }
+
+    pub(crate) fn read_settings(&self) -> Capacities {
+        let limits = self.limits;
+        Capacities {
+            refusal: 0,
+            servers: self.servers.len() as u64,
+            clients: self.clients.len() as u64,
+            log: limits.log,
+            payload: limits.payload,
+            message: limits.message,
+            events: limits.events,
+            writes: limits.writes,
+            history: limits.history,
         }
     }
 }

@@ -4,7 +4,7 @@ use std::collections::BTreeSet;
 use std::time::Duration;
 
 use consensus::{LogIndex, NodeId, Payload, Rng, Role, Status, Term};
-use port::{Input, Limits, Settings};
+use port::{Input, Limits, Settings, kinds};
 use sim::leaves::{Checker, EventQueue, Network, TrackedStorage};
 use sim::{Confirmation, Fault, Metrics, Reply, SimConfig, SimTime, Stream, stream_rng};
 
@@ -90,6 +90,19 @@ pub(crate) enum Kind {
     },
 }
 
+impl Kind {
+    /// Its number (`kinds::input`).
+    pub(crate) fn number(self) -> u64 {
+        match self {
+            Kind::Start => kinds::input::START,
+            Kind::Message { .. } => kinds::input::MESSAGE,
+            Kind::Timer(_) => kinds::input::TIMER,
+            Kind::Proposal(_) => kinds::input::PROPOSAL,
+            Kind::Confirmation { .. } => kinds::input::CONFIRMATION,
+        }
+    }
+}
+
 /// Who proposes.
 #[derive(Clone, Copy)]
 pub(crate) enum Proposer {
@@ -145,7 +158,8 @@ pub(crate) struct State {
     pub checker: Checker,
     /// The payloads that the checker has as applied.
     pub applied: Vec<Payload>,
-    pub replies: Vec<Reply>,
+    /// The replies, each with its client and its sequence number.
+    pub replies: Vec<(Reply, (u64, u64))>,
     pub acknowledged: Vec<(LogIndex, Payload)>,
     pub confirmations: Vec<Confirmation>,
     pub max_log_gaps: u64,

@@ -9,7 +9,7 @@ use crate::{Call, Exchange, Numbers, Trace};
 /// The names that exchanges are written with.
 const NAMES: &str = "\
 use mathlib.Core.List.{List, [], _∷_}
-use Rattle.model.specs.Outcome.{hardState, put, truncate, send, setTimer, cancelTimer, apply, confirmed, lost, readStatus, readHardState, readLog, readEntry, readLeader, readApplied, readAppliedEntry, readMetrics, readSentBy, readReply, readConfirmation, readViolation, readRun, start, step, propose, fireTimer, confirmLeadership, schedule, write, seal, output, end, checkLogMatching, checkDurability, read}
+use Rattle.model.specs.Outcome.{hardState, put, truncate, send, setTimer, cancelTimer, apply, confirmed, lost, readStatus, readHardState, readLog, readEntry, readLeader, readApplied, readAppliedEntry, readMetrics, readSentBy, readReply, readConfirmation, readViolation, readRun, readSettings, start, step, propose, fireTimer, confirmLeadership, schedule, write, seal, output, end, checkLogMatching, checkDurability, read}
 use Rattle.runs.specs.Trace.{Exchange, exchange}
 ";
 
@@ -194,6 +194,7 @@ fn text(call: &Call, buffer: u64) -> String {
         Call::ReadConfirmation { place } => format!("read (readConfirmation {place})"),
         Call::ReadViolation { place } => format!("read (readViolation {place})"),
         Call::ReadRun {} => "read readRun".to_string(),
+        Call::ReadSettings {} => "read readSettings".to_string(),
         Call::ChaosSchedule { .. } => unreachable!("a schedule is left out"),
     }
 }

@@ -1,9 +1,9 @@
 //! The calls as values, and their answers.
 
 use port::{
-    Applied, AppliedEntry, Chaos, Confirmation, Done, Drawn, ENTRY, Entry, HardState, Input,
-    Leader, Limits, Log, Metrics, Opened, Port, Refused, Reply, Run, Sealed, SentBy, Settings,
-    Status, Stepped, Violation, Words, kinds,
+    Applied, AppliedEntry, Capacities, Chaos, Confirmation, Done, Drawn, ENTRY, Entry, HardState,
+    Input, Leader, Limits, Log, Metrics, Opened, Port, Refused, Reply, Run, Sealed, SentBy,
+    Settings, Status, Stepped, Violation, Words, kinds,
 };
 
 /// Declares the calls: number, name, arguments, and the kind of answer.
@@ -99,6 +99,7 @@ calls! {
     31 ReadViolation { place: u64 } -> Violation;
     32 ReadRun {} -> Run;
     33 ChaosSchedule { servers: Vec<u8>, chaos: Chaos, generator: u64, length: u64 } -> Drawn;
+    34 ReadSettings {} -> Capacities;
 }
 
 impl Call {
@@ -114,7 +115,7 @@ impl Call {
 
     /// Whether the call only reads.
     pub fn reads(&self) -> bool {
-        (20..33).contains(&self.number())
+        matches!(self.number(), 20..=32 | 34)
     }
 }
 
@@ -169,7 +170,7 @@ macro_rules! numbers {
 
 numbers! {
     Done, Opened, Stepped, Sealed, Status, HardState, Log, Entry, Leader, Applied, AppliedEntry,
-    Metrics, SentBy, Reply, Confirmation, Violation, Run, Drawn,
+    Metrics, SentBy, Reply, Confirmation, Violation, Run, Drawn, Capacities,
 }
 
 impl<N: Into<Numbers>> From<N> for Answer {
@@ -321,6 +322,7 @@ impl Call {
             Call::ReadConfirmation { place } => port.read_confirmation(area, *place).into(),
             Call::ReadViolation { place } => port.read_violation(area, *place).into(),
             Call::ReadRun {} => port.read_run(area).into(),
+            Call::ReadSettings {} => port.read_settings(area).into(),
             Call::ChaosSchedule { servers, chaos, .. } => port
                 .chaos_schedule(servers, chaos, generator, buffer)
                 .into(),

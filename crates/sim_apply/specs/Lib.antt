@@ -1,0 +1,4 @@
+pub mod Applies
+pub mod Laws
+pub mod ReplyLaws
+pub mod ApplyLaws

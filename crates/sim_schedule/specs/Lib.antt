@@ -1,0 +1,4 @@
+pub mod Given
+pub mod GivenLaws
+pub mod Schedule
+pub mod ScheduleLaws

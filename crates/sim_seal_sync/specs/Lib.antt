@@ -1,0 +1,2 @@
+pub mod Syncs
+pub mod Laws
