@@ -12,6 +12,7 @@ use Rattle.laws.specs.Decides.{false-true}
 use Rattle.seeds.specs.Seeds.{streamSeed}
 use Rattle.seeds.specs.declared.Stream.{Stream}
 use Rattle.seeds.specs.declared.Stream.the-variants as stream
+use Rattle.config.specs.declared.SimConfig.{SimConfig}
 use Rattle.config.specs.declared.Limits.{Limits}
 use Rattle.config.specs.Limits.{within, serversFit, countsFit, areaLength, InLimits}
 use Rattle.config.specs.Laws.{counts-limits}
@@ -22,12 +23,17 @@ use Rattle.faults_chaos.specs.Answers.{idsOf}
 use Rattle.faults_schedule.specs.declared.Scheduled.{Scheduled}
 use Rattle.faults_schedule.specs.declared.Scheduled.the-variants as scheduled
 use Rattle.faults_schedule.specs.Schedules.{Schedules, answerOf, listAfter, generatorAfter}
+use Rattle.model.specs.Calls.{start}
+use Rattle.state.specs.Call.{starting}
+use Rattle.answers.specs.declared.OpenedAnswer.{OpenedAnswer}
+use Rattle.answers.specs.Answers.{openedNo, openedYes}
+use Rattle.api.specs.declared.settings.SettingsNumbers.{SettingsNumbers}
 use Rattle.api.specs.declared.settings.LimitsNumbers.{LimitsNumbers}
 use Rattle.api.specs.declared.schedules.LengthAnswer.{LengthAnswer}
 use Rattle.api.specs.declared.schedules.SeedAnswer.{SeedAnswer}
 use Rattle.api.specs.declared.schedules.ChaosNumbers.{ChaosNumbers}
 use Rattle.api.specs.declared.schedules.ScheduleAnswer.{ScheduleAnswer}
-use Rattle.api.specs.Given.{limitsGiven, lengthOf, streamOf, seedOf, chaosGiven, scheduleTold, scheduleGiven, ScheduleDrawn}
+use Rattle.api.specs.Given.{settingsGiven, limitsGiven, lengthOf, streamOf, seedOf, chaosGiven, scheduleTold, scheduleGiven, ScheduleDrawn}
 
 not-yes : (t u : Bool) → t ≡ u → not t ≡ true → u ≡ false
 not-yes true u e h = absurd (false-true h)
@@ -132,3 +138,9 @@ schedule-drawn servers n generator c g g′ b b′ m r ec eg k er =
       answer = er ∙ ap₂ scheduleTold (k .answer ∙ ap answerOf made) (k .generator ∙ ap₂ generatorAfter made eg);
       list = k .list ∙ ap (λ (x : Chaos). listAfter x b) made;
     }
+
+-- ---- a start
+
+pub start-given : (b b′ : List ℕ) (n : SettingsNumbers) (m : LimitsNumbers) (seed : ℕ) (c : SimConfig) (l : Limits) (r : OpenedAnswer) → c ≡ settingsGiven n → l ≡ limitsGiven m
+    → (r, b′) ≡ starting openedNo openedYes b (start c l seed) → (r, b′) ≡ starting openedNo openedYes b (start (settingsGiven n) (limitsGiven m) seed)
+start-given b b′ n m seed c l r ec el e = e ∙ ap₂ (λ (x : SimConfig) (y : Limits). starting openedNo openedYes b (start x y seed)) ec el

@@ -1,8 +1,9 @@
-// The direct calls: each opens an input of a server that runs.
+// The direct calls: each opens an input of a server that runs, or schedules a fault.
 ghost use mathlib.Core.Path.{_≡_};
-ghost use Rattle.model.specs.Calls.{propose, fireTimer, confirmLeadership};
+ghost use Rattle.model.specs.Calls.{propose, fireTimer, confirmLeadership, schedule};
 ghost use Rattle.state.specs.Call.{call};
-ghost use Rattle.answers.specs.Answers.{openedNo, openedYes, askedYes};
+ghost use Rattle.answers.specs.Answers.{doneNo, doneYes, openedNo, openedYes, askedYes};
+use answers::DoneAnswer;
 use answers::OpenedAnswer;
 use sim_direct::asked;
 
@@ -31,4 +32,20 @@ pub extern "C" fn sim_confirm_leadership(area: &mut [u8], server: u64, request: 
 {
     let g = state_gate::gate(area);
     asked::confirm_leadership_in(area, g, server, request)
+}
+
+// A fault scheduled: its kind, two numbers, and a partition's groups, one byte each.
+#[no_mangle]
+pub extern "C" fn sim_schedule(
+    area: &mut [u8],
+    time: u64,
+    kind: u64,
+    first: u64,
+    second: u64,
+    groups: &[u8],
+) -> DoneAnswer
+    ensures { λ r. ⌜ (r, now (area .exit)) ≡ call doneNo doneYes (now (area .entry)) (schedule (record { 0 = time }) kind first second (now (groups .entry))) ⌝ }
+{
+    let g = state_gate::gate(area);
+    sim_schedule::schedule_in(area, g, time, kind, first, second, groups)
 }

@@ -1,6 +1,6 @@
 // The outputs of the open input.
 ghost use mathlib.Core.Path.{_≡_};
-ghost use Rattle.model.specs.Calls.{outputSend, outputSetTimer, outputCancelTimer, outputConfirmed, outputLost};
+ghost use Rattle.model.specs.Calls.{outputSend, outputSetTimer, outputCancelTimer, outputApply, outputConfirmed, outputLost};
 ghost use Rattle.state.specs.Call.{call};
 ghost use Rattle.answers.specs.Answers.{doneNo, doneYes};
 use answers::DoneAnswer;
@@ -37,6 +37,20 @@ pub extern "C" fn sim_output_cancel_timer(area: &mut [u8], timer: u64) -> DoneAn
 {
     let g = state_gate::gate(area);
     timers::output_cancel_timer_in(area, g, timer)
+}
+
+// An entry applied.
+#[no_mangle]
+pub extern "C" fn sim_output_apply(
+    area: &mut [u8],
+    index: u64,
+    kind: u64,
+    payload: &[u8],
+) -> DoneAnswer
+    ensures { λ r. ⌜ (r, now (area .exit)) ≡ call doneNo doneYes (now (area .entry)) (outputApply (record { 0 = index }) kind (now (payload .entry))) ⌝ }
+{
+    let g = state_gate::gate(area);
+    sim_apply::output_apply_in(area, g, index, kind, payload)
 }
 
 // Leadership confirmed, with the read index.
