@@ -1,4 +1,5 @@
 // The calls that change a run, made with a row's arguments, each family in one function.
+ghost use Prim.Native.Nat.{_≤_};
 use crate::row;
 use crate::told;
 use api::direct;
@@ -15,6 +16,64 @@ pub fn started(given: &[u8], answer: &[u8], area: &mut [u8]) -> bool {
         answer,
         run::sim_start(area, settings, limits, row::number(given, 20)),
     )
+}
+
+// Bytes of the message that a step delivers, 0 where it delivers none.
+fn message_length(kind: u64, second: u64) -> u64 {
+    if kind == 2 { second } else { 0 }
+}
+
+// A step, whose message goes to the buffer.
+fn stepped_in(given: &[u8], answer: &[u8], area: &mut [u8], buffer: &mut [u8]) -> bool {
+    let a = run::sim_step(area, row::number(given, 0), buffer);
+    let i = a.input;
+    let size = message_length(i.kind, i.second);
+    told::numbers_and_bytes(
+        answer,
+        &[
+            a.refusal,
+            a.taken,
+            i.kind,
+            i.server,
+            i.first,
+            i.second,
+            i.third,
+            size,
+        ],
+        size,
+        buffer,
+    )
+}
+
+// A step, with a buffer of this length.
+pub fn stepped(given: &[u8], answer: &[u8], area: &mut [u8], longest: usize) -> bool
+    requires { ⌜ longest ≤ 4096 ⌝ }
+{
+    let mut buffer = [165u8; 4096];
+    stepped_in(given, answer, area, &mut buffer[0..longest])
+}
+
+// A seal.
+pub fn sealed(given: &[u8], answer: &[u8], area: &mut [u8]) -> bool {
+    let refused = row::number(given, 0);
+    let present = row::number(given, 1);
+    told::sealed(
+        answer,
+        run::sim_seal(area, refused, present, row::number(given, 2)),
+    )
+}
+
+// An end.
+pub fn ended(given: &[u8], answer: &[u8], area: &mut [u8]) -> bool {
+    let a = run::sim_end(
+        area,
+        row::number(given, 0),
+        row::number(given, 1),
+        row::number(given, 2),
+        row::number(given, 3),
+        row::number(given, 4),
+    );
+    told::opened(answer, a)
 }
 
 // The direct calls: 3 propose, 4 fire timer, 5 confirm leadership.

@@ -18,11 +18,14 @@ fn called(call: u64, given: &[u8], answer: &[u8], area: &mut [u8], longest: usiz
 {
     match call {
         1 => calls::started(given, answer, area),
+        2 => calls::stepped(given, answer, area, longest),
         3 | 4 | 5 => calls::direct_call(call, given, answer, area),
         6 => calls::scheduled(given, answer, area),
         7 | 8 | 9 => calls::write(call, given, answer, area),
+        10 => calls::sealed(given, answer, area),
         11 => calls::sent(given, answer, area),
         12 | 13 | 14 | 15 | 16 => calls::output(call, given, answer, area),
+        17 => calls::ended(given, answer, area),
         18 | 19 => calls::check(call, answer, area),
         20 | 21 | 22 | 25 | 28 => reads::of_server(call, given, answer, area),
         23 | 26 => reads::with_buffer(call, given, answer, area, longest),
@@ -223,7 +226,7 @@ fn turn(row: &[u8], lent: Lent, area: &mut [u8]) -> Made
     }
 }
 
-// Makes the calls of a file.
+// Makes the calls of a file, at most a million.
 fn replayed(file: i32, row: &mut [u8], area: &mut [u8]) -> Tally
     requires { ⌜ (length (now row) ≡ 8192) × (length (now area) ≡ 131072) ⌝ }
 {

@@ -6,6 +6,7 @@ ghost use Rattle.laws.specs.Decides.{Decides};
 ghost use Rattle.words.specs.Words.{bytes};
 use answers::DoneAnswer;
 use answers::OpenedAnswer;
+use answers::SealedAnswer;
 
 // Whether bytes are these words, which are written to a space for it.
 fn words_are(s: &[u8], found: &[u64], space: &mut [u8]) -> bool
@@ -52,11 +53,11 @@ fn written(held: &[u8], size: u64, buffer: &[u8]) -> bool {
 pub fn numbers_and_bytes(answer: &[u8], found: &[u64], size: u64, buffer: &[u8]) -> bool
     requires { ⌜ length (now found) ≤ 12 ⌝ }
 {
-    let n = 8 * found.len();
-    if answer.len() < n {
+    let front = 8 * found.len();
+    if answer.len() < front {
         return false;
     }
-    numbers(&answer[0..n], found) & written(&answer[n..], size, buffer)
+    numbers(&answer[0..front], found) & written(&answer[front..], size, buffer)
 }
 
 // A call with nothing to tell.
@@ -70,5 +71,23 @@ pub fn opened(answer: &[u8], a: OpenedAnswer) -> bool {
     numbers(
         answer,
         &[a.refusal, i.kind, i.server, i.first, i.second, i.third, 0],
+    )
+}
+
+// A seal: what it did, and the start that is owed behind a cut.
+pub fn sealed(answer: &[u8], a: SealedAnswer) -> bool {
+    let i = a.input;
+    numbers(
+        answer,
+        &[
+            a.refusal,
+            a.outcome,
+            i.kind,
+            i.server,
+            i.first,
+            i.second,
+            i.third,
+            0,
+        ],
     )
 }
