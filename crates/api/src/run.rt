@@ -1,13 +1,14 @@
 // A run begins and goes on, and its open input is sealed and ended.
 ghost use mathlib.Core.Path.{_≡_};
-ghost use Rattle.model.specs.Calls.{start};
-ghost use Rattle.state.specs.Call.{starting};
-ghost use Rattle.answers.specs.Answers.{openedNo, openedYes};
+ghost use Rattle.model.specs.Calls.{start, seal};
+ghost use Rattle.state.specs.Call.{call, starting};
+ghost use Rattle.answers.specs.Answers.{openedNo, openedYes, sealedNo, sealedYes};
 ghost use Rattle.api.specs.Given.{settingsGiven, limitsGiven};
 use crate::settings;
 use crate::settings::LimitsNumbers;
 use crate::settings::SettingsNumbers;
 use answers::OpenedAnswer;
+use answers::SealedAnswer;
 
 // A simulation begins, whatever was in the area before.
 #[no_mangle]
@@ -22,4 +23,13 @@ pub extern "C" fn sim_start(
     let config = settings::settings_given(settings);
     let capacity = settings::limits_given(limits);
     sim_start::start_in(area, config, capacity, seed)
+}
+
+// The node has returned: whether it refused its input, and which leader it named. The input's writes are synced, or cut.
+#[no_mangle]
+pub extern "C" fn sim_seal(area: &mut [u8], refused: u64, present: u64, leader: u64) -> SealedAnswer
+    ensures { λ r. ⌜ (r, now (area .exit)) ≡ call sealedNo sealedYes (now (area .entry)) (seal refused present leader) ⌝ }
+{
+    let g = state_gate::gate(area);
+    sim_seal::seal_in(area, g, refused, present, leader)
 }
