@@ -1,6 +1,6 @@
 // A run begins and goes on, and its open input is sealed and ended.
 ghost use mathlib.Core.Path.{_≡_};
-ghost use Rattle.model.specs.Calls.{start, seal};
+ghost use Rattle.model.specs.Calls.{start, seal, end};
 ghost use Rattle.state.specs.Call.{call, starting};
 ghost use Rattle.answers.specs.Answers.{openedNo, openedYes, sealedNo, sealedYes};
 ghost use Rattle.api.specs.Given.{settingsGiven, limitsGiven};
@@ -32,4 +32,20 @@ pub extern "C" fn sim_seal(area: &mut [u8], refused: u64, present: u64, leader: 
 {
     let g = state_gate::gate(area);
     sim_seal::seal_in(area, g, refused, present, leader)
+}
+
+// The outputs are over; the node's status. What is owed goes on.
+#[no_mangle]
+pub extern "C" fn sim_end(
+    area: &mut [u8],
+    role: u64,
+    term: u64,
+    present: u64,
+    leader: u64,
+    commit: u64,
+) -> OpenedAnswer
+    ensures { λ r. ⌜ (r, now (area .exit)) ≡ call openedNo openedYes (now (area .entry)) (end role (record { 0 = term }) present leader (record { 0 = commit })) ⌝ }
+{
+    let g = state_gate::gate(area);
+    sim_end::end_in(area, g, role, term, present, leader, commit)
 }

@@ -71,7 +71,13 @@ fn gate_given(n: CountsNumbers) -> Gate
 
 // The node has returned: whether it refused its input, and which leader it named. The input's writes are synced, or cut.
 #[no_mangle]
-pub extern "C" fn bench_seal(area: &mut [u8], counts: CountsNumbers, refused: u64, present: u64, leader: u64) -> SealedAnswer
+pub extern "C" fn bench_seal(
+    area: &mut [u8],
+    counts: CountsNumbers,
+    refused: u64,
+    present: u64,
+    leader: u64,
+) -> SealedAnswer
     requires { ⌜ Gated (now area) (gateGiven counts) ⌝ }
     ensures { λ r. ⌜ (r, now (area .exit)) ≡ call sealedNo sealedYes (now (area .entry)) (seal refused present leader) ⌝ }
 {
@@ -91,7 +97,12 @@ pub extern "C" fn bench_propose(area: &mut [u8], counts: CountsNumbers, server: 
 
 // A timer fired at a server, whether or not it is pending.
 #[no_mangle]
-pub extern "C" fn bench_fire_timer(area: &mut [u8], counts: CountsNumbers, server: u64, timer: u64) -> OpenedAnswer
+pub extern "C" fn bench_fire_timer(
+    area: &mut [u8],
+    counts: CountsNumbers,
+    server: u64,
+    timer: u64,
+) -> OpenedAnswer
     requires { ⌜ Gated (now area) (gateGiven counts) ⌝ }
     ensures { λ r. ⌜ (r, now (area .exit)) ≡ call openedNo openedYes (now (area .entry)) (fireTimer server timer) ⌝ }
 {
@@ -101,7 +112,12 @@ pub extern "C" fn bench_fire_timer(area: &mut [u8], counts: CountsNumbers, serve
 
 // Leadership to be confirmed by a server.
 #[no_mangle]
-pub extern "C" fn bench_confirm_leadership(area: &mut [u8], counts: CountsNumbers, server: u64, request: u64) -> OpenedAnswer
+pub extern "C" fn bench_confirm_leadership(
+    area: &mut [u8],
+    counts: CountsNumbers,
+    server: u64,
+    request: u64,
+) -> OpenedAnswer
     requires { ⌜ Gated (now area) (gateGiven counts) ⌝ }
     ensures { λ r. ⌜ (r, now (area .exit)) ≡ call openedNo askedYes (now (area .entry)) (confirmLeadership server (record { 0 = request })) ⌝ }
 {
@@ -111,7 +127,15 @@ pub extern "C" fn bench_confirm_leadership(area: &mut [u8], counts: CountsNumber
 
 // A fault scheduled: its kind, two numbers, and a partition's groups, one byte each.
 #[no_mangle]
-pub extern "C" fn bench_schedule(area: &mut [u8], counts: CountsNumbers, time: u64, kind: u64, first: u64, second: u64, groups: &[u8]) -> DoneAnswer
+pub extern "C" fn bench_schedule(
+    area: &mut [u8],
+    counts: CountsNumbers,
+    time: u64,
+    kind: u64,
+    first: u64,
+    second: u64,
+    groups: &[u8],
+) -> DoneAnswer
     requires { ⌜ Gated (now area) (gateGiven counts) ⌝ }
     ensures { λ r. ⌜ (r, now (area .exit)) ≡ call doneNo doneYes (now (area .entry)) (schedule (record { 0 = time }) kind first second (now (groups .entry))) ⌝ }
 {
@@ -121,7 +145,13 @@ pub extern "C" fn bench_schedule(area: &mut [u8], counts: CountsNumbers, time: u
 
 // Term and vote written; the flag says whether there is a vote.
 #[no_mangle]
-pub extern "C" fn bench_write_hard_state(area: &mut [u8], counts: CountsNumbers, term: u64, present: u64, vote: u64) -> DoneAnswer
+pub extern "C" fn bench_write_hard_state(
+    area: &mut [u8],
+    counts: CountsNumbers,
+    term: u64,
+    present: u64,
+    vote: u64,
+) -> DoneAnswer
     requires { ⌜ Gated (now area) (gateGiven counts) ⌝ }
     ensures { λ r. ⌜ (r, now (area .exit)) ≡ call doneNo doneYes (now (area .entry)) (writeHardStateCall (record { 0 = term }) present vote) ⌝ }
 {
@@ -131,7 +161,14 @@ pub extern "C" fn bench_write_hard_state(area: &mut [u8], counts: CountsNumbers,
 
 // An entry put at an index of the log.
 #[no_mangle]
-pub extern "C" fn bench_write_put(area: &mut [u8], counts: CountsNumbers, index: u64, term: u64, kind: u64, payload: &[u8]) -> DoneAnswer
+pub extern "C" fn bench_write_put(
+    area: &mut [u8],
+    counts: CountsNumbers,
+    index: u64,
+    term: u64,
+    kind: u64,
+    payload: &[u8],
+) -> DoneAnswer
     requires { ⌜ Gated (now area) (gateGiven counts) ⌝ }
     ensures { λ r. ⌜ (r, now (area .exit)) ≡ call doneNo doneYes (now (area .entry)) (writePutCall (record { 0 = index }) (record { 0 = term }) kind (now (payload .entry))) ⌝ }
 {
@@ -141,7 +178,11 @@ pub extern "C" fn bench_write_put(area: &mut [u8], counts: CountsNumbers, index:
 
 // The log truncated from an index on.
 #[no_mangle]
-pub extern "C" fn bench_write_truncate(area: &mut [u8], counts: CountsNumbers, from: u64) -> DoneAnswer
+pub extern "C" fn bench_write_truncate(
+    area: &mut [u8],
+    counts: CountsNumbers,
+    from: u64,
+) -> DoneAnswer
     requires { ⌜ Gated (now area) (gateGiven counts) ⌝ }
     ensures { λ r. ⌜ (r, now (area .exit)) ≡ call doneNo doneYes (now (area .entry)) (writeTruncateCall (record { 0 = from })) ⌝ }
 {
@@ -151,7 +192,13 @@ pub extern "C" fn bench_write_truncate(area: &mut [u8], counts: CountsNumbers, f
 
 // A message sent to a server, with so many log entries.
 #[no_mangle]
-pub extern "C" fn bench_output_send(area: &mut [u8], counts: CountsNumbers, to: u64, message: &[u8], entries: u64) -> DoneAnswer
+pub extern "C" fn bench_output_send(
+    area: &mut [u8],
+    counts: CountsNumbers,
+    to: u64,
+    message: &[u8],
+    entries: u64,
+) -> DoneAnswer
     requires { ⌜ Gated (now area) (gateGiven counts) ⌝ }
     ensures { λ r. ⌜ (r, now (area .exit)) ≡ call doneNo doneYes (now (area .entry)) (outputSend to (now (message .entry)) entries) ⌝ }
 {
@@ -161,7 +208,12 @@ pub extern "C" fn bench_output_send(area: &mut [u8], counts: CountsNumbers, to: 
 
 // A timer set, in the place of one that is pending.
 #[no_mangle]
-pub extern "C" fn bench_output_set_timer(area: &mut [u8], counts: CountsNumbers, timer: u64, after: u64) -> DoneAnswer
+pub extern "C" fn bench_output_set_timer(
+    area: &mut [u8],
+    counts: CountsNumbers,
+    timer: u64,
+    after: u64,
+) -> DoneAnswer
     requires { ⌜ Gated (now area) (gateGiven counts) ⌝ }
     ensures { λ r. ⌜ (r, now (area .exit)) ≡ call doneNo doneYes (now (area .entry)) (outputSetTimer timer (record { 0 = after })) ⌝ }
 {
@@ -171,7 +223,11 @@ pub extern "C" fn bench_output_set_timer(area: &mut [u8], counts: CountsNumbers,
 
 // A timer cancelled.
 #[no_mangle]
-pub extern "C" fn bench_output_cancel_timer(area: &mut [u8], counts: CountsNumbers, timer: u64) -> DoneAnswer
+pub extern "C" fn bench_output_cancel_timer(
+    area: &mut [u8],
+    counts: CountsNumbers,
+    timer: u64,
+) -> DoneAnswer
     requires { ⌜ Gated (now area) (gateGiven counts) ⌝ }
     ensures { λ r. ⌜ (r, now (area .exit)) ≡ call doneNo doneYes (now (area .entry)) (outputCancelTimer timer) ⌝ }
 {
@@ -181,7 +237,13 @@ pub extern "C" fn bench_output_cancel_timer(area: &mut [u8], counts: CountsNumbe
 
 // An entry applied.
 #[no_mangle]
-pub extern "C" fn bench_output_apply(area: &mut [u8], counts: CountsNumbers, index: u64, kind: u64, payload: &[u8]) -> DoneAnswer
+pub extern "C" fn bench_output_apply(
+    area: &mut [u8],
+    counts: CountsNumbers,
+    index: u64,
+    kind: u64,
+    payload: &[u8],
+) -> DoneAnswer
     requires { ⌜ Gated (now area) (gateGiven counts) ⌝ }
     ensures { λ r. ⌜ (r, now (area .exit)) ≡ call doneNo doneYes (now (area .entry)) (outputApply (record { 0 = index }) kind (now (payload .entry))) ⌝ }
 {
@@ -191,7 +253,12 @@ pub extern "C" fn bench_output_apply(area: &mut [u8], counts: CountsNumbers, ind
 
 // Leadership confirmed, with the read index.
 #[no_mangle]
-pub extern "C" fn bench_output_confirmed(area: &mut [u8], counts: CountsNumbers, request: u64, read_index: u64) -> DoneAnswer
+pub extern "C" fn bench_output_confirmed(
+    area: &mut [u8],
+    counts: CountsNumbers,
+    request: u64,
+    read_index: u64,
+) -> DoneAnswer
     requires { ⌜ Gated (now area) (gateGiven counts) ⌝ }
     ensures { λ r. ⌜ (r, now (area .exit)) ≡ call doneNo doneYes (now (area .entry)) (outputConfirmed (record { 0 = request }) (record { 0 = «read_index» })) ⌝ }
 {
@@ -201,7 +268,11 @@ pub extern "C" fn bench_output_confirmed(area: &mut [u8], counts: CountsNumbers,
 
 // Leadership lost.
 #[no_mangle]
-pub extern "C" fn bench_output_lost(area: &mut [u8], counts: CountsNumbers, request: u64) -> DoneAnswer
+pub extern "C" fn bench_output_lost(
+    area: &mut [u8],
+    counts: CountsNumbers,
+    request: u64,
+) -> DoneAnswer
     requires { ⌜ Gated (now area) (gateGiven counts) ⌝ }
     ensures { λ r. ⌜ (r, now (area .exit)) ≡ call doneNo doneYes (now (area .entry)) (outputLost (record { 0 = request })) ⌝ }
 {
@@ -241,7 +312,11 @@ pub extern "C" fn bench_read_status(area: &[u8], counts: CountsNumbers, server: 
 
 // A server's term and vote as written so far.
 #[no_mangle]
-pub extern "C" fn bench_read_hard_state(area: &[u8], counts: CountsNumbers, server: u64) -> HardStateAnswer
+pub extern "C" fn bench_read_hard_state(
+    area: &[u8],
+    counts: CountsNumbers,
+    server: u64,
+) -> HardStateAnswer
     requires { ⌜ Gated (now area) (gateGiven counts) ⌝ }
     ensures { λ r. ⌜ r ≡ reading hardStateNo hardStateYes (now (area .entry)) (readHardState server) ⌝ }
 {
@@ -261,7 +336,13 @@ pub extern "C" fn bench_read_log(area: &[u8], counts: CountsNumbers, server: u64
 
 // An entry of a server's log; a command goes to the buffer.
 #[no_mangle]
-pub extern "C" fn bench_read_entry(area: &[u8], counts: CountsNumbers, server: u64, index: u64, buffer: &mut [u8]) -> EntryAnswer
+pub extern "C" fn bench_read_entry(
+    area: &[u8],
+    counts: CountsNumbers,
+    server: u64,
+    index: u64,
+    buffer: &mut [u8],
+) -> EntryAnswer
     requires { ⌜ Gated (now area) (gateGiven counts) ⌝ }
     ensures { λ r. ⌜ EntryRead (now (area .entry)) server index (now (buffer .entry)) (now (buffer .exit)) r ⌝ }
 {
@@ -281,7 +362,11 @@ pub extern "C" fn bench_read_leader(area: &[u8], counts: CountsNumbers) -> Leade
 
 // The highest index that a server has applied since it last started.
 #[no_mangle]
-pub extern "C" fn bench_read_applied(area: &[u8], counts: CountsNumbers, server: u64) -> AppliedAnswer
+pub extern "C" fn bench_read_applied(
+    area: &[u8],
+    counts: CountsNumbers,
+    server: u64,
+) -> AppliedAnswer
     requires { ⌜ Gated (now area) (gateGiven counts) ⌝ }
     ensures { λ r. ⌜ r ≡ reading appliedNo appliedYes (now (area .entry)) (readApplied server) ⌝ }
 {
@@ -291,7 +376,12 @@ pub extern "C" fn bench_read_applied(area: &[u8], counts: CountsNumbers, server:
 
 // The first payload that any server applied at an index; a command goes to the buffer.
 #[no_mangle]
-pub extern "C" fn bench_read_applied_entry(area: &[u8], counts: CountsNumbers, index: u64, buffer: &mut [u8]) -> AppliedEntryAnswer
+pub extern "C" fn bench_read_applied_entry(
+    area: &[u8],
+    counts: CountsNumbers,
+    index: u64,
+    buffer: &mut [u8],
+) -> AppliedEntryAnswer
     requires { ⌜ Gated (now area) (gateGiven counts) ⌝ }
     ensures { λ r. ⌜ AppliedRead (now (area .entry)) index (now (buffer .entry)) (now (buffer .exit)) r ⌝ }
 {
@@ -311,7 +401,11 @@ pub extern "C" fn bench_read_metrics(area: &[u8], counts: CountsNumbers) -> Metr
 
 // What one server has sent.
 #[no_mangle]
-pub extern "C" fn bench_read_sent_by(area: &[u8], counts: CountsNumbers, server: u64) -> SentByAnswer
+pub extern "C" fn bench_read_sent_by(
+    area: &[u8],
+    counts: CountsNumbers,
+    server: u64,
+) -> SentByAnswer
     requires { ⌜ Gated (now area) (gateGiven counts) ⌝ }
     ensures { λ r. ⌜ r ≡ reading sentByNo sentByYes (now (area .entry)) (readSentBy server) ⌝ }
 {
@@ -331,7 +425,11 @@ pub extern "C" fn bench_read_reply(area: &[u8], counts: CountsNumbers, place: u6
 
 // A confirmation, by its place in order of arrival, from 0.
 #[no_mangle]
-pub extern "C" fn bench_read_confirmation(area: &[u8], counts: CountsNumbers, place: u64) -> ConfirmationAnswer
+pub extern "C" fn bench_read_confirmation(
+    area: &[u8],
+    counts: CountsNumbers,
+    place: u64,
+) -> ConfirmationAnswer
     requires { ⌜ Gated (now area) (gateGiven counts) ⌝ }
     ensures { λ r. ⌜ r ≡ reading confirmationNo confirmationYes (now (area .entry)) (readConfirmation place) ⌝ }
 {
@@ -341,7 +439,11 @@ pub extern "C" fn bench_read_confirmation(area: &[u8], counts: CountsNumbers, pl
 
 // A kept violation, by its place in order of report, from 0.
 #[no_mangle]
-pub extern "C" fn bench_read_violation(area: &[u8], counts: CountsNumbers, place: u64) -> ViolationAnswer
+pub extern "C" fn bench_read_violation(
+    area: &[u8],
+    counts: CountsNumbers,
+    place: u64,
+) -> ViolationAnswer
     requires { ⌜ Gated (now area) (gateGiven counts) ⌝ }
     ensures { λ r. ⌜ r ≡ reading violationNo violationYes (now (area .entry)) (readViolation place) ⌝ }
 {
