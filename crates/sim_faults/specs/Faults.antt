@@ -1,6 +1,6 @@
 -- Faults that happen (apply_fault): what the contracts cite, question 10 of each, and what it asks of a state. Assumes nothing.
 use mathlib.Core.Path.{_≡_}
-use mathlib.Core.Bool.{Bool, true, false}
+use mathlib.Core.Bool.{Bool, true}
 use mathlib.Core.List.{List}
 use Prim.Native.Nat.{ℕ, _+_, _≤_}
 use Rattle.laws.specs.Bools.{pick}
@@ -18,9 +18,9 @@ use Rattle.leader.specs.declared.LeaderOption.{LeaderOption}
 use Rattle.leader.specs.declared.LeaderOption.the-variants as led
 use Rattle.queue.specs.Range.{word}
 use Rattle.queue.specs.declared.Event.the-variants as event
-use Rattle.model.specs.State.{State, Server, Phase, serverAt, slotOf}
+use Rattle.model.specs.State.{State, Server, Phase, slotOf}
 use Rattle.model.specs.Fields.{withNetwork, withCrashOnNextInput}
-use Rattle.model.specs.Simulation.{Moved, onServer, later, running, idle, leaderOf, scheduleFault, crashLeader, stopServer, applyFault}
+use Rattle.model.specs.Simulation.{Moved, onServer, later, running, idle, leaderOf, scheduleFault, stopServer, applyFault}
 use Rattle.state.specs.declared.Capacity.{Capacity}
 use Rattle.state.specs.declared.ServerState.{ServerState}
 use Rattle.answers.specs.declared.InputNumbers.{InputNumbers}

@@ -1,25 +1,23 @@
 -- Question 10 of a fault, so that a caller can ask it before it takes the event. Assumes nothing.
 use mathlib.Core.Path.{_≡_, refl, sym, ap, ap₂, subst, _∙_}
-use mathlib.Core.Bool.{Bool, true, false, _&&_}
+use mathlib.Core.Bool.{Bool, true, _&&_}
 use mathlib.Core.List.{List, [], _∷_}
 use mathlib.Core.Option.{Option, none, some}
-use Prim.Native.Nat.{ℕ, zero, suc, _+_, _-_, _^_, _≤_, _<_, max}
+use Prim.Native.Nat.{ℕ, suc, _+_, _-_, _^_, _≤_, _<_, max}
 use native.Mathlib.Omega.{arith}
-use lib.Dec.{eqb, leb, ltb}
+use lib.Dec.{eqb}
 use lib.ListN.{length, set}
-use borrow.Author.Tests.{lt-ltb, le-leb, leb-true, eqb-true, eq-eqb, ltb-true}
+use borrow.Author.Tests.{lt-ltb, le-leb, leb-true, eqb-true, ltb-true}
 use Rattle.laws.specs.Bools.{pick, cases, pick-both, _and_, allb, and-left, and-right, and-both, and-true, true-and}
-use Rattle.laws.specs.Lists.{modify, isSome}
 use Rattle.units.specs.declared.NodeId.{NodeId}
 use Rattle.units.specs.declared.SimTime.{SimTime}
 use Rattle.units.specs.declared.Duration.{Duration}
-use Rattle.config.specs.Limits.{judge, InLimits}
+use Rattle.config.specs.Limits.{judge}
 use Rattle.config.specs.Laws.{in-limits}
-use Rattle.faults.specs.Fault.{inCluster, groupsIn, faultInRange}
+use Rattle.faults.specs.Fault.{inCluster, faultInRange}
 use Rattle.faults.specs.declared.Fault.{Fault}
 use Rattle.faults.specs.declared.Fault.the-variants.{Crash, CrashDuringNextInput, Restart, CrashLeader, Partition, Block, Unblock, HealLinks, SetLoss, SetDuplication, SetDelayFactor, HealAll}
 use Rattle.network.specs.Network as network
-use Rattle.network.specs.Network.{networkInRange}
 use Rattle.network.specs.Ranges.{InRange, in-range, ranged, partition-kept, block-kept, unblock-kept, heal-links-kept, heal-all-kept, set-loss-kept, set-duplication-kept, set-delay-factor-kept}
 use Rattle.network.specs.declared.Network.{Network}
 use Rattle.protocol.specs.Numbers.{leads}
@@ -29,22 +27,22 @@ use Rattle.leader.specs.declared.Reported.{Reported}
 use Rattle.leader.specs.declared.LeaderOption.{LeaderOption}
 use Rattle.leader.specs.declared.LeaderOption.the-variants as led
 use Rattle.queue.specs.Queue.{Scheduled, Queue, push}
-use Rattle.queue.specs.Range.{word, eventFits}
+use Rattle.queue.specs.Range.{word}
 use Rattle.queue.specs.declared.Event.the-variants as event
-use Rattle.model.specs.State.{State, Server, nothing, serverAt, slotOf, idOf}
+use Rattle.model.specs.State.{State, Server, nothing, slotOf, idOf}
 use Rattle.model.specs.Fields.{withQueue, withNow, withEvents, withNetwork, withCrashOnNextInput}
 use Rattle.model.specs.FitsLaws.{groups-known}
-use Rattle.model.specs.Simulation.{Moved, onServer, running, idle, reportedStatus, reportedFrom, leaderOf, scheduleFault, crashLeader, stopServer, restartServer, healFrom, applyFault}
-use Rattle.model.specs.Fits.{stateFits, stateTests, serverFits}
+use Rattle.model.specs.Simulation.{Moved, running, idle, reportedStatus, reportedFrom, leaderOf, crashLeader, stopServer, healFrom, applyFault}
+use Rattle.model.specs.Fits.{stateFits, stateTests}
 use Rattle.state.specs.Fitting.{accepted-is}
 use Rattle.state.specs.FitsBy.{fits-test}
 use Rattle.state.specs.Lens.{ServersFit, server-fine, fits-on-server, servers-kept}
 use Rattle.state_queue.specs.Events.{queueRoom, eventInRange, pushed, plain}
 use Rattle.state_queue.specs.Fits.{fits-push, plain-range}
 use Rattle.sim_owed.specs.Servers.{stopAt, restartTest, restartAt}
-use Rattle.sim_owed.specs.Closes.{idleAt, healAt, healTest, stoppedFrom, stoppedTest, flagsOf, Settled, SettledIn, Agrees}
+use Rattle.sim_owed.specs.Closes.{idleAt, healAt, healTest, stoppedFrom, stoppedTest, flagsOf, SettledIn, Agrees}
 use Rattle.sim_owed.specs.Fits.{settled-fits, fits-idle, fits-stop, kept-stop, fits-restart, fits-heal, agrees-none}
-use Rattle.sim_faults.specs.Faults.{faultAt, networkAfter, networkMove, crashingAt, stopMove, leaderTest, leaderFits, restartFits, faultTest, Ready, ReadyIn}
+use Rattle.sim_faults.specs.Faults.{faultAt, networkAfter, networkMove, crashingAt, stopMove, leaderTest, leaderFits, restartFits, faultTest, ReadyIn}
 
 -- ---- a state that fits is ready
 
@@ -184,7 +182,8 @@ pub leader-below : (t : State) → ServersFit t → Below (t .config .servers) (
 unfolding leader
 leader-below t h = subst (λ (n : ℕ). Below n (leaderOf t)) (let e : 0 + length (t .servers) ≡ t .config .servers = omega (arith, h .count) in e) (from-below (t .servers) 0 led.None tt)
 
-pub leader-is-known : (t : State) → ServersFit t → (o : LeaderOption) (id : NodeId) (term : _) → o ≡ leaderOf t → o ≡ led.Some id term → (1 ≤ id .0) × (id .0 ≤ t .config .servers)
+pub leader-is-known : (t : State) → ServersFit t → (o : LeaderOption) (id : NodeId) (term : _) → o ≡ leaderOf t → o ≡ led.Some id term
+    → (1 ≤ id .0) × (id .0 ≤ t .config .servers)
 leader-is-known t h o id term e q = subst (Below (t .config .servers)) (sym e ∙ q) (leader-below t h)
 
 -- The restart that is scheduled.
@@ -192,7 +191,8 @@ abbrev pub restartEvent : NodeId → SimTime → Scheduled
 restartEvent id time = plain time (event.Fault (Restart id))
 
 -- it is in range where its time has 64 bits
-restart-range : (t : State) (id : NodeId) (time : SimTime) → t .config .servers ≤ 8 → 1 ≤ id .0 → id .0 ≤ t .config .servers → eventInRange t (restartEvent id time) ≡ word (time .0)
+restart-range : (t : State) (id : NodeId) (time : SimTime) → t .config .servers ≤ 8 → 1 ≤ id .0 → id .0 ≤ t .config .servers
+    → eventInRange t (restartEvent id time) ≡ word (time .0)
 unfolding inCluster
 restart-range t id time few l k =
     plain-range t time (event.Fault (Restart id))
@@ -216,7 +216,8 @@ module _ (t : State) (id : NodeId) (d : Duration) (p : ReadyIn t) (l : 1 ≤ id 
   stopped-settled = record { phase = p .settled .phase; servers = kept-stop t (slotOf id) (p .settled .servers) (let i : slotOf id < t .config .servers = omega arith in i) }
 
   -- the event pushed behind the stop
-  pub fits-stopped : (time : SimTime) → stateFits (pushed (restartEvent id time) (stopAt (slotOf id) t)) ≡ ((queueRoom 1 t and word (time .0)) and stateFits t)
+  pub fits-stopped : (time : SimTime)
+      → stateFits (pushed (restartEvent id time) (stopAt (slotOf id) t)) ≡ ((queueRoom 1 t and word (time .0)) and stateFits t)
   unfolding stopAt stopServer queueRoom
   fits-stopped time =
       let i : slotOf id < t .config .servers = omega arith in
@@ -229,7 +230,8 @@ module _ (t : State) (id : NodeId) (d : Duration) (p : ReadyIn t) (l : 1 ≤ id 
       ap (λ (m : Moved). stateFits (m .state)) (stop-is t id d)
       ∙ fits-idle (pushed (restartEvent id (record { 0 = t .now .0 + d .0 })) (stopAt (slotOf id) t)) stopped-settled
       ∙ fits-stopped (record { 0 = t .now .0 + d .0 })
-      ∙ ap (λ (u : Bool). (u and word (t .now .0 + d .0)) and stateFits t) r ∙ ap (λ (u : Bool). u and stateFits t) (true-and (word (t .now .0 + d .0)))
+      ∙ ap (λ (u : Bool). (u and word (t .now .0 + d .0)) and stateFits t) r
+      ∙ ap (λ (u : Bool). u and stateFits t) (true-and (word (t .now .0 + d .0)))
 
 -- ---- every fault
 
@@ -247,7 +249,8 @@ crashing-settled t slot p i = record { phase = p .phase; servers = servers-kept 
 
 module _ (t : State) (p : ReadyIn t) where
   -- a choice between two states
-  either : (u : Bool) (x y : State) → stateFits (idleAt x .state) ≡ stateFits t → stateFits (idleAt y .state) ≡ stateFits t → stateFits (idleAt (pick u x y) .state) ≡ stateFits t
+  either : (u : Bool) (x y : State) → stateFits (idleAt x .state) ≡ stateFits t → stateFits (idleAt y .state) ≡ stateFits t
+      → stateFits (idleAt (pick u x y) .state) ≡ stateFits t
   either u x y ex ey = pick-both (λ (z : State). stateFits (idleAt z .state) ≡ stateFits t) u ex ey
 
   crash-by : (id : NodeId) → inCluster (t .config .servers) id ≡ true → stateFits (faultAt (Crash id) t .state) ≡ stateFits t
@@ -273,11 +276,13 @@ module _ (t : State) (p : ReadyIn t) where
       (λ e. rw e (fits-idle t (p .settled) ∙ sym (true-and (stateFits t))))
       (λ e. rw e (fits-restart t (slotOf id) (p .settled) i nothing refl))
 
-  leader-by : (d : Duration) → queueRoom 1 t ≡ true → stateFits (faultAt (CrashLeader d) t .state) ≡ (leaderTest (leaderOf t) (t .now) d and stateFits t)
+  leader-by : (d : Duration) → queueRoom 1 t ≡ true
+      → stateFits (faultAt (CrashLeader d) t .state) ≡ (leaderTest (leaderOf t) (t .now) d and stateFits t)
   unfolding faultAt applyFault idleAt stopMove leaderTest
   leader-by d r = by (leaderOf t) (leader-below t (p .settled .servers))
     where
-      by : (o : LeaderOption) → Below (t .config .servers) o → stateFits (idle (crashLeader t o d) .state) ≡ (leaderTest o (t .now) d and stateFits t)
+      by : (o : LeaderOption) → Below (t .config .servers) o
+          → stateFits (idle (crashLeader t o d) .state) ≡ (leaderTest o (t .now) d and stateFits t)
       by led.None q = fits-idle t (p .settled) ∙ sym (true-and (stateFits t))
       by (led.Some id term) q = fits-stop-move t id d p (q .0) (q .1) r
 
@@ -292,7 +297,8 @@ module _ (t : State) (p : ReadyIn t) where
 
   module _ (r : queueRoom 1 t ≡ true) where
     -- the state that a fault in range gives fits where its test is true and the state before it fits
-    pub fits-fault : (fault : Fault) → faultInRange (t .config .servers) fault ≡ true → stateFits (faultAt fault t .state) ≡ (faultTest fault (t .now) t and stateFits t)
+    pub fits-fault : (fault : Fault) → faultInRange (t .config .servers) fault ≡ true
+        → stateFits (faultAt fault t .state) ≡ (faultTest fault (t .now) t and stateFits t)
     unfolding faultTest restartFits leaderFits faultAt applyFault networkMove networkAfter
     fits-fault (Crash id) h = same t (crash-by id (and-left _ _ h))
     fits-fault (CrashDuringNextInput id) h = same t (next-by id (and-left _ _ h))
@@ -308,7 +314,8 @@ module _ (t : State) (p : ReadyIn t) where
     fits-fault HealAll h = heal-by
 
     -- so the state before it fits where the one after does
-    pub before-fault : (fault : Fault) → faultInRange (t .config .servers) fault ≡ true → stateFits (faultAt fault t .state) ≡ true → stateFits t ≡ true
+    pub before-fault : (fault : Fault) → faultInRange (t .config .servers) fault ≡ true → stateFits (faultAt fault t .state) ≡ true
+        → stateFits t ≡ true
     before-fault fault h k = and-right _ _ (sym (fits-fault fault h) ∙ k)
 
 -- ---- asked before the event is taken

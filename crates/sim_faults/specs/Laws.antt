@@ -1,11 +1,10 @@
 -- What the proofs of the functions cite. Assumes nothing.
-use mathlib.Core.Path.{_≡_, refl, sym, ap, ap₂, subst, _∙_}
+use mathlib.Core.Path.{_≡_, refl, sym, ap, subst, _∙_}
 use mathlib.Core.Bool.{Bool, true, false, not}
-use mathlib.Core.List.{List, [], _∷_}
+use mathlib.Core.List.{List}
 use mathlib.Core.Option.{Option, none, some}
-use Prim.Native.Nat.{ℕ, _+_, _-_, _^_, _≤_, _<_}
+use Prim.Native.Nat.{ℕ, _+_, _-_, _≤_, _<_}
 use native.Mathlib.Omega.{arith}
-use lib.Dec.{leb}
 use borrow.Author.Tests.{leb-true, not-true, not-false}
 use Rattle.laws.specs.Bools.{pick, _and_, and-left, and-right, and-both}
 use Rattle.laws.specs.Lists.{isSome}
@@ -26,7 +25,7 @@ use Rattle.queue.specs.Range.{word}
 use Rattle.queue.specs.declared.Event.the-variants as event
 use Rattle.model.specs.State.{State, serverAt, slotOf, nothing}
 use Rattle.model.specs.Fields.{withNetwork, withCrashOnNextInput}
-use Rattle.model.specs.Simulation.{Moved, onServer, running, idle, leaderOf, crashLeader, scheduleFault, stopServer, restartServer, healFrom, applyFault}
+use Rattle.model.specs.Simulation.{Moved, onServer, running, idle, leaderOf, crashLeader, stopServer, restartServer, healFrom, applyFault}
 use Rattle.model.specs.Fits.{stateFits}
 use Rattle.state.specs.declared.Capacity.{Capacity}
 use Rattle.state.specs.declared.Run.{Run}
@@ -39,7 +38,6 @@ use Rattle.state.specs.Fitting.{area-fits}
 use Rattle.state.specs.Lens.{servers-fit}
 use Rattle.state.specs.Changes.{Inside, AreaOf, Changes, Reads}
 use Rattle.answers.specs.declared.InputNumbers.{InputNumbers}
-use Rattle.answers.specs.Answers.{inputOf}
 use Rattle.state_header.specs.Header.{networkOf, networkSet}
 use Rattle.state_server.specs.Servers.{statusAt, serverStateAt, serverStateSet}
 use Rattle.state_server.specs.ServerLaws.{server-state-set}
@@ -74,7 +72,8 @@ module _ (F : Capacity) (fault : Fault) (h : faultInRange (F .servers) fault ≡
   pub restart-known : (id : NodeId) → fault ≡ Restart id → Known F id
   restart-known id e = known F id (and-left _ _ (ap (faultInRange S) (sym e) ∙ h))
 
-  link-known : (from to : NodeId) → S ≤ 8 → (inCluster S from and inCluster S to) ≡ true → ((1 ≤ from .0) × (from .0 ≤ 8)) × ((1 ≤ to .0) × (to .0 ≤ 8))
+  link-known : (from to : NodeId) → S ≤ 8 → (inCluster S from and inCluster S to) ≡ true
+      → ((1 ≤ from .0) × (from .0 ≤ 8)) × ((1 ≤ to .0) × (to .0 ≤ 8))
   link-known from to l q =
       let a = known F from (and-left _ _ q) in
       let b = known F to (and-right _ _ q) in
@@ -173,12 +172,14 @@ module _ (fault : Fault) (n : Network) where
 -- ---- faults of the network
 
 -- another network behind a read of it
-network-changed : (fault : Fault) (s : State) (n m : Network) → n ≡ networkOf s → m ≡ networkAfter fault n → networkSet m s ≡ withNetwork s (networkAfter fault (s .network))
+network-changed : (fault : Fault) (s : State) (n m : Network) → n ≡ networkOf s → m ≡ networkAfter fault n
+    → networkSet m s ≡ withNetwork s (networkAfter fault (s .network))
 unfolding networkOf networkSet
 network-changed fault s n m en em = ap (withNetwork s) (em ∙ ap (networkAfter fault) en)
 
 module _ (b b₁ b₂ : List ℕ) (F : Capacity) (n m : Network) (r : InputNumbers) (q : Reads b F n networkOf) where
-  pub network-moved : (fault : Fault) → faultInRange (F .servers) fault ≡ true → m ≡ networkAfter fault n → Changes b b₁ F (networkSet m) → Opens b₁ b₂ F r idleAt
+  pub network-moved : (fault : Fault) → faultInRange (F .servers) fault ≡ true → m ≡ networkAfter fault n → Changes b b₁ F (networkSet m)
+      → Opens b₁ b₂ F r idleAt
       → Opens b b₂ F r (networkMove fault)
   unfolding networkMove idleAt
   network-moved fault h em k o =
@@ -216,7 +217,8 @@ module _ (b : List ℕ) (F : Capacity) (slot : ℕ) (x : StatusOption) (q : Read
   runs-yes y e = record { to = λ s h ef. ap statusRuns (sym e ∙ q .to s h ef) ∙ status-runs (serverAt s slot .status) }
 
 -- whether the server runs, as it was told
-told : (b : List ℕ) (F : Capacity) (id : NodeId) (v u : Bool) → Reads b F v (runsAt (id .0 - 1)) → v ≡ u → (s : State) → Area b s → F ≡ capacityOf s → running s (slotOf id) ≡ u
+told : (b : List ℕ) (F : Capacity) (id : NodeId) (v u : Bool) → Reads b F v (runsAt (id .0 - 1)) → v ≡ u → (s : State) → Area b s
+    → F ≡ capacityOf s → running s (slotOf id) ≡ u
 unfolding runsAt
 told b F id v u q e s h ef = sym (q .to s h ef) ∙ e
 
@@ -231,7 +233,8 @@ module _ (b : List ℕ) (F : Capacity) (id : NodeId) (k : Known F id) (v : Bool)
   crash-stopped b′ r n o =
       opens-is idleAt (faultAt (Crash id)) o (λ s h ef. sym (ap (λ (u : Bool). idle (pick u (stopServer s (slotOf id)) s)) (told b F id v false q (not-true v n) s h ef)))
 
-  pub crash-done : (b₁ b₂ : List ℕ) (r : InputNumbers) → not v ≡ false → Changes b b₁ F (stopAt (id .0 - 1)) → Opens b₁ b₂ F r idleAt → Opens b b₂ F r (faultAt (Crash id))
+  pub crash-done : (b₁ b₂ : List ℕ) (r : InputNumbers) → not v ≡ false → Changes b b₁ F (stopAt (id .0 - 1)) → Opens b₁ b₂ F r idleAt
+      → Opens b b₂ F r (faultAt (Crash id))
   unfolding faultAt applyFault idleAt stopAt
   crash-done b₁ b₂ r n p o =
       opens-after (stopAt (slotOf id)) idleAt (faultAt (Crash id)) p o
@@ -240,13 +243,15 @@ module _ (b : List ℕ) (F : Capacity) (id : NodeId) (k : Known F id) (v : Bool)
         fits-stop s (slotOf id) (servers-fit s (area-fits h)) (slot-of F s id ef k) ∙ area-fits h,
       ))
 
-  pub next-stopped : (b′ : List ℕ) (r : InputNumbers) → not v ≡ true → Opens b b′ F r idleAt → Opens b b′ F r (faultAt (CrashDuringNextInput id))
+  pub next-stopped : (b′ : List ℕ) (r : InputNumbers) → not v ≡ true → Opens b b′ F r idleAt
+      → Opens b b′ F r (faultAt (CrashDuringNextInput id))
   unfolding faultAt applyFault idleAt
   next-stopped b′ r n o =
       opens-is idleAt (faultAt (CrashDuringNextInput id)) o
       (λ s h ef. sym (ap (λ (u : Bool). idle (pick u (onServer s (slotOf id) (λ v. withCrashOnNextInput v true)) s)) (told b F id v false q (not-true v n) s h ef)))
 
-  pub next-done : (b₁ b₂ : List ℕ) (r : InputNumbers) → not v ≡ false → Changes b b₁ F (crashingAt (id .0 - 1)) → Opens b₁ b₂ F r idleAt → Opens b b₂ F r (faultAt (CrashDuringNextInput id))
+  pub next-done : (b₁ b₂ : List ℕ) (r : InputNumbers) → not v ≡ false → Changes b b₁ F (crashingAt (id .0 - 1)) → Opens b₁ b₂ F r idleAt
+      → Opens b b₂ F r (faultAt (CrashDuringNextInput id))
   unfolding faultAt applyFault idleAt crashingAt
   next-done b₁ b₂ r n p o =
       opens-after (crashingAt (slotOf id)) idleAt (faultAt (CrashDuringNextInput id)) p o
@@ -260,7 +265,8 @@ module _ (b : List ℕ) (F : Capacity) (id : NodeId) (k : Known F id) (v : Bool)
   restart-runs b′ r n o =
       opens-is idleAt (faultAt (Restart id)) o (λ s h ef. sym (ap (λ (u : Bool). pick u (idle s) (restartServer s (slotOf id) nothing)) (told b F id v true q n s h ef)))
 
-  pub restart-done : (b′ : List ℕ) (r : InputNumbers) → v ≡ false → Opens b b′ F r (restartAt (id .0 - 1) (owedOf Nothing)) → Opens b b′ F r (faultAt (Restart id))
+  pub restart-done : (b′ : List ℕ) (r : InputNumbers) → v ≡ false → Opens b b′ F r (restartAt (id .0 - 1) (owedOf Nothing))
+      → Opens b b′ F r (faultAt (Restart id))
   unfolding faultAt applyFault restartAt owedOf
   restart-done b′ r n o =
       opens-is (restartAt (slotOf id) nothing) (faultAt (Restart id)) o (λ s h ef. sym (ap (λ (u : Bool). pick u (idle s) (restartServer s (slotOf id) nothing)) (told b F id v false q n s h ef)))
@@ -274,12 +280,14 @@ module _ (b : List ℕ) (F : Capacity) (id : NodeId) (k : Known F id) (v : Bool)
   fits-stops r n o = record { to = λ s h ef. o .to s h ef ∙ sym (ap (λ (u : Bool). pick u true (restartTest (slotOf id) s)) (told b F id v false q n s h ef)) }
 
 -- the crash flag set
-pub crashing-set : (b b′ : List ℕ) (F : Capacity) (slot : ℕ) (x y : ServerState) → Reads b F x (serverStateAt slot) → y ≡ crashingState x → Changes b b′ F (serverStateSet slot y) → Changes b b′ F (crashingAt slot)
+pub crashing-set : (b b′ : List ℕ) (F : Capacity) (slot : ℕ) (x y : ServerState) → Reads b F x (serverStateAt slot) → y ≡ crashingState x
+    → Changes b b′ F (serverStateSet slot y) → Changes b b′ F (crashingAt slot)
 unfolding serverStateAt crashingState crashingAt
 crashing-set b b′ F slot x y q e p = record {
   to = λ s rest h t.
       let es : serverStateSet slot y s ≡ crashingAt slot s =
-      ap (λ (z : ServerState). serverStateSet slot z s) (e ∙ ap crashingState (q .to s (h .area) (h .capacity))) ∙ server-state-set s slot (λ v. withCrashOnNextInput v true) refl refl in
+      ap (λ (z : ServerState). serverStateSet slot z s) (e ∙ ap crashingState (q .to s (h .area) (h .capacity)))
+      ∙ server-state-set s slot (λ v. withCrashOnNextInput v true) refl refl in
       subst (AreaOf b′ rest F) es (p .to s rest h (ap stateFits es ∙ t));
 }
 
@@ -290,15 +298,18 @@ module _ (b : List ℕ) (F : Capacity) (x : LeaderOption) (q : Reads b F x leade
   unfolding leaderFits leaderTest
   leaderless time d e = record { to = λ s h ef. ap (λ (o : LeaderOption). leaderTest o time d) (sym e ∙ q .to s h ef) }
 
-  pub leader-due : (time : SimTime) (d : Duration) (id : NodeId) (term : Term) (a : Sum) → x ≡ led.Some id term → Sums (time .0) (d .0) a → Reads b F (a .fits) (leaderFits time d)
+  pub leader-due : (time : SimTime) (d : Duration) (id : NodeId) (term : Term) (a : Sum) → x ≡ led.Some id term → Sums (time .0) (d .0) a
+      → Reads b F (a .fits) (leaderFits time d)
   unfolding leaderFits leaderTest
   leader-due time d id term a e u = record { to = λ s h ef. u .fits ∙ ap (λ (o : LeaderOption). leaderTest o time d) (sym e ∙ q .to s h ef) }
 
-  pub leader-none : (b′ : List ℕ) (d : Duration) (r : InputNumbers) → x ≡ led.None → Opens b b′ F r idleAt → Opens b b′ F r (faultAt (CrashLeader d))
+  pub leader-none : (b′ : List ℕ) (d : Duration) (r : InputNumbers) → x ≡ led.None → Opens b b′ F r idleAt
+      → Opens b b′ F r (faultAt (CrashLeader d))
   unfolding faultAt applyFault idleAt
   leader-none b′ d r e o = opens-is idleAt (faultAt (CrashLeader d)) o (λ s h ef. ap (λ (y : LeaderOption). idle (crashLeader s y d)) (sym e ∙ q .to s h ef))
 
-  pub leader-some : (b′ : List ℕ) (d : Duration) (r : InputNumbers) (id : NodeId) (term : Term) → x ≡ led.Some id term → StopsKnown b b′ F id d r → Opens b b′ F r (faultAt (CrashLeader d))
+  pub leader-some : (b′ : List ℕ) (d : Duration) (r : InputNumbers) (id : NodeId) (term : Term) → x ≡ led.Some id term
+      → StopsKnown b b′ F id d r → Opens b b′ F r (faultAt (CrashLeader d))
   unfolding faultAt applyFault stopMove
   leader-some b′ d r id term e o =
       let stops : (s : State) → Area b s → F ≡ capacityOf s → Opens b b′ F r (stopMove id d) =
@@ -343,7 +354,8 @@ module _ (b : List ℕ) (F : Capacity) (id : NodeId) (d : Duration) where
         let f = ready-fits s (area-fits h) in
         let e′ : Scheduled = restartEvent id (record { 0 = s .now .0 + d .0 }) in
         let whole : stateFits (pushed e′ (stopAt (slotOf id) s)) ≡ true =
-        sym (fits-idle (pushed e′ (stopAt (slotOf id) s)) (stopped-settled s id d f l k′)) ∙ ap (λ (m : Moved). stateFits (m .state)) (sym (stop-is s id d)) ∙ t in
+        sym (fits-idle (pushed e′ (stopAt (slotOf id) s)) (stopped-settled s id d f l k′))
+        ∙ ap (λ (m : Moved). stateFits (m .state)) (sym (stop-is s id d)) ∙ t in
         let w₆₄ : word (s .now .0 + d .0) ≡ true = and-right _ _ (and-left _ _ (sym (fits-stopped s id d f l k′ (record { 0 = s .now .0 + d .0 })) ∙ whole)) in
         let now : w .now .0 ≡ s .now .0 = ap (λ (x : Run). x .now .0) (qw .to s h ef) in
         let value : a .value ≡ s .now .0 + d .0 = u .value (u .fits ∙ ap (λ (x : ℕ). word (x + d .0)) now ∙ w₆₄) ∙ ap (λ (x : ℕ). x + d .0) now in
@@ -360,7 +372,8 @@ module _ (b b′ : List ℕ) (F : Capacity) (r : InputNumbers) (fault : Fault) w
   pub done-crash : (id : NodeId) → fault ≡ Crash id → Opens b b′ F r (faultAt (Crash id)) → Opens b b′ F r (faultAt fault)
   done-crash id e o = is-fault (Crash id) e o
 
-  pub done-next : (id : NodeId) → fault ≡ CrashDuringNextInput id → Opens b b′ F r (faultAt (CrashDuringNextInput id)) → Opens b b′ F r (faultAt fault)
+  pub done-next : (id : NodeId) → fault ≡ CrashDuringNextInput id → Opens b b′ F r (faultAt (CrashDuringNextInput id))
+      → Opens b b′ F r (faultAt fault)
   done-next id e o = is-fault (CrashDuringNextInput id) e o
 
   pub done-restart : (id : NodeId) → fault ≡ Restart id → Opens b b′ F r (faultAt (Restart id)) → Opens b b′ F r (faultAt fault)
@@ -420,7 +433,8 @@ module _ (b : List ℕ) (F : Capacity) (time : SimTime) (fault : Fault) where
   unfolding faultTest
   asked-restart id r e q = is-asked (Restart id) r e (record { to = q .to })
 
-  pub asked-leader : (d : Duration) (r : Bool) → fault ≡ CrashLeader d → Reads b F r (leaderFits time d) → Reads b F r (faultTest fault time)
+  pub asked-leader : (d : Duration) (r : Bool) → fault ≡ CrashLeader d → Reads b F r (leaderFits time d)
+      → Reads b F r (faultTest fault time)
   unfolding faultTest
   asked-leader d r e q = is-asked (CrashLeader d) r e (record { to = q .to })
 
