@@ -1,8 +1,8 @@
 -- What the proofs of durability.rt cite. Assumes nothing.
 use mathlib.Core.Path.{_≡_, refl, sym, ap, ap₂, subst, _∙_}
 use mathlib.Core.Bool.{Bool, true, false, not}
-use mathlib.Core.List.{List, [], _∷_}
-use mathlib.Core.Option.{Option, some}
+use mathlib.Core.List.{List, _∷_}
+use mathlib.Core.Option.{some}
 use Prim.Native.Nat.{ℕ, zero, suc, _+_, _-_, _≤_, _<_}
 use native.Mathlib.Omega.{arith}
 use lib.ListN.{length, getD, drop, drop-of-length-le}
@@ -11,18 +11,18 @@ use Rattle.laws.specs.Lists.{at}
 use Rattle.laws.specs.ListLaws.{at-there}
 use Rattle.units.specs.declared.LogIndex.{LogIndex}
 use Rattle.units.specs.declared.SimTime.{SimTime}
-use Rattle.checks.specs.Checks.{Checker, Acknowledged, AppliedUpTo, checkAcknowledged, checkAppliedUpTo, checkDurability}
+use Rattle.checks.specs.Checks.{Acknowledged, AppliedUpTo, checkAcknowledged, checkAppliedUpTo, checkDurability}
 use Rattle.checks_durability.specs.declared.replies.Reply.{Reply}
 use Rattle.checks_durability.specs.declared.DurabilityAsked.{DurabilityAsked}
 use Rattle.checks_durability.specs.Acknowledged.{rebuilt, acknowledgedFrom, placeOf, isApplied}
-use Rattle.model.specs.State.{State, Server, newServer, serverAt, idOf}
+use Rattle.model.specs.State.{State, Server, newServer, idOf}
 use Rattle.model.specs.Fields.{withChecker}
 use Rattle.model.specs.Calls.{appliedFrom, checkDurabilityCall}
 use Rattle.model.specs.Fits.{stateFits}
 use Rattle.state.specs.declared.Capacity.{Capacity}
 use Rattle.state.specs.declared.Run.{Run}
 use Rattle.state.specs.declared.TableCounts.{TableCounts}
-use Rattle.state.specs.Area.{Area, capacityOf, runOf, countsOf}
+use Rattle.state.specs.Area.{runOf, countsOf}
 use Rattle.state.specs.Fitting.{area-fits}
 use Rattle.state.specs.FitsBy.{server-count}
 use Rattle.state.specs.Changes.{Inside, Gated, AreaOf, Changes, Reads}
@@ -31,7 +31,7 @@ use Rattle.state.specs.Call.{call}
 use Rattle.state.specs.Exits.{call-refused, call-done}
 use Rattle.answers.specs.declared.DoneAnswer.{DoneAnswer}
 use Rattle.answers.specs.Answers.{doneNo, doneYes}
-use Rattle.state_asks.specs.Asks.{Asks, appliedOf, indexIn, replyIndexOf, missingIn, replyMissingOf, acknowledgedOf, afterDurability, DurabilityTold}
+use Rattle.state_asks.specs.Asks.{Asks, appliedOf, replyIndexOf, replyMissingOf, acknowledgedOf, afterDurability, DurabilityTold}
 use Rattle.state_checks.specs.Acts.{missingReported, behindReported}
 use Rattle.state_checks.specs.ActLaws.{before-missing, before-behind}
 use Rattle.sim_checks.specs.Steps.{closedOf, each, Turning}
@@ -48,7 +48,8 @@ module _ (b : List ℕ) (F : Capacity) (c : Bool) (q : Reads b F c closedOf) whe
   pub durability-planned : (r : DurabilityAsked) → not c ≡ false → Asks b F (DurabilityTold r) → DurabilityPlanned b F r
   unfolding checkDurabilityCall afterDurability acknowledgedOf durabilityChecked checkDurability
   durability-planned r n p = record {
-    plan = check-asked q checkDurabilityCall afterDurability (λ s. refl) n (r .code) (λ s h ef. p .to s h ef .code) (durabilityChecked (r .highest))
+    plan = check-asked q checkDurabilityCall afterDurability (λ s. refl) n (r .code) (λ s h ef. p .to s h ef .code)
+        (durabilityChecked (r .highest))
         (λ s h ef. ap (λ (m : ℕ). durabilityChecked m s) (sym (p .to s h ef .highest)));
   }
 
@@ -169,17 +170,21 @@ pub durability-acts : (b b₁ b₂ : List ℕ) (F : Capacity) (highest : ℕ) (r
 unfolding durabilityChecked acknowledgedOf
 durability-acts b b₁ b₂ F highest run counts qr qc p q = record {
   to = λ s r h u.
-      let n : F .servers ≡ length (s .servers) = ap (λ (G : Capacity). G .servers) (h .capacity) ∙ sym (server-count s (area-fits (h .area))) in
+      let n : F .servers ≡ length (s .servers) = ap (λ (G : Capacity). G .servers) (h .capacity)
+      ∙ sym (server-count s (area-fits (h .area))) in
       let m : counts .replies ≡ length (s .replies) = ap (λ (x : TableCounts). x .replies) (qc .to s (h .area) (h .capacity)) in
       let t : SimTime = run .now in
       let now : t ≡ s .now = ap (λ (x : Run). x .now) (qr .to s (h .area) (h .capacity)) in
       let s₁ : State = withChecker s (checkAcknowledged (s .checker) t (acksBehind t 0 s)) in
       let first : each (replyChecked t) 0 (counts .replies) s ≡ s₁ = replies-are t (counts .replies) 0 s (omega (arith, m)) in
-      let second : each (serverChecked t highest) 0 (F .servers) (each (replyChecked t) 0 (counts .replies) s) ≡ durabilityChecked highest s =
+      let second : each (serverChecked t highest) 0 (F .servers) (each (replyChecked t) 0 (counts .replies) s)
+      ≡ durabilityChecked highest s =
       ap (each (serverChecked t highest) 0 (F .servers)) first ∙ servers-are t highest (F .servers) 0 s₁ (omega (arith, n))
-      ∙ ap (λ (x : SimTime). withChecker s (checkAppliedUpTo (checkAcknowledged (s .checker) x (acksBehind x 0 s)) x highest (appliedFrom 0 (s .servers)))) now in
+      ∙ ap (λ (x : SimTime). withChecker s (checkAppliedUpTo (checkAcknowledged (s .checker) x (acksBehind x 0 s)) x highest
+      (appliedFrom 0 (s .servers)))) now in
       let u₂ = ap stateFits second ∙ u in
-      let u₁ = before-each (serverChecked t highest) (before-server t highest) (F .servers) 0 (each (replyChecked t) 0 (counts .replies) s) u₂ in
+      let u₁ = before-each (serverChecked t highest) (before-server t highest) (F .servers) 0
+      (each (replyChecked t) 0 (counts .replies) s) u₂ in
       subst (AreaOf b₂ r F) second (q .to (each (replyChecked t) 0 (counts .replies) s) r (p .to s r h u₁) u₂);
 }
 
@@ -187,8 +192,11 @@ durability-acts b b₁ b₂ F highest run counts qr qc p q = record {
 
 module _ (b : List ℕ) (g : Gate) (p : DurabilityAsked) (q : Gated b g) (y : g .refusal ≤ 0) (k : DurabilityPlanned b (g .capacity) p) where
   pub durability-no : (r : DoneAnswer) → 0 < p .code → r ≡ doneNo (p .code) → (r, b) ≡ call doneNo doneYes b checkDurabilityCall
-  durability-no r n e = call-refused doneNo doneYes b checkDurabilityCall g q y (p .code) tt (durabilityChecked (p .highest)) (k .plan) r n e
+  durability-no r n e = call-refused doneNo doneYes b checkDurabilityCall g q y (p .code) tt (durabilityChecked (p .highest))
+      (k .plan) r n e
 
-  pub durability-done : (b₁ : List ℕ) (r : DoneAnswer) → p .code ≤ 0 → Changes b b₁ (g .capacity) (durabilityChecked (p .highest)) → r ≡ doneNo 0
+  pub durability-done : (b₁ : List ℕ) (r : DoneAnswer) → p .code ≤ 0 → Changes b b₁ (g .capacity) (durabilityChecked (p .highest)) → r
+      ≡ doneNo 0
       → (r, b₁) ≡ call doneNo doneYes b checkDurabilityCall
-  durability-done b₁ r n c e = call-done doneNo doneYes b checkDurabilityCall g q y (p .code) tt (durabilityChecked (p .highest)) (k .plan) b₁ r n c e
+  durability-done b₁ r n c e = call-done doneNo doneYes b checkDurabilityCall g q y (p .code) tt (durabilityChecked (p .highest))
+      (k .plan) b₁ r n c e

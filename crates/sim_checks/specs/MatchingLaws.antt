@@ -1,5 +1,5 @@
 -- What the proofs of matching.rt cite. Assumes nothing.
-use mathlib.Core.Path.{_≡_, refl, sym, ap, ap₂, subst, _∙_}
+use mathlib.Core.Path.{_≡_, refl, sym, ap, subst, _∙_}
 use mathlib.Core.Bool.{Bool, true, false, not}
 use mathlib.Core.List.{List, [], _∷_}
 use mathlib.Core.Option.{Option}
@@ -9,18 +9,18 @@ use native.Mathlib.Omega.{arith}
 use lib.ListN.{length, drop, drop-of-length-le}
 use lib.Seq.{drop-cons}
 use Rattle.units.specs.declared.SimTime.{SimTime}
-use Rattle.checks.specs.Checks.{Checker, Mismatch, ServerLog, checkAgainst, checkLogMatching}
+use Rattle.checks.specs.Checks.{Mismatch, ServerLog, checkAgainst, checkLogMatching}
 use Rattle.checks_log_matching.specs.declared.MismatchOption.{MismatchOption}
 use Rattle.checks_log_matching.specs.declared.pairs.MatchingAsked.{MatchingAsked}
 use Rattle.checks_log_matching.specs.Matching.{mismatchOf}
 use Rattle.checks_log_matching.specs.Pairs.{reportedMismatch}
-use Rattle.model.specs.State.{State, Server, newServer, serverAt, idOf}
+use Rattle.model.specs.State.{State, newServer, serverAt, idOf}
 use Rattle.model.specs.Fields.{withChecker}
 use Rattle.model.specs.Calls.{logsFrom, checkLogMatchingCall}
 use Rattle.model.specs.Fits.{stateFits}
 use Rattle.state.specs.declared.Capacity.{Capacity}
 use Rattle.state.specs.declared.Run.{Run}
-use Rattle.state.specs.Area.{Area, capacityOf, runOf}
+use Rattle.state.specs.Area.{runOf}
 use Rattle.state.specs.Fitting.{area-fits}
 use Rattle.state.specs.FitsBy.{server-count}
 use Rattle.state.specs.Changes.{Inside, AreaOf, Changes, Reads, Planned}
@@ -38,15 +38,19 @@ module _ (b : List ℕ) (F : Capacity) (c : Bool) (q : Reads b F c closedOf) whe
   unfolding checkLogMatchingCall afterMatching
   matching-open n = check-open q checkLogMatchingCall afterMatching (λ s. refl) matchingChecked n
 
-  pub matching-planned : (r : MatchingAsked) → not c ≡ false → Asks b F (MatchingTold r) → Planned b F (r .code) checkLogMatchingCall tt matchingChecked
+  pub matching-planned : (r : MatchingAsked) → not c ≡ false → Asks b F (MatchingTold r)
+      → Planned b F (r .code) checkLogMatchingCall tt matchingChecked
   unfolding checkLogMatchingCall afterMatching matchingChecked
   matching-planned r n p =
-      check-asked q checkLogMatchingCall afterMatching (λ s. refl) n (r .code) (λ s h ef. p .to s h ef .code) matchingChecked (λ s h ef. refl)
+      check-asked q checkLogMatchingCall afterMatching (λ s. refl) n (r .code) (λ s h ef. p .to s h ef .code) matchingChecked
+      (λ s h ef. refl)
 
 -- ---- check_pair
 
-pub pair-checked : (b b₁ : List ℕ) (F : Capacity) (time : SimTime) (i j : ℕ) (r : MismatchOption) → Reads b F (mismatchOf r) (mismatchBetween i j)
-    → Changes b b₁ F (mismatchReported (mismatchOf r) time (record { 0 = i + 1 }) (record { 0 = j + 1 })) → Changes b b₁ F (pairChecked time i j)
+pub pair-checked : (b b₁ : List ℕ) (F : Capacity) (time : SimTime) (i j : ℕ) (r : MismatchOption)
+    → Reads b F (mismatchOf r) (mismatchBetween i j)
+    → Changes b b₁ F (mismatchReported (mismatchOf r) time (record { 0 = i + 1 }) (record { 0 = j + 1 }))
+    → Changes b b₁ F (pairChecked time i j)
 unfolding pairChecked
 pair-checked b b₁ F time i j r q p = record {
   to = λ s l h u.
@@ -114,7 +118,8 @@ module _ (time : SimTime) where
   against-is : (n i j : ℕ) (s : State) → j + n ≡ length (s .servers)
       → each (pairChecked time i) j n s ≡ withChecker s (checkAgainst (s .checker) time (logAt i s) (logsBehind j s))
   unfolding each pairChecked mismatchReported reportedMismatch mismatchBetween logOf checkAgainst
-  against-is zero i j s e = sym (ap (λ (l : List ServerLog). withChecker s (checkAgainst (s .checker) time (logAt i s) l)) (logs-end j s (omega arith)))
+  against-is zero i j s e = sym (ap (λ (l : List ServerLog). withChecker s (checkAgainst (s .checker) time (logAt i s) l))
+      (logs-end j s (omega arith)))
   against-is (suc n) i j s e =
       against-is n i (suc j) (pairChecked time i j s) (omega arith)
       ∙ sym (ap (λ (l : List ServerLog). withChecker s (checkAgainst (s .checker) time (logAt i s) l)) (logs-next j s (omega arith)))
@@ -129,7 +134,8 @@ module _ (time : SimTime) where
   pairs-are : (n i servers : ℕ) (s : State) → servers ≡ length (s .servers) → i + n ≡ servers
       → each (againstChecked time servers) i n s ≡ withChecker s (checkLogMatching (s .checker) time (logsBehind i s))
   unfolding each checkLogMatching
-  pairs-are zero i servers s es e = sym (ap (λ (l : List ServerLog). withChecker s (checkLogMatching (s .checker) time l)) (logs-end i s (omega arith)))
+  pairs-are zero i servers s es e = sym (ap (λ (l : List ServerLog). withChecker s (checkLogMatching (s .checker) time l))
+      (logs-end i s (omega arith)))
   pairs-are (suc n) i servers s es e =
       ap (each (againstChecked time servers) (suc i) n) (all-against servers i s es (omega arith))
       ∙ pairs-are n (suc i) servers (withChecker s (checkAgainst (s .checker) time (logAt i s) (logsBehind (suc i) s))) es (omega arith)
@@ -137,14 +143,17 @@ module _ (time : SimTime) where
 
 -- ---- matching_act
 
-pub matching-acts : (b b₁ : List ℕ) (F : Capacity) (run : Run) → Reads b F run runOf → Changes b b₁ F (each (againstChecked (run .now) (F .servers)) 0 (F .servers))
+pub matching-acts : (b b₁ : List ℕ) (F : Capacity) (run : Run) → Reads b F run runOf
+    → Changes b b₁ F (each (againstChecked (run .now) (F .servers)) 0 (F .servers))
     → Changes b b₁ F matchingChecked
 unfolding matchingChecked afterMatching
 matching-acts b b₁ F run q p = record {
   to = λ s r h u.
-      let n : F .servers ≡ length (s .servers) = ap (λ (G : Capacity). G .servers) (h .capacity) ∙ sym (server-count s (area-fits (h .area))) in
+      let n : F .servers ≡ length (s .servers) = ap (λ (G : Capacity). G .servers) (h .capacity)
+      ∙ sym (server-count s (area-fits (h .area))) in
       let time : run .now ≡ s .now = ap (λ (x : Run). x .now) (q .to s (h .area) (h .capacity)) in
-      let e : each (againstChecked (run .now) (F .servers)) 0 (F .servers) s ≡ withChecker s (checkLogMatching (s .checker) (s .now) (logsFrom 0 (s .servers))) =
+      let e : each (againstChecked (run .now) (F .servers)) 0 (F .servers) s
+      ≡ withChecker s (checkLogMatching (s .checker) (s .now) (logsFrom 0 (s .servers))) =
       pairs-are (run .now) (F .servers) 0 (F .servers) s n (omega arith)
       ∙ ap (λ (t : SimTime). withChecker s (checkLogMatching (s .checker) t (logsFrom 0 (s .servers)))) time in
       subst (AreaOf b₁ r F) e (p .to s r h (ap stateFits e ∙ u));

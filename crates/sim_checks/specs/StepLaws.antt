@@ -12,7 +12,7 @@ use Rattle.laws.specs.Decides.{false-true}
 use Rattle.checks.specs.Checks.{Checker}
 use Rattle.model.specs.State.{State, Phase, closed, writing, sending}
 use Rattle.model.specs.Fields.{withChecker}
-use Rattle.model.specs.Calls.{Out, refused, done, ask, isClosed}
+use Rattle.model.specs.Calls.{Out, done, ask, isClosed}
 use Rattle.model.specs.Fits.{stateFits, checkerFits}
 use Rattle.state.specs.declared.Capacity.{Capacity}
 use Rattle.state.specs.declared.OpenInput.{OpenInput}
@@ -34,7 +34,8 @@ kind-closed closed = refl
 kind-closed (writing slot input owed) = refl
 kind-closed (sending slot input verdict owed) = refl
 
-pub closed-read : (b : List ℕ) (F : Capacity) (o : OpenInput) → Reads b F o (λ s. openOf (phaseOf s)) → Reads b F (eqb (o .phase) 0) closedOf
+pub closed-read : (b : List ℕ) (F : Capacity) (o : OpenInput) → Reads b F o (λ s. openOf (phaseOf s))
+    → Reads b F (eqb (o .phase) 0) closedOf
 unfolding closedOf
 closed-read b F o q = record {
   to = λ s h ef. ap (λ (x : OpenInput). eqb (x .phase) 0) (q .to s h ef) ∙ kind-closed (s .phase);
@@ -67,7 +68,8 @@ module _ {b : List ℕ} {F : Capacity} {c : Bool} (q : Reads b F c closedOf) (ca
         is-true true e = refl
         is-true false e = absurd (false-true (sym e))
 
-    pub check-asked : (op : State → State) → ((s : State) → Area b s → F ≡ capacityOf s → withChecker s (after s) ≡ op s) → Planned b F k call tt op
+    pub check-asked : (op : State → State) → ((s : State) → Area b s → F ≡ capacityOf s → withChecker s (after s) ≡ op s)
+        → Planned b F k call tt op
     unfolding judged checkerCode
     check-asked op same = record {
       code = λ s h ef.

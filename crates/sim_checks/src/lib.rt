@@ -1,5 +1,4 @@
 // The checks on request (check_log_matching and check_durability of simulation.rs), behind the gate.
-ghost use mathlib.Core.Path.{_≡_};
 ghost use Rattle.state.specs.Changes.{Inside, Reads};
 ghost use Rattle.sim_checks.specs.Steps.{closedOf};
 use state::Capacity;

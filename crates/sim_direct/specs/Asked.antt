@@ -1,5 +1,5 @@
 -- What a direct proposal and a request to confirm leadership do (asked.rt): what their contracts cite. Assumes nothing.
-use mathlib.Core.Bool.{Bool, false}
+use mathlib.Core.Bool.{false}
 use mathlib.Core.List.{List}
 use Prim.Native.Nat.{ℕ}
 use Rattle.client.specs.Key as client

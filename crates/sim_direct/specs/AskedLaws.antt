@@ -1,10 +1,9 @@
 -- What the proofs of asked.rt cite. Assumes nothing.
-use mathlib.Core.Path.{_≡_, refl, sym, ap, ap₂, subst, _∙_}
+use mathlib.Core.Path.{_≡_, refl, sym, ap, subst, _∙_}
 use mathlib.Core.Bool.{Bool, true, false, not}
 use mathlib.Core.List.{List}
 use Prim.Native.Nat.{ℕ, zero, suc, _+_, _-_, _^_, _≤_, _<_}
 use native.Mathlib.Omega.{arith}
-use lib.Dec.{ltb}
 use borrow.Author.Tests.{lt-ltb, le-ltb}
 use Rattle.laws.specs.Bools.{pick, cases, _and_, and-both, and-right, and-true}
 use Rattle.client.specs.Key as client
@@ -13,7 +12,7 @@ use Rattle.queue.specs.Range.{word}
 use Rattle.model.specs.State.{State, Phase, direct, writing, proposeInput, confirmInput, nothing, idOf}
 use Rattle.model.specs.Simulation.{running, openProposal, openConfirmation}
 use Rattle.model.specs.Calls.{Out, Asked, asked, stopped, isClosed, inCluster, propose, confirmLeadership, refused, done}
-use Rattle.model.specs.Fits.{stateFits, phaseFits}
+use Rattle.model.specs.Fits.{stateFits}
 use Rattle.state.specs.declared.Capacity.{Capacity}
 use Rattle.state.specs.declared.Gate.{Gate}
 use Rattle.state.specs.declared.Run.{Run}
@@ -21,8 +20,8 @@ use Rattle.state.specs.Area.{Area, capacityOf, runOf}
 use Rattle.state.specs.Fitting.{area-fits}
 use Rattle.state.specs.FitsBy.{fits-test}
 use Rattle.state.specs.Call.{call}
-use Rattle.state.specs.Changes.{Gated, AreaOf, Changes, Reads, judged}
-use Rattle.state.specs.Branches.{PlannedIf, if-refused, if-done, else-done, else-kept}
+use Rattle.state.specs.Changes.{Gated, Changes, Reads, judged}
+use Rattle.state.specs.Branches.{if-refused, if-done, else-done, else-kept}
 use Rattle.answers.specs.declared.OpenedAnswer.{OpenedAnswer}
 use Rattle.answers.specs.declared.InputNumbers.{InputNumbers}
 use Rattle.answers.specs.Answers.{noInputNumbers, inputOf, openedNo, openedOf, askedYes}
@@ -50,7 +49,8 @@ module _ (s : State) (f : stateFits s ≡ true) where
 
     confirm-fits : stateFits (confirmOpen slot s) ≡ true
     unfolding confirmOpen phaseSet _and_
-    confirm-fits = fits-phase s (writing slot confirmInput nothing) (fits-test s f 19) ∙ and-both _ _ (and-both _ _ (lt-ltb slot (s .config .servers) l) refl) f
+    confirm-fits = fits-phase s (writing slot confirmInput nothing) (fits-test s f 19)
+        ∙ and-both _ _ (and-both _ _ (lt-ltb slot (s .config .servers) l) refl) f
 
 -- ---- what the questions 6 and 7 make of the calls
 
@@ -81,7 +81,8 @@ module _ (server : ℕ) (s : State) where
   -- The two branches of a confirmation that is asked.
   abbrev confirmed : RequestId → Out Asked
   confirmed request =
-      pick (running s (server - 1)) (done (asked (openConfirmation (idOf (server - 1)) request)) (confirmOpen (server - 1) s)) (done stopped s)
+      pick (running s (server - 1)) (done (asked (openConfirmation (idOf (server - 1)) request)) (confirmOpen (server - 1) s))
+      (done stopped s)
 
   confirm-refused : (request : RequestId) → 0 < directCode server s → confirmLeadership server request s ≡ refused (directCode server s)
   unfolding confirmLeadership confirmOpen
@@ -132,7 +133,8 @@ module _ (b : List ℕ) (F : Capacity) (server : ℕ) (r : DirectAsked) (q : Ask
     abbrev proposes : State → Out Asked
     proposes s =
         pick (r .running)
-        (done (asked (openProposal (record { 0 = server }) client.direct (run .«direct_seq»))) (proposalOpen (r .slot) (run .«direct_seq» + 1) s))
+        (done (asked (openProposal (record { 0 = server }) client.direct (run .«direct_seq»)))
+        (proposalOpen (r .slot) (run .«direct_seq» + 1) s))
         (done stopped (directSeqSet (run .«direct_seq» + 1) s))
 
     gives : (s : State) → Area b s → F ≡ capacityOf s → propose server s ≡ proposes s
@@ -158,7 +160,14 @@ module _ (b : List ℕ) (F : Capacity) (server : ℕ) (r : DirectAsked) (q : Ask
     })
 
     pub propose-goes : run .«direct_seq» < 18446744073709551615
-        → ProposalPlanned b F server (record { code = 0; slot = r .slot; running = r .running; seq = run .«direct_seq»; next = run .«direct_seq» + 1 })
+        → ProposalPlanned b F server (record {
+          code = 0;
+          slot = r .slot;
+          running = r .running;
+          seq = run .«direct_seq»;
+          next =
+              run .«direct_seq» + 1;
+        })
     propose-goes l = record {
       plan = record {
         code = λ s h ef. sym (judges s h ef ∙ ap (λ (t : Bool). pick t 0 10) (lt-ltb (run .«direct_seq» + 1) (2 ^ 64) (omega arith)));
@@ -170,7 +179,19 @@ module _ (b : List ℕ) (F : Capacity) (server : ℕ) (r : DirectAsked) (q : Ask
 -- ---- open_proposal, open_confirmation
 
 pub proposal-opens : (b b₁ b₂ : List ℕ) (F : Capacity) (slot next : ℕ) → Changes b b₁ F (directSeqSet next)
-    → SetsPhase b₁ b₂ F (record { phase = 1; slot = slot; input = 3; client = 0; seq = 0; attempt = 0; verdict = 0; leader = 0; owed = 0; next = 0 })
+    → SetsPhase b₁ b₂ F (record {
+      phase = 1;
+      slot = slot;
+      input = 3;
+      client = 0;
+      seq = 0;
+      attempt = 0;
+      verdict = 0;
+      leader = 0;
+      owed =
+          0;
+      next = 0;
+    })
     → Changes b b₂ F (proposalOpen slot next)
 unfolding proposalOpen phaseSet directSeqSet
 proposal-opens b b₁ b₂ F slot next p q = record {
@@ -182,14 +203,27 @@ proposal-opens b b₁ b₂ F slot next p q = record {
 }
 
 pub confirmation-opens : (b b₁ : List ℕ) (F : Capacity) (slot : ℕ)
-    → SetsPhase b b₁ F (record { phase = 1; slot = slot; input = 5; client = 0; seq = 0; attempt = 0; verdict = 0; leader = 0; owed = 0; next = 0 })
+    → SetsPhase b b₁ F (record {
+      phase = 1;
+      slot = slot;
+      input = 5;
+      client = 0;
+      seq = 0;
+      attempt = 0;
+      verdict = 0;
+      leader = 0;
+      owed =
+          0;
+      next = 0;
+    })
     → Changes b b₁ F (confirmOpen slot)
 unfolding confirmOpen phaseSet
 confirmation-opens b b₁ F slot p = p .to (writing slot confirmInput nothing) refl
 
 -- ---- confirm_plan
 
-pub confirm-planned : (b : List ℕ) (F : Capacity) (server request : ℕ) (r : DirectAsked) → AsksDirect b F server r → ConfirmPlanned b F server request r
+pub confirm-planned : (b : List ℕ) (F : Capacity) (server request : ℕ) (r : DirectAsked) → AsksDirect b F server r
+    → ConfirmPlanned b F server request r
 unfolding judged
 confirm-planned b F server request r q = by (r .code) refl
   where
@@ -223,20 +257,25 @@ confirm-planned b F server request r q = by (r .code) refl
 
 -- ---- the exits of a proposal
 
-module _ (b : List ℕ) (g : Gate) (server : ℕ) (p : ProposalAsked) (q : Gated b g) (y : g .refusal ≤ 0) (k : ProposalPlanned b (g .capacity) server p) where
+module _ (b : List ℕ) (g : Gate) (server : ℕ) (p : ProposalAsked) (q : Gated b g) (y : g .refusal ≤ 0)
+    (k : ProposalPlanned b (g .capacity) server p) where
   pub propose-no : (r : OpenedAnswer) → 0 < p .code → r ≡ openedNo (p .code) → (r, b) ≡ call openedNo askedYes b (propose server)
   propose-no r n e = if-refused openedNo askedYes b (propose server) g q y (p .code) (p .running) _ _ _ _ (k .plan) r n e
 
   pub propose-used : (b₁ : List ℕ) (i : InputNumbers) (r : OpenedAnswer) → p .code ≤ 0 → not (p .running) ≡ true
-      → Changes b b₁ (g .capacity) (directSeqSet (p .next)) → i ≡ noInputNumbers → r ≡ openedOf i → (r, b₁) ≡ call openedNo askedYes b (propose server)
+      → Changes b b₁ (g .capacity) (directSeqSet (p .next)) → i ≡ noInputNumbers → r ≡ openedOf i → (r, b₁)
+      ≡ call openedNo askedYes b (propose server)
   propose-used b₁ i r n t c ei e =
-      else-done openedNo askedYes b (propose server) g q y (p .code) (p .running) _ _ _ _ (k .plan) b₁ r n (not-true (p .running) t) c (e ∙ ap openedOf ei)
+      else-done openedNo askedYes b (propose server) g q y (p .code) (p .running) _ _ _ _ (k .plan) b₁ r n (not-true (p .running) t) c
+      (e ∙ ap openedOf ei)
 
   pub propose-opened : (b₁ : List ℕ) (i : InputNumbers) (r : OpenedAnswer) → p .code ≤ 0 → not (p .running) ≡ false
-      → Changes b b₁ (g .capacity) (proposalOpen (p .slot) (p .next)) → i ≡ inputOf (openProposal (record { 0 = server }) 4294967295 (p .seq))
+      → Changes b b₁ (g .capacity) (proposalOpen (p .slot) (p .next)) → i
+      ≡ inputOf (openProposal (record { 0 = server }) 4294967295 (p .seq))
       → r ≡ openedOf i → (r, b₁) ≡ call openedNo askedYes b (propose server)
   propose-opened b₁ i r n t c ei e =
-      if-done openedNo askedYes b (propose server) g q y (p .code) (p .running) _ _ _ _ (k .plan) b₁ r n (not-false (p .running) t) c (e ∙ ap openedOf ei)
+      if-done openedNo askedYes b (propose server) g q y (p .code) (p .running) _ _ _ _ (k .plan) b₁ r n (not-false (p .running) t) c
+      (e ∙ ap openedOf ei)
 
 -- ---- the exits of a confirmation
 
@@ -245,16 +284,19 @@ module _ (b : List ℕ) (g : Gate) (server request : ℕ) (p : DirectAsked) (q :
   abbrev confirms : State → Out Asked
   confirms = confirmLeadership server (record { 0 = request })
 
-  pub confirm-no : (r : OpenedAnswer) → 0 < p .code → r ≡ openedNo (p .code) → (r, b) ≡ call openedNo askedYes b (confirmLeadership server (record { 0 = request }))
+  pub confirm-no : (r : OpenedAnswer) → 0 < p .code → r ≡ openedNo (p .code) → (r, b)
+      ≡ call openedNo askedYes b (confirmLeadership server (record { 0 = request }))
   confirm-no r n e = if-refused openedNo askedYes b confirms g q y (p .code) (p .running) _ _ _ _ (k .plan) r n e
 
   pub confirm-none : (i : InputNumbers) (r : OpenedAnswer) → p .code ≤ 0 → not (p .running) ≡ true → i ≡ noInputNumbers → r ≡ openedOf i
       → (r, b) ≡ call openedNo askedYes b (confirmLeadership server (record { 0 = request }))
   confirm-none i r n t ei e =
-      else-kept openedNo askedYes b confirms g q y (p .code) (p .running) _ _ _ _ (k .plan) r n (not-true (p .running) t) (λ s. refl) (e ∙ ap openedOf ei)
+      else-kept openedNo askedYes b confirms g q y (p .code) (p .running) _ _ _ _ (k .plan) r n (not-true (p .running) t) (λ s. refl)
+      (e ∙ ap openedOf ei)
 
   pub confirm-opened : (b₁ : List ℕ) (i : InputNumbers) (r : OpenedAnswer) → p .code ≤ 0 → not (p .running) ≡ false
       → Changes b b₁ (g .capacity) (confirmOpen (p .slot)) → i ≡ inputOf (openConfirmation (record { 0 = server }) (record { 0 = request }))
       → r ≡ openedOf i → (r, b₁) ≡ call openedNo askedYes b (confirmLeadership server (record { 0 = request }))
   confirm-opened b₁ i r n t c ei e =
-      if-done openedNo askedYes b confirms g q y (p .code) (p .running) _ _ _ _ (k .plan) b₁ r n (not-false (p .running) t) c (e ∙ ap openedOf ei)
+      if-done openedNo askedYes b confirms g q y (p .code) (p .running) _ _ _ _ (k .plan) b₁ r n (not-false (p .running) t) c
+      (e ∙ ap openedOf ei)

@@ -143,7 +143,8 @@ fn open_confirmation(area: &mut [u8], f: Capacity, slot: u64)
 // Leadership to be confirmed.
 pub fn confirm_leadership_in(area: &mut [u8], g: Gate, server: u64, request: u64) -> OpenedAnswer
     requires { ⌜ Gated (now area) g ⌝ }
-    ensures { λ r. ⌜ (r, now (area .exit)) ≡ call openedNo askedYes (now (area .entry)) (confirmLeadership server (record { 0 = request })) ⌝ }
+    ensures { λ r. ⌜ (r, now (area .exit)) ≡ call openedNo askedYes (now (area .entry))
+        (confirmLeadership server (record { 0 = request })) ⌝ }
 {
     let refusal = g.refusal;
     let f = g.capacity;

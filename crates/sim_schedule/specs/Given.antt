@@ -62,8 +62,8 @@ unfoldable pub withinOf : FaultOption → Bool
 withinOf None = false
 withinOf (Some fault) = faults.withinLimits fault
 
--- What is asked of the fault of a kind, two numbers and groups: whether its servers are in the cluster; whether it is one, within limits, with
--- at most 8 groups; and where it is, the fault, whose numbers have 64 bits.
+-- What is asked of the fault of a kind, two numbers and groups: whether its servers are in the cluster; whether it is one, within limits,
+-- with at most 8 groups; and where it is, the fault, whose numbers have 64 bits.
 pub record AsksFault (servers kind first second : ℕ) (groups : List ℕ) (r : FaultAsked) : Type 0 where
   pub known : r .known ≡ targetsIn servers kind (faultGiven kind first second groups) groups
   pub fits : r .fits ≡ (groupsFew kind (length groups) and withinOf (faultGiven kind first second groups))

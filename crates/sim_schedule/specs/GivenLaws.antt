@@ -4,16 +4,15 @@ use mathlib.Core.Bool.{Bool, true, false, _&&_}
 use mathlib.Core.List.{List, [], _∷_, _++_}
 use Prim.Native.Nat.{ℕ, zero, suc, _+_, _*_, _/_, _%_, _^_, _≤_, _<_}
 use native.Mathlib.Nat.{div-lt-iff-lt-mul, one-mul}
-use native.Mathlib.Numerals.{add-one}
 use native.Mathlib.Omega.{arith}
 use lib.Dec.{leb, ltb, eqb}
-use lib.ListN.{length, getD, take, drop, replicate, drop-of-length-le, List·getD-eq-default}
+use lib.ListN.{length, getD, drop, replicate, drop-of-length-le, List·getD-eq-default}
 use lib.Pow.{pow-pos, pow-mono, shl-exact}
 use lib.Seq.{sets, sets-eq, length-sets, take-all}
 use mir.Syntax.{w64}
 use mir.Val.{Fits}
-use borrow.Author.Tests.{eq-eqb, ne-eqb, eqb-true, leb-true, le-leb, lt-ltb, le-ltb, ltb-true}
-use Rattle.laws.specs.Bools.{pick, cases, every, _and_, and-left, and-right, and-both, code-and}
+use borrow.Author.Tests.{eq-eqb, ne-eqb, leb-true, lt-ltb, le-ltb, ltb-true}
+use Rattle.laws.specs.Bools.{pick, cases, _and_, and-left, and-right, and-both, code-and}
 use Rattle.laws.specs.Decides.{false-true}
 use Rattle.laws.specs.ListLaws.{drop-next}
 use Rattle.words.specs.Words.{le, leAt}
@@ -26,8 +25,8 @@ use Rattle.queue.specs.declared.Event.the-variants as event
 use Rattle.queue.specs.Numbers.{wordsOf, faultOr}
 use Rattle.queue.specs.Range.{word, wordsFit}
 use Rattle.model.specs.Calls.{groupsWord, faultGiven}
-use Rattle.sim_schedule.specs.declared.given.FaultAsked.{FaultAsked}
-use Rattle.sim_schedule.specs.Given.{membersIn, WordIn, GroupsWord, groupsFew, firstBy, secondBy, targetsOf, targetsIn, withinOf, AsksFault}
+use Rattle.sim_schedule.specs.Given.{membersIn, WordIn, GroupsWord, groupsFew, firstBy, secondBy, targetsOf, targetsIn, withinOf}
+use Rattle.sim_schedule.specs.Given.{AsksFault}
 
 -- ---- group_limit, members_in
 
@@ -54,7 +53,8 @@ module _ {servers limit : ℕ} {groups : List ℕ} where
     unfolding _and_
     members-next {group} l e h = record {
       limit-is = m .limit-is;
-      left = sym (here l ∙ ap (λ (t : Bool). t and membersIn servers (drop (i + 1) groups)) (lt-ltb (getD groups i 0) limit (omega (arith, e))));
+      left = sym (here l ∙ ap (λ (t : Bool). t and membersIn servers (drop (i + 1) groups))
+          (lt-ltb (getD groups i 0) limit (omega (arith, e))));
     }
 
     pub members-outside : {group : ℕ} → i < length groups → group ≡ getD groups i 0 → limit ≤ group → false ≡ membersIn servers groups
@@ -82,7 +82,8 @@ unfolding le
 le-padded [] z e = e
 le-padded (x ∷ a) z e = ap (λ (n : ℕ). x + 256 * n) (le-padded a z e)
 
-pub word-says : (row groups row₁ : List ℕ) (r : ℕ) → length row ≡ 8 → length groups ≤ 8 → row₁ ≡ sets row 0 groups → r ≡ leAt 8 row₁ 0 → WordIn row groups r
+pub word-says : (row groups row₁ : List ℕ) (r : ℕ) → length row ≡ 8 → length groups ≤ 8 → row₁ ≡ sets row 0 groups → r ≡ leAt 8 row₁ 0
+    → WordIn row groups r
 word-says row groups row₁ r n l e q = record {
   is = λ z.
       let long : length row₁ ≤ 8 = omega (arith, ap length e, length-sets row 0 groups) in
@@ -126,7 +127,8 @@ module _ (kind first w : ℕ) where
   pub first-past : 10 < kind → 0 ≡ firstBy kind first w
   unfolding firstBy
   first-past l =
-      sym (List·getD-eq-default (first ∷ first ∷ first ∷ first ∷ w ∷ first ∷ first ∷ 0 ∷ first ∷ first ∷ first ∷ []) 0 (let h : 11 ≤ kind = omega arith in h))
+      sym (List·getD-eq-default (first ∷ first ∷ first ∷ first ∷ w ∷ first ∷ first ∷ 0 ∷ first ∷ first ∷ first ∷ []) 0
+      (let h : 11 ≤ kind = omega arith in h))
 
   pub first-own : (kind ≡ 4 → ⊥) → (kind ≡ 7 → ⊥) → kind ≤ 10 → first ≡ firstBy kind first w
   unfolding firstBy
@@ -216,11 +218,13 @@ unfolding withinOf
 there None e = absurd (false-true e)
 there (Some f) e = refl
 
-numbers-small : (kind a b : ℕ) (f : Fault) → Fits w64 kind → Fits w64 a → Fits w64 b → Numbers kind a b f → wordsFit (wordsOf (event.Fault f)) ≡ true
+numbers-small : (kind a b : ℕ) (f : Fault) → Fits w64 kind → Fits w64 a → Fits w64 b → Numbers kind a b f
+    → wordsFit (wordsOf (event.Fault f)) ≡ true
 numbers-small kind a b f hk ha hb n =
     and-both _ _ refl
     (and-both _ _ (ap word (n .kind) ∙ lt-ltb kind (2 ^ 64) (hk .fits))
-    (and-both _ _ (ap word (n .first) ∙ lt-ltb a (2 ^ 64) (ha .fits)) (and-both _ _ (ap word (n .second) ∙ lt-ltb b (2 ^ 64) (hb .fits)) refl)))
+    (and-both _ _ (ap word (n .first) ∙ lt-ltb a (2 ^ 64) (ha .fits)) (and-both _ _
+    (ap word (n .second) ∙ lt-ltb b (2 ^ 64) (hb .fits)) refl)))
 
 module _ (servers kind first second : ℕ) (groups : List ℕ) (w a b : ℕ) (option : FaultOption)
     (pw : GroupsWord groups w) (pa : a ≡ firstBy kind first w) (pb : b ≡ secondBy kind second) (po : option ≡ faults.faultOf kind a b) where
@@ -231,7 +235,8 @@ module _ (servers kind first second : ℕ) (groups : List ℕ) (w a b : ℕ) (op
   few-same : groupsFew kind (length groups) ≡ true → option ≡ faultGiven kind first second groups
   unfolding groupsFew
   few-same t =
-      by-word (λ e. pw .is (leb-true (length groups) 8 (sym (ap (λ (u : Bool). pick u (leb (length groups) 8) true) (eq-eqb kind 4 e)) ∙ t)))
+      by-word (λ e. pw .is (leb-true (length groups) 8 (sym (ap (λ (u : Bool). pick u (leb (length groups) 8) true) (eq-eqb kind 4 e))
+      ∙ t)))
 
   known-same : targetsIn servers kind option groups ≡ targetsIn servers kind (faultGiven kind first second groups) groups
   unfolding targetsIn
@@ -240,18 +245,21 @@ module _ (servers kind first second : ℕ) (groups : List ℕ) (w a b : ℕ) (op
       (λ t. rw t)
       (λ t. ap (λ (o : FaultOption). targetsIn servers kind o groups) (by-word (λ e. absurd (false-true (sym t ∙ eq-eqb kind 4 e)))))
 
-  fits-same : (groupsFew kind (length groups) and withinOf option) ≡ (groupsFew kind (length groups) and withinOf (faultGiven kind first second groups))
+  fits-same : (groupsFew kind (length groups) and withinOf option) ≡ (groupsFew kind (length groups) and withinOf
+      (faultGiven kind first second groups))
   unfolding _and_
   fits-same =
       cases (groupsFew kind (length groups))
       (λ t. ap (λ (o : FaultOption). groupsFew kind (length groups) and withinOf o) (few-same t))
       (λ t. rw t)
 
-  pub asked-fault : (known few within : Bool) (fault : Fault) → known ≡ targetsIn servers kind option groups → few ≡ groupsFew kind (length groups)
+  pub asked-fault : (known few within : Bool) (fault : Fault) → known ≡ targetsIn servers kind option groups → few
+      ≡ groupsFew kind (length groups)
       → within ≡ withinOf option → fault ≡ faultOr option → Fits w64 kind → Fits w64 a → Fits w64 b
       → AsksFault servers kind first second groups (record { known = known; fits = few && within; fault = fault })
   asked-fault known few within fault pk pf pi pz hk ha hb =
-      let joined : (few && within) ≡ (groupsFew kind (length groups) and withinOf option) = code-and few within ∙ ap₂ (λ (t u : Bool). t and u) pf pi in
+      let joined : (few && within) ≡ (groupsFew kind (length groups) and withinOf option) =
+      code-and few within ∙ ap₂ (λ (t u : Bool). t and u) pf pi in
       let given : (few && within) ≡ true → option ≡ Some fault =
       λ t. there option (and-right _ _ (sym joined ∙ t)) ∙ ap Some (sym pz) in
       record {
@@ -263,17 +271,16 @@ module _ (servers kind first second : ℕ) (groups : List ℕ) (w a b : ℕ) (op
 
 -- ---- groups that are known are those of a partition whose targets are
 
+none-left : (g servers : ℕ) → g < 2 ^ servers → g / 2 ^ servers ≡ 0
+none-left g servers l =
+    let h : g / 2 ^ servers < 1 = div-lt-iff-lt-mul (pow-pos servers) .1 (subst (λ (m : ℕ). g < m) (sym (one-mul (2 ^ servers))) l) in
+    omega arith
+
 none-outside : (n servers : ℕ) → faults.groupsIn n 0 servers ≡ true
 unfolding faults.groupsIn
 none-outside zero servers = refl
 none-outside (suc n) servers =
-    let z : 0 / 2 ^ servers ≡ 0 = small-part 0 servers (pow-pos servers) in
-    and-both _ _ (eq-eqb (0 % 256 / 2 ^ servers) 0 z) (none-outside n servers)
-  where
-    small-part : (g servers : ℕ) → g < 2 ^ servers → g / 2 ^ servers ≡ 0
-    small-part g servers l =
-        let h : g / 2 ^ servers < 1 = div-lt-iff-lt-mul (pow-pos servers) .1 (subst (λ (m : ℕ). g < m) (sym (one-mul (2 ^ servers))) l) in
-        omega arith
+    and-both _ _ (eq-eqb (0 % 256 / 2 ^ servers) 0 (none-left 0 servers (pow-pos servers))) (none-outside n servers)
 
 pub members-known : (servers n : ℕ) (groups : List ℕ) → servers ≤ 8 → length groups ≤ n → membersIn servers groups ≡ true
     → faults.groupsIn n (groupsWord groups) servers ≡ true
@@ -285,7 +292,6 @@ members-known servers (suc n) (g ∷ groups) l h m =
     let byte : g < 256 = omega (arith, pow-mono {i = servers} {j = 8} l) in
     let low : (g + 256 * groupsWord groups) % 256 ≡ g = omega arith in
     let high : (g + 256 * groupsWord groups) / 256 ≡ groupsWord groups = omega arith in
-    let h₁ : g / 2 ^ servers < 1 = div-lt-iff-lt-mul (pow-pos servers) .1 (subst (λ (k : ℕ). g < k) (sym (one-mul (2 ^ servers))) below) in
-    let z : g / 2 ^ servers ≡ 0 = omega arith in
-    and-both _ _ (eq-eqb ((g + 256 * groupsWord groups) % 256 / 2 ^ servers) 0 (ap (λ (k : ℕ). k / 2 ^ servers) low ∙ z))
+    and-both _ _
+    (eq-eqb ((g + 256 * groupsWord groups) % 256 / 2 ^ servers) 0 (ap (λ (k : ℕ). k / 2 ^ servers) low ∙ none-left g servers below))
     (ap (λ (k : ℕ). faults.groupsIn n k servers) high ∙ members-known servers n groups l (omega arith) (and-right _ _ m))

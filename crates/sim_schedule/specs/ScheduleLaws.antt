@@ -2,11 +2,11 @@
 use mathlib.Core.Path.{_≡_, refl, sym, ap, ap₂, subst, _∙_}
 use mathlib.Core.Bool.{Bool, true, false, not, _&&_}
 use mathlib.Core.List.{List}
-use Prim.Native.Nat.{ℕ, _+_, _^_, _≤_, _<_, max}
+use Prim.Native.Nat.{ℕ, _^_, _≤_, _<_, max}
 use native.Mathlib.Omega.{arith}
-use lib.Dec.{leb, ltb, eqb}
+use lib.Dec.{leb, eqb}
 use lib.ListN.{length}
-use borrow.Author.Tests.{eqb-true, leb-true, lt-ltb, ltb-true, eq-eqb}
+use borrow.Author.Tests.{eqb-true, leb-true, lt-ltb, ltb-true}
 use Rattle.laws.specs.Bools.{pick, cases, _and_, and-left, and-right, and-both, and-true, and-assoc, code-and}
 use Rattle.laws.specs.Decides.{false-true}
 use Rattle.faults.specs.Fault as faults
@@ -16,11 +16,10 @@ use Rattle.faults.specs.declared.FaultOption.the-variants.{None, Some}
 use Rattle.queue.specs.declared.Event.the-variants as event
 use Rattle.queue.specs.Numbers.{faultOr, wordsOf}
 use Rattle.queue.specs.Queue.{Scheduled}
-use Rattle.queue.specs.Range.{word, wordsFit}
+use Rattle.queue.specs.Range.{wordsFit}
 use Rattle.model.specs.State.{State, Phase, closed, writing, sending}
-use Rattle.model.specs.Simulation.{scheduleFault}
 use Rattle.model.specs.Calls as calls
-use Rattle.model.specs.Calls.{Out, refused, done, ask, isClosed, withFault, groupsWord, faultGiven, schedule}
+use Rattle.model.specs.Calls.{Out, done, ask, isClosed, withFault, faultGiven, schedule}
 use Rattle.model.specs.Fits.{stateFits}
 use Rattle.state.specs.declared.Capacity.{Capacity}
 use Rattle.state.specs.declared.Gate.{Gate}
@@ -106,7 +105,8 @@ judged-asks true true true (Some f) op r h = by (faults.withinLimits f) refl
     by true e = ap (λ (u : Bool). pick u 0 10) (h f refl refl refl e)
     by false e = refl
 
-asks-done : (c k e : Bool) (x : FaultOption) (op : Fault → State) (r : Bool) (f : Fault) → x ≡ Some f → scheduleCode c k (e and withinOf x) r ≡ 0
+asks-done : (c k e : Bool) (x : FaultOption) (op : Fault → State) (r : Bool) (f : Fault) → x ≡ Some f
+    → scheduleCode c k (e and withinOf x) r ≡ 0
     → asks c k e x op ≡ done tt (op f)
 unfolding scheduleCode withinOf _and_
 asks-done false k e x op r f q z = absurd (omega arith)
@@ -173,7 +173,8 @@ module _ (s : State) (fit : stateFits s ≡ true) (time : ℕ) (f : Fault) where
 
 -- ---- schedule_plan
 
-module _ (b : List ℕ) (F : Capacity) (time kind first second : ℕ) (groups : List ℕ) (o : OpenInput) (q : FaultAsked) (room : Bool) (run : Run)
+module _ (b : List ℕ) (F : Capacity) (time kind first second : ℕ) (groups : List ℕ) (o : OpenInput) (q : FaultAsked) (room : Bool)
+    (run : Run)
     (po : Reads b F o (λ s. openOf (phaseOf s))) (pq : AsksFault (F .servers) kind first second groups q)
     (pr : Reads b F room (queueRoom 1)) (pw : Reads b F run runOf) where
   abbrev fault : FaultOption
@@ -197,7 +198,8 @@ module _ (b : List ℕ) (F : Capacity) (time kind first second : ℕ) (groups : 
         ≡ asks (isClosed (s .phase)) (targetsIn (length (s .servers)) kind fault groups) early fault scheduled
     unfolding schedule targetsIn membersIn groupsFew pushed plain
     is-asks =
-        ap (λ (t : Bool). asks (isClosed (s .phase)) (pick (eqb kind 4) (membersIn (length (s .servers)) groups) t) early fault scheduled) (targets-same s fault)
+        ap (λ (t : Bool). asks (isClosed (s .phase)) (pick (eqb kind 4) (membersIn (length (s .servers)) groups) t) early fault scheduled)
+        (targets-same s fault)
 
     known-is : q .known ≡ targetsIn (length (s .servers)) kind fault groups
     known-is = pq .known ∙ ap (λ (n : ℕ). targetsIn n kind fault groups) count
@@ -207,38 +209,45 @@ module _ (b : List ℕ) (F : Capacity) (time kind first second : ℕ) (groups : 
         code-and (leb time (2 ^ 62)) (q .fits) ∙ ap (λ (t : Bool). leb time (2 ^ 62) and t) (pq .fits)
         ∙ sym (and-assoc (leb time (2 ^ 62)) (groupsFew kind (length groups)) (withinOf fault))
 
-    fits-is : (f : Fault) → fault ≡ Some f → targetsIn (length (s .servers)) kind fault groups ≡ true → early ≡ true → faults.withinLimits f ≡ true
+    fits-is : (f : Fault) → fault ≡ Some f → targetsIn (length (s .servers)) kind fault groups ≡ true → early ≡ true
+        → faults.withinLimits f ≡ true
         → stateFits (scheduled f) ≡ room
     unfolding withinOf
     fits-is f e k t w =
         let n : length (s .servers) ≡ s .config .servers = server-count s (area-fits h) in
         let targets : faults.targetsKnown (s .config .servers) f ≡ true =
-        in-range (s .config .servers) kind first second groups f few e (ap (λ (m : ℕ). targetsIn m kind fault groups) (sym n) ∙ k) (and-right _ _ t) in
+        in-range (s .config .servers) kind first second groups f few e (ap (λ (m : ℕ). targetsIn m kind fault groups) (sym n) ∙ k)
+        (and-right _ _ t) in
         let fits : q .fits ≡ true = pq .fits ∙ and-both _ _ (and-right _ _ t) (ap withinOf e ∙ w) in
         let same : q .fault ≡ f = ap faultOr (sym (pq .fault fits) ∙ e) in
-        let small : wordsFit (wordsOf (event.Fault f)) ≡ true = subst (λ (g : Fault). wordsFit (wordsOf (event.Fault g)) ≡ true) same (pq .small fits) in
+        let small : wordsFit (wordsOf (event.Fault f)) ≡ true = subst (λ (g : Fault). wordsFit (wordsOf (event.Fault g)) ≡ true) same
+        (pq .small fits) in
         room-asked s (area-fits h) time f (leb-true time (2 ^ 62) (and-left _ _ t)) (and-both _ _ targets w) small ∙ sym (pr .to s h ef)
 
     code-is : scheduleCode (eqb (o .phase) 0) (q .known) (leb time (2 ^ 62) && q .fits) room
         ≡ scheduleCode (isClosed (s .phase)) (targetsIn (length (s .servers)) kind fault groups) (early and withinOf fault) room
     code-is =
-        ap₂ (λ (c k : Bool). scheduleCode c k (leb time (2 ^ 62) && q .fits) room) (ap (λ (x : OpenInput). eqb (x .phase) 0) (po .to s h ef) ∙ kind-closed (s .phase)) known-is
+        ap₂ (λ (c k : Bool). scheduleCode c k (leb time (2 ^ 62) && q .fits) room)
+        (ap (λ (x : OpenInput). eqb (x .phase) 0) (po .to s h ef) ∙ kind-closed (s .phase)) known-is
         ∙ ap (λ (a : Bool). scheduleCode (isClosed (s .phase)) (targetsIn (length (s .servers)) kind fault groups) a room) args-is
 
-  pub schedule-planned : (code t : ℕ) → code ≡ scheduleCode (eqb (o .phase) 0) (q .known) (leb time (2 ^ 62) && q .fits) room → t ≡ max time (run .now .0)
+  pub schedule-planned : (code t : ℕ) → code ≡ scheduleCode (eqb (o .phase) 0) (q .known) (leb time (2 ^ 62) && q .fits) room → t
+      ≡ max time (run .now .0)
       → SchedulePlanned b F time kind first second groups (record { code = code; time = t; fault = q .fault })
   schedule-planned code t ec et = record {
     plan = record {
       code = λ s h ef.
           ec ∙ code-is s h ef
           ∙ sym (ap judged (is-asks s h ef)
-          ∙ judged-asks (isClosed (s .phase)) (targetsIn (length (s .servers)) kind fault groups) early fault (scheduled s h ef) room (fits-is s h ef));
+          ∙ judged-asks (isClosed (s .phase)) (targetsIn (length (s .servers)) kind fault groups) early fault (scheduled s h ef) room
+          (fits-is s h ef));
       gives = λ s h ef z.
           let z₁ = sym (code-is s h ef) ∙ sym ec ∙ z in
           let fits : q .fits ≡ true = pq .fits ∙ fits-of (code-args _ _ _ _ z₁) in
           let now : max time (s .now .0) ≡ t = ap (λ (x : Run). max time (x .now .0)) (sym (pw .to s h ef)) ∙ sym et in
           is-asks s h ef
-          ∙ asks-done (isClosed (s .phase)) (targetsIn (length (s .servers)) kind fault groups) early fault (scheduled s h ef) room (q .fault) (pq .fault fits) z₁
+          ∙ asks-done (isClosed (s .phase)) (targetsIn (length (s .servers)) kind fault groups) early fault (scheduled s h ef) room
+          (q .fault) (pq .fault fits) z₁
           ∙ ap (λ (n : ℕ). done tt (pushed (plain (record { 0 = n }) (event.Fault (q .fault))) s)) now;
     };
   }
@@ -250,9 +259,13 @@ module _ (b : List ℕ) (F : Capacity) (time kind first second : ℕ) (groups : 
 
 module _ (b : List ℕ) (g : Gate) (time kind first second : ℕ) (groups : List ℕ) (p : SchedulePlan) (q : Gated b g) (y : g .refusal ≤ 0)
     (k : SchedulePlanned b (g .capacity) time kind first second groups p) where
-  pub schedule-no : (r : DoneAnswer) → 0 < p .code → r ≡ doneNo (p .code) → (r, b) ≡ call doneNo doneYes b (schedule (record { 0 = time }) kind first second groups)
-  schedule-no r n e = call-refused doneNo doneYes b (schedule (record { 0 = time }) kind first second groups) g q y (p .code) tt _ (k .plan) r n e
+  pub schedule-no : (r : DoneAnswer) → 0 < p .code → r ≡ doneNo (p .code) → (r, b)
+      ≡ call doneNo doneYes b (schedule (record { 0 = time }) kind first second groups)
+  schedule-no r n e = call-refused doneNo doneYes b (schedule (record { 0 = time }) kind first second groups) g q y (p .code) tt _
+      (k .plan) r n e
 
-  pub schedule-done : (b₁ : List ℕ) (r : DoneAnswer) → p .code ≤ 0 → Changes b b₁ (g .capacity) (pushed (plain (record { 0 = p .time }) (event.Fault (p .fault))))
+  pub schedule-done : (b₁ : List ℕ) (r : DoneAnswer) → p .code ≤ 0 → Changes b b₁ (g .capacity)
+      (pushed (plain (record { 0 = p .time }) (event.Fault (p .fault))))
       → r ≡ doneNo 0 → (r, b₁) ≡ call doneNo doneYes b (schedule (record { 0 = time }) kind first second groups)
-  schedule-done b₁ r n c e = call-done doneNo doneYes b (schedule (record { 0 = time }) kind first second groups) g q y (p .code) tt _ (k .plan) b₁ r n c e
+  schedule-done b₁ r n c e = call-done doneNo doneYes b (schedule (record { 0 = time }) kind first second groups) g q y (p .code) tt _
+      (k .plan) b₁ r n c e

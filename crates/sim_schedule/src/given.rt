@@ -1,9 +1,11 @@
-// The fault that a kind, two numbers and groups name, one byte a group: whether its servers are in the cluster, and its numbers within limits.
+// The fault that a kind, two numbers and groups name, one byte a group: whether its servers are in the cluster, and its numbers
+// within limits.
 ghost use mathlib.Core.Path.{_≡_};
 ghost use Prim.Native.Nat.{_+_, _^_, _≤_, _<_};
 ghost use lib.ListN.{length, getD};
 ghost use Rattle.queue.specs.Numbers.{faultOr};
-ghost use Rattle.sim_schedule.specs.Given.{membersIn, firstBy, secondBy, targetsOf, targetsIn, groupsFew, withinOf, WordIn, GroupsWord, AsksFault};
+ghost use Rattle.sim_schedule.specs.Given.{membersIn, WordIn, GroupsWord, groupsFew, firstBy, secondBy};
+ghost use Rattle.sim_schedule.specs.Given.{targetsOf, targetsIn, withinOf, AsksFault};
 use faults::Fault;
 use faults::FaultOption;
 

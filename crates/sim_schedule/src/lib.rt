@@ -86,7 +86,8 @@ pub fn schedule_in(
     groups: &[u8],
 ) -> DoneAnswer
     requires { ⌜ Gated (now area) g ⌝ }
-    ensures { λ r. ⌜ (r, now (area .exit)) ≡ call doneNo doneYes (now (area .entry)) (schedule (record { 0 = time }) kind first second (now (groups .entry))) ⌝ }
+    ensures { λ r. ⌜ (r, now (area .exit)) ≡ call doneNo doneYes (now (area .entry))
+        (schedule (record { 0 = time }) kind first second (now (groups .entry))) ⌝ }
 {
     let refusal = g.refusal;
     let f = g.capacity;

@@ -216,7 +216,7 @@ impl Answer {
 
 impl Call {
     /// Makes the call. `buffer` is what is lent where the call takes a buffer or a list.
-    pub(crate) fn make(&self, port: &mut impl Port, area: &mut [u8], buffer: &mut [u8]) -> Answer {
+    pub fn make(&self, port: &mut impl Port, area: &mut [u8], buffer: &mut [u8]) -> Answer {
         let mut state = match self {
             Call::ChaosSchedule { generator, .. } => *generator,
             _ => 0,

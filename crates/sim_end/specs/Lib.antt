@@ -1,0 +1,4 @@
+pub mod Ends
+pub mod Laws
+pub mod StatusLaws
+pub mod EndLaws

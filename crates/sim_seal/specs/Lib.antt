@@ -1,0 +1,4 @@
+pub mod Cuts
+pub mod Seals
+pub mod CutLaws
+pub mod SealLaws
