@@ -11,7 +11,7 @@ pub mod reference;
 
 use nodes::{AppliesEarly, Correct, TermNotSaved, TruncatesTooFar, VoteNotSaved};
 use observe::Recording;
-use trace::with_refusals;
+use trace::{Trace, with_refusals};
 
 /// Which node runs.
 #[derive(Debug, Clone, Copy, PartialEq, Eq)]
@@ -88,6 +88,61 @@ pub fn module(mode: Mode, seed: u64, calls: usize, still: usize) -> String {
         "{calls} exchanges from the beginning of the Rust's run of the node `{name}` with seed {seed}. Between them stand calls that document 01 refuses; of these and of the reads one in {still} is kept, and \
          every read that finds a reply, confirmation, violation or applied entry. Made by `write_run {name} {seed} {calls} {still}` (host/README.md). Assumes nothing."
     );
-    let trace = with_refusals(record(mode, seed).trace, 5);
-    trace.to_antt(&about, calls, still)
+    thinned(mode, seed, still).to_antt(&about, calls)
+}
+
+/// The beginning of the run of a mode and a seed: `calls` exchanges, chosen as for [`module`].
+pub fn beginning(mode: Mode, seed: u64, calls: usize, still: usize) -> Trace {
+    let mut trace = thinned(mode, seed, still);
+    trace.exchanges.truncate(calls);
+    trace
+}
+
+/// A trace that the crate `traces` replays: the beginning of a run.
+#[derive(Debug, Clone, Copy, PartialEq, Eq)]
+pub struct Recorded {
+    /// The node.
+    pub mode: Mode,
+    /// The run's seed.
+    pub seed: u64,
+    /// Exchanges, at most.
+    pub calls: usize,
+    /// Of the calls that change nothing one in so many is kept.
+    pub still: usize,
+}
+
+/// The recorded traces. Between them they have every call, and every refusal but 5 and 11.
+pub const RECORDED: [Recorded; 7] = [
+    recorded(Mode::Hostile, 1, 5_000, 1),
+    recorded(Mode::Hostile, 31, 2_000, 7),
+    recorded(Mode::Raft, 20, 3_000, 200),
+    recorded(Mode::VoteNotSaved, 45, 4_000, 1_000),
+    recorded(Mode::TermNotSaved, 6, 2_500, 1_000),
+    recorded(Mode::AppliesEarly, 9, 1_500, 1_000),
+    recorded(Mode::TruncatesTooFar, 44, 2_500, 1_000),
+];
+
+const fn recorded(mode: Mode, seed: u64, calls: usize, still: usize) -> Recorded {
+    Recorded {
+        mode,
+        seed,
+        calls,
+        still,
+    }
+}
+
+impl Recorded {
+    /// The name of its file.
+    pub fn file(self) -> String {
+        format!("{}-{}.bin", self.mode.name(), self.seed)
+    }
+
+    /// The trace.
+    pub fn trace(self) -> Trace {
+        beginning(self.mode, self.seed, self.calls, self.still)
+    }
+}
+
+fn thinned(mode: Mode, seed: u64, still: usize) -> Trace {
+    with_refusals(record(mode, seed).trace, 5).thinned(still)
 }

@@ -22,23 +22,17 @@ exchanges =
 impl Trace {
     /// The first `most` exchanges as a module that begins with the line `about`.
     ///
-    /// Of the calls that change nothing, reads and refused ones, one in `still` is written, and
-    /// every read that finds an element of a list. Left out are calls that the definitions do
-    /// not have: a schedule, which takes no area, and a start that is refused for its area's
-    /// length.
-    pub fn to_antt(&self, about: &str, most: usize, still: usize) -> String {
+    /// Left out are calls that the definitions do not have: a schedule, which takes no area, and
+    /// a start that is refused for its area's length.
+    pub fn to_antt(&self, about: &str, most: usize) -> String {
         let mut buffer = 0;
-        let mut met = 0;
         let mut lines = Vec::new();
         for Exchange { call, answer } in &self.exchanges {
             let refusal = answer.numbers.refusal();
             if let (Call::Start { limits, .. }, 0) = (call, refusal) {
                 buffer = limits.message.max(limits.payload);
             }
-            let changes_nothing = call.reads() || refusal != 0;
-            met += usize::from(changes_nothing);
-            let kept = !changes_nothing || met % still == 0 || finds_element(&answer.numbers);
-            if !kept || !is_defined(call, refusal) {
+            if !is_defined(call, refusal) {
                 continue;
             }
             let call = text(call, buffer);
@@ -64,17 +58,6 @@ fn numbers_of(numbers: &Numbers) -> Vec<u64> {
 /// Whether the definitions have the call, and ask what refused it.
 fn is_defined(call: &Call, refusal: u64) -> bool {
     !matches!(call, Call::ChaosSchedule { .. }) && refusal != kinds::refusal::AREA
-}
-
-/// Whether a reply, confirmation, violation or applied entry was found; each is read once.
-fn finds_element(numbers: &Numbers) -> bool {
-    match numbers {
-        Numbers::Reply(reply) => reply.present == 1,
-        Numbers::Confirmation(confirmation) => confirmation.present == 1,
-        Numbers::Violation(violation) => violation.present == 1,
-        Numbers::AppliedEntry(entry) => entry.present == 1,
-        _ => false,
-    }
 }
 
 fn list(numbers: impl IntoIterator<Item = u64>) -> String {

@@ -9,6 +9,7 @@ mod call;
 mod form;
 mod refusals;
 mod replay;
+mod thinned;
 
 pub use call::{Answer, Call, Numbers};
 pub use form::BadForm;

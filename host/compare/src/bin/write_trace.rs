@@ -3,19 +3,17 @@
 use std::process::ExitCode;
 use std::{env, fs};
 
-use compare::{Mode, record};
+use compare::{Mode, beginning, record};
+use trace::Trace;
 
 fn main() -> ExitCode {
     let words: Vec<String> = env::args().skip(1).collect();
-    let asked = match &words[..] {
-        [name, seed, file] => Mode::named(name).zip(seed.parse().ok()).zip(Some(file)),
-        _ => None,
-    };
-    let Some(((mode, seed), file)) = asked else {
-        eprintln!("usage: write_trace MODE SEED FILE");
+    let Some((trace, file)) = asked(&words) else {
+        eprintln!("usage: write_trace MODE SEED [CALLS STILL] FILE");
+        eprintln!("CALLS: how many exchanges, with refused calls in between");
+        eprintln!("STILL: one in so many calls that change nothing is kept");
         return ExitCode::from(2);
     };
-    let trace = record(mode, seed).trace;
     match fs::write(file, trace.to_bytes()) {
         Ok(()) => {
             println!("{file}: {} calls", trace.exchanges.len());
@@ -25,5 +23,21 @@ fn main() -> ExitCode {
             eprintln!("{file}: {problem}");
             ExitCode::FAILURE
         }
+    }
+}
+
+/// The trace that is asked for, and its file.
+fn asked(words: &[String]) -> Option<(Trace, &str)> {
+    match words {
+        [mode, seed, file] => {
+            let trace = record(Mode::named(mode)?, seed.parse().ok()?).trace;
+            Some((trace, file))
+        }
+        [mode, seed, calls, still, file] => {
+            let still = still.parse().ok().filter(|still| *still > 0)?;
+            let (seed, calls) = (seed.parse().ok()?, calls.parse().ok()?);
+            Some((beginning(Mode::named(mode)?, seed, calls, still), file))
+        }
+        _ => None,
     }
 }
