@@ -59,6 +59,29 @@ fn durability() {
 }
 
 #[test]
+fn durability_takes_index_0_as_the_first() {
+    let settings = Settings {
+        clients: 1,
+        ..SETTINGS
+    };
+    let mut run = Run::running(settings, LIMITS);
+    run.step();
+    run.step();
+    run.seal();
+    // The key is answered at index 0; the same command is then the entry applied at 1.
+    run.yes(&apply(0, 0, 0));
+    run.yes(&apply(1, 0, 0));
+    run.yes(&end(0, 0));
+    run.set(TOTAL, 0);
+    run.step();
+    assert_eq!((run.word(86), run.word(run.reply(0, 2))), (1, 0));
+    passes(&run, &Call::CheckDurability {});
+    // Another command was acknowledged there.
+    run.set(run.reply(0, 4), 1);
+    run.counts(TOTAL, 1, &Call::CheckDurability {});
+}
+
+#[test]
 fn election_safety() {
     let mut run = Run::running(TWO, LIMITS);
     run.fire(1);
