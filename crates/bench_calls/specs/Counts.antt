@@ -1,5 +1,5 @@
 -- What the gate answered of an area, by its counts. Assumes nothing.
-use mathlib.Core.Path.{_≡_, sym, subst}
+use mathlib.Core.Path.{_≡_, refl, sym, subst}
 use mathlib.Core.List.{List}
 use Prim.Native.Nat.{ℕ}
 use Rattle.state.specs.declared.Gate.{Gate}
@@ -19,3 +19,14 @@ gateGiven n = record {
 
 pub gated-as : (b : List ℕ) (n : CountsNumbers) (g : Gate) → Gated b (gateGiven n) → g ≡ gateGiven n → Gated b g
 gated-as b n g h e = subst (λ (x : Gate). Gated b x) (sym e) h
+
+pub gate-is : (n : CountsNumbers) → record {
+  refusal = 0;
+  capacity = record {
+    servers = n .servers;
+    clients = n .clients;
+    limits = record { «log_indexes» = n .«log_indexes»; payload = n .payload; message = n .message; events = n .events; writes = n .writes; history = n .history };
+  };
+} ≡ gateGiven n
+unfolding gateGiven
+gate-is n = refl

@@ -1,10 +1,12 @@
 // What stands behind the gate of every call, exported so that it can be measured without the gate, each under the contract of the function that it calls.
 ghost use Rattle.answers.specs.Answers.{doneNo, doneYes, openedNo, openedYes, askedYes, sealedNo, sealedYes, statusNo, statusYes, hardStateNo, hardStateYes, logNo, logYes, leaderNo, leaderYes, appliedNo, appliedYes, metricsNo, metricsYes, sentByNo, sentByYes, replyNo, replyYes, confirmationNo, confirmationYes, violationNo, violationYes, runNo, runYes, settingsNo, settingsYes};
-ghost use Rattle.model.specs.Calls.{checkLogMatchingCall, checkDurabilityCall, outputSend, outputSetTimer, outputCancelTimer, outputApply, outputConfirmed, outputLost, propose, fireTimer, confirmLeadership, schedule, seal, writeHardStateCall, writePutCall, writeTruncateCall};
+ghost use Rattle.api.specs.Given.{settingsGiven, limitsGiven};
+ghost use Rattle.model.specs.Calls.{checkLogMatchingCall, checkDurabilityCall, outputSend, outputSetTimer, outputCancelTimer, outputApply, outputConfirmed, outputLost, propose, fireTimer, confirmLeadership, schedule, start, seal, end, writeHardStateCall, writePutCall, writeTruncateCall};
 ghost use Rattle.model.specs.Reads.{readStatus, readHardState, readLog, readLeader, readApplied, readMetrics, readSentBy, readReply, readConfirmation, readViolation, readRun, readSettings};
 ghost use Rattle.sim_reads.specs.Servers.{EntryRead};
 ghost use Rattle.sim_reads_report.specs.Report.{AppliedRead};
-ghost use Rattle.state.specs.Call.{call, reading};
+ghost use Rattle.sim_step.specs.Steps.{StepMade};
+ghost use Rattle.state.specs.Call.{call, starting, reading};
 ghost use Rattle.state.specs.Changes.{Gated};
 ghost use mathlib.Core.Path.{_≡_};
 ghost use Rattle.bench_calls.specs.Counts.{gateGiven};
@@ -24,7 +26,11 @@ use answers::SealedAnswer;
 use answers::SentByAnswer;
 use answers::SettingsAnswer;
 use answers::StatusAnswer;
+use answers::SteppedAnswer;
 use answers::ViolationAnswer;
+use api::run;
+use api::settings::LimitsNumbers;
+use api::settings::SettingsNumbers;
 use config::Limits;
 use sim_checks::durability;
 use sim_checks::matching;
@@ -69,6 +75,34 @@ fn gate_given(n: CountsNumbers) -> Gate
     }
 }
 
+// A simulation begins: a start has no gate.
+#[no_mangle]
+pub extern "C" fn bench_start(
+    area: &mut [u8],
+    settings: SettingsNumbers,
+    limits: LimitsNumbers,
+    seed: u64,
+) -> OpenedAnswer
+    ensures { λ r. ⌜ (r, now (area .exit)) ≡ starting openedNo openedYes (now (area .entry)) (start (settingsGiven settings) (limitsGiven limits) seed) ⌝ }
+{
+    run::sim_start(area, settings, limits, seed)
+}
+
+// The first event at or before the deadline happens; where there is none, the time rises to the deadline. The bytes of a message go to the buffer.
+#[no_mangle]
+pub extern "C" fn bench_step(
+    area: &mut [u8],
+    counts: CountsNumbers,
+    deadline: u64,
+    buffer: &mut [u8],
+) -> SteppedAnswer
+    requires { ⌜ Gated (now area) (gateGiven counts) ⌝ }
+    ensures { λ r. ⌜ StepMade (now (area .entry)) (now (area .exit)) deadline (now (buffer .entry)) (now (buffer .exit)) r ⌝ }
+{
+    let g = gate_given(counts);
+    sim_step::step_in(area, g, deadline, buffer)
+}
+
 // The node has returned: whether it refused its input, and which leader it named. The input's writes are synced, or cut.
 #[no_mangle]
 pub extern "C" fn bench_seal(
@@ -83,6 +117,24 @@ pub extern "C" fn bench_seal(
 {
     let g = gate_given(counts);
     sim_seal::seal_in(area, g, refused, present, leader)
+}
+
+// The outputs are over; the node's status. What is owed goes on.
+#[no_mangle]
+pub extern "C" fn bench_end(
+    area: &mut [u8],
+    counts: CountsNumbers,
+    role: u64,
+    term: u64,
+    present: u64,
+    leader: u64,
+    commit: u64,
+) -> OpenedAnswer
+    requires { ⌜ Gated (now area) (gateGiven counts) ⌝ }
+    ensures { λ r. ⌜ (r, now (area .exit)) ≡ call openedNo openedYes (now (area .entry)) (end role (record { 0 = term }) present leader (record { 0 = commit })) ⌝ }
+{
+    let g = gate_given(counts);
+    sim_end::end_in(area, g, role, term, present, leader, commit)
 }
 
 // A command proposed at a server: a sequence number is used, whether or not it runs.

@@ -2,8 +2,9 @@
 #![allow(unsafe_code)]
 
 use port::{
-    Applied, AppliedEntry, Capacities, Chaos, Confirmation, Done, Drawn, Entry, HardState, Leader, Limits, Log, Metrics, Opened, Port, Refused, Reply, Run, Sealed, SentBy,
-    Settings, Status, Stepped, Violation, kinds,
+    Applied, AppliedEntry, Capacities, Chaos, Confirmation, Done, Drawn, Entry, HardState, Leader,
+    Limits, Log, Metrics, Opened, Port, Refused, Reply, Run, Sealed, SentBy, Settings, Status,
+    Stepped, Violation, kinds,
 };
 use trace::{Call, Trace};
 
@@ -18,37 +19,182 @@ struct Counts {
 
 #[link(name = "bench_calls", kind = "static")]
 unsafe extern "C" {
-    fn bench_start(area: *mut u8, area_length: usize, settings: Settings, limits: Limits, seed: u64) -> Opened;
-    fn bench_step(area: *mut u8, area_length: usize, counts: Counts, deadline: u64, buffer: *mut u8, buffer_length: usize) -> Stepped;
+    fn bench_start(
+        area: *mut u8,
+        area_length: usize,
+        settings: Settings,
+        limits: Limits,
+        seed: u64,
+    ) -> Opened;
+    fn bench_step(
+        area: *mut u8,
+        area_length: usize,
+        counts: Counts,
+        deadline: u64,
+        buffer: *mut u8,
+        buffer_length: usize,
+    ) -> Stepped;
     fn bench_propose(area: *mut u8, area_length: usize, counts: Counts, server: u64) -> Opened;
-    fn bench_fire_timer(area: *mut u8, area_length: usize, counts: Counts, server: u64, timer: u64) -> Opened;
-    fn bench_confirm_leadership(area: *mut u8, area_length: usize, counts: Counts, server: u64, request: u64) -> Opened;
-    fn bench_schedule(area: *mut u8, area_length: usize, counts: Counts, time: u64, kind: u64, first: u64, second: u64, groups: *const u8, groups_length: usize) -> Done;
-    fn bench_write_hard_state(area: *mut u8, area_length: usize, counts: Counts, term: u64, present: u64, vote: u64) -> Done;
-    fn bench_write_put(area: *mut u8, area_length: usize, counts: Counts, index: u64, term: u64, kind: u64, payload: *const u8, payload_length: usize) -> Done;
+    fn bench_fire_timer(
+        area: *mut u8,
+        area_length: usize,
+        counts: Counts,
+        server: u64,
+        timer: u64,
+    ) -> Opened;
+    fn bench_confirm_leadership(
+        area: *mut u8,
+        area_length: usize,
+        counts: Counts,
+        server: u64,
+        request: u64,
+    ) -> Opened;
+    fn bench_schedule(
+        area: *mut u8,
+        area_length: usize,
+        counts: Counts,
+        time: u64,
+        kind: u64,
+        first: u64,
+        second: u64,
+        groups: *const u8,
+        groups_length: usize,
+    ) -> Done;
+    fn bench_write_hard_state(
+        area: *mut u8,
+        area_length: usize,
+        counts: Counts,
+        term: u64,
+        present: u64,
+        vote: u64,
+    ) -> Done;
+    fn bench_write_put(
+        area: *mut u8,
+        area_length: usize,
+        counts: Counts,
+        index: u64,
+        term: u64,
+        kind: u64,
+        payload: *const u8,
+        payload_length: usize,
+    ) -> Done;
     fn bench_write_truncate(area: *mut u8, area_length: usize, counts: Counts, from: u64) -> Done;
-    fn bench_seal(area: *mut u8, area_length: usize, counts: Counts, refused: u64, present: u64, leader: u64) -> Sealed;
-    fn bench_output_send(area: *mut u8, area_length: usize, counts: Counts, to: u64, message: *const u8, message_length: usize, entries: u64) -> Done;
-    fn bench_output_set_timer(area: *mut u8, area_length: usize, counts: Counts, timer: u64, after: u64) -> Done;
-    fn bench_output_cancel_timer(area: *mut u8, area_length: usize, counts: Counts, timer: u64) -> Done;
-    fn bench_output_apply(area: *mut u8, area_length: usize, counts: Counts, index: u64, kind: u64, payload: *const u8, payload_length: usize) -> Done;
-    fn bench_output_confirmed(area: *mut u8, area_length: usize, counts: Counts, request: u64, read_index: u64) -> Done;
+    fn bench_seal(
+        area: *mut u8,
+        area_length: usize,
+        counts: Counts,
+        refused: u64,
+        present: u64,
+        leader: u64,
+    ) -> Sealed;
+    fn bench_output_send(
+        area: *mut u8,
+        area_length: usize,
+        counts: Counts,
+        to: u64,
+        message: *const u8,
+        message_length: usize,
+        entries: u64,
+    ) -> Done;
+    fn bench_output_set_timer(
+        area: *mut u8,
+        area_length: usize,
+        counts: Counts,
+        timer: u64,
+        after: u64,
+    ) -> Done;
+    fn bench_output_cancel_timer(
+        area: *mut u8,
+        area_length: usize,
+        counts: Counts,
+        timer: u64,
+    ) -> Done;
+    fn bench_output_apply(
+        area: *mut u8,
+        area_length: usize,
+        counts: Counts,
+        index: u64,
+        kind: u64,
+        payload: *const u8,
+        payload_length: usize,
+    ) -> Done;
+    fn bench_output_confirmed(
+        area: *mut u8,
+        area_length: usize,
+        counts: Counts,
+        request: u64,
+        read_index: u64,
+    ) -> Done;
     fn bench_output_lost(area: *mut u8, area_length: usize, counts: Counts, request: u64) -> Done;
-    fn bench_end(area: *mut u8, area_length: usize, counts: Counts, role: u64, term: u64, present: u64, leader: u64, commit: u64) -> Opened;
+    fn bench_end(
+        area: *mut u8,
+        area_length: usize,
+        counts: Counts,
+        role: u64,
+        term: u64,
+        present: u64,
+        leader: u64,
+        commit: u64,
+    ) -> Opened;
     fn bench_check_log_matching(area: *mut u8, area_length: usize, counts: Counts) -> Done;
     fn bench_check_durability(area: *mut u8, area_length: usize, counts: Counts) -> Done;
-    fn bench_read_status(area: *const u8, area_length: usize, counts: Counts, server: u64) -> Status;
-    fn bench_read_hard_state(area: *const u8, area_length: usize, counts: Counts, server: u64) -> HardState;
+    fn bench_read_status(
+        area: *const u8,
+        area_length: usize,
+        counts: Counts,
+        server: u64,
+    ) -> Status;
+    fn bench_read_hard_state(
+        area: *const u8,
+        area_length: usize,
+        counts: Counts,
+        server: u64,
+    ) -> HardState;
     fn bench_read_log(area: *const u8, area_length: usize, counts: Counts, server: u64) -> Log;
-    fn bench_read_entry(area: *const u8, area_length: usize, counts: Counts, server: u64, index: u64, buffer: *mut u8, buffer_length: usize) -> Entry;
+    fn bench_read_entry(
+        area: *const u8,
+        area_length: usize,
+        counts: Counts,
+        server: u64,
+        index: u64,
+        buffer: *mut u8,
+        buffer_length: usize,
+    ) -> Entry;
     fn bench_read_leader(area: *const u8, area_length: usize, counts: Counts) -> Leader;
-    fn bench_read_applied(area: *const u8, area_length: usize, counts: Counts, server: u64) -> Applied;
-    fn bench_read_applied_entry(area: *const u8, area_length: usize, counts: Counts, index: u64, buffer: *mut u8, buffer_length: usize) -> AppliedEntry;
+    fn bench_read_applied(
+        area: *const u8,
+        area_length: usize,
+        counts: Counts,
+        server: u64,
+    ) -> Applied;
+    fn bench_read_applied_entry(
+        area: *const u8,
+        area_length: usize,
+        counts: Counts,
+        index: u64,
+        buffer: *mut u8,
+        buffer_length: usize,
+    ) -> AppliedEntry;
     fn bench_read_metrics(area: *const u8, area_length: usize, counts: Counts) -> Metrics;
-    fn bench_read_sent_by(area: *const u8, area_length: usize, counts: Counts, server: u64) -> SentBy;
+    fn bench_read_sent_by(
+        area: *const u8,
+        area_length: usize,
+        counts: Counts,
+        server: u64,
+    ) -> SentBy;
     fn bench_read_reply(area: *const u8, area_length: usize, counts: Counts, place: u64) -> Reply;
-    fn bench_read_confirmation(area: *const u8, area_length: usize, counts: Counts, place: u64) -> Confirmation;
-    fn bench_read_violation(area: *const u8, area_length: usize, counts: Counts, place: u64) -> Violation;
+    fn bench_read_confirmation(
+        area: *const u8,
+        area_length: usize,
+        counts: Counts,
+        place: u64,
+    ) -> Confirmation;
+    fn bench_read_violation(
+        area: *const u8,
+        area_length: usize,
+        counts: Counts,
+        place: u64,
+    ) -> Violation;
     fn bench_read_run(area: *const u8, area_length: usize, counts: Counts) -> Run;
     fn bench_read_settings(area: *const u8, area_length: usize, counts: Counts) -> Capacities;
 }
@@ -61,22 +207,38 @@ pub struct Behind {
 impl Behind {
     /// For the areas of this trace.
     pub fn new(trace: &Trace) -> Self {
-        let Call::Start { settings, limits, .. } = &trace.exchanges[0].call else {
+        let Call::Start {
+            settings, limits, ..
+        } = &trace.exchanges[0].call
+        else {
             panic!("a run begins with a start");
         };
-        let counts = Counts { servers: settings.servers, clients: settings.clients, limits: **limits };
+        let counts = Counts {
+            servers: settings.servers,
+            clients: settings.clients,
+            limits: **limits,
+        };
         Behind { counts }
     }
 }
 
 impl Port for Behind {
-    fn start(&mut self, area: &mut [u8], settings: &Settings, limits: &Limits, seed: u64) -> Opened {
+    fn start(
+        &mut self,
+        area: &mut [u8],
+        settings: &Settings,
+        limits: &Limits,
+        seed: u64,
+    ) -> Opened {
         unsafe { bench_start(area.as_mut_ptr(), area.len(), *settings, *limits, seed) }
     }
 
     fn step(&mut self, area: &mut [u8], deadline: u64, buffer: &mut [u8]) -> Stepped {
         unsafe {
-            bench_step(area.as_mut_ptr(), area.len(), self.counts,
+            bench_step(
+                area.as_mut_ptr(),
+                area.len(),
+                self.counts,
                 deadline,
                 buffer.as_mut_ptr(),
                 buffer.len(),
@@ -93,7 +255,9 @@ impl Port for Behind {
     }
 
     fn confirm_leadership(&mut self, area: &mut [u8], server: u64, request: u64) -> Opened {
-        unsafe { bench_confirm_leadership(area.as_mut_ptr(), area.len(), self.counts, server, request) }
+        unsafe {
+            bench_confirm_leadership(area.as_mut_ptr(), area.len(), self.counts, server, request)
+        }
     }
 
     fn schedule(
@@ -106,7 +270,10 @@ impl Port for Behind {
         groups: &[u8],
     ) -> Done {
         unsafe {
-            bench_schedule(area.as_mut_ptr(), area.len(), self.counts,
+            bench_schedule(
+                area.as_mut_ptr(),
+                area.len(),
+                self.counts,
                 time,
                 kind,
                 first,
@@ -118,7 +285,16 @@ impl Port for Behind {
     }
 
     fn write_hard_state(&mut self, area: &mut [u8], term: u64, present: u64, vote: u64) -> Done {
-        unsafe { bench_write_hard_state(area.as_mut_ptr(), area.len(), self.counts, term, present, vote) }
+        unsafe {
+            bench_write_hard_state(
+                area.as_mut_ptr(),
+                area.len(),
+                self.counts,
+                term,
+                present,
+                vote,
+            )
+        }
     }
 
     fn write_put(
@@ -130,7 +306,10 @@ impl Port for Behind {
         payload: &[u8],
     ) -> Done {
         unsafe {
-            bench_write_put(area.as_mut_ptr(), area.len(), self.counts,
+            bench_write_put(
+                area.as_mut_ptr(),
+                area.len(),
+                self.counts,
                 index,
                 term,
                 kind,
@@ -145,12 +324,24 @@ impl Port for Behind {
     }
 
     fn seal(&mut self, area: &mut [u8], refused: u64, present: u64, leader: u64) -> Sealed {
-        unsafe { bench_seal(area.as_mut_ptr(), area.len(), self.counts, refused, present, leader) }
+        unsafe {
+            bench_seal(
+                area.as_mut_ptr(),
+                area.len(),
+                self.counts,
+                refused,
+                present,
+                leader,
+            )
+        }
     }
 
     fn output_send(&mut self, area: &mut [u8], to: u64, message: &[u8], entries: u64) -> Done {
         unsafe {
-            bench_output_send(area.as_mut_ptr(), area.len(), self.counts,
+            bench_output_send(
+                area.as_mut_ptr(),
+                area.len(),
+                self.counts,
                 to,
                 message.as_ptr(),
                 message.len(),
@@ -169,7 +360,10 @@ impl Port for Behind {
 
     fn output_apply(&mut self, area: &mut [u8], index: u64, kind: u64, payload: &[u8]) -> Done {
         unsafe {
-            bench_output_apply(area.as_mut_ptr(), area.len(), self.counts,
+            bench_output_apply(
+                area.as_mut_ptr(),
+                area.len(),
+                self.counts,
                 index,
                 kind,
                 payload.as_ptr(),
@@ -179,7 +373,15 @@ impl Port for Behind {
     }
 
     fn output_confirmed(&mut self, area: &mut [u8], request: u64, read_index: u64) -> Done {
-        unsafe { bench_output_confirmed(area.as_mut_ptr(), area.len(), self.counts, request, read_index) }
+        unsafe {
+            bench_output_confirmed(
+                area.as_mut_ptr(),
+                area.len(),
+                self.counts,
+                request,
+                read_index,
+            )
+        }
     }
 
     fn output_lost(&mut self, area: &mut [u8], request: u64) -> Done {
@@ -196,7 +398,10 @@ impl Port for Behind {
         commit: u64,
     ) -> Opened {
         unsafe {
-            bench_end(area.as_mut_ptr(), area.len(), self.counts,
+            bench_end(
+                area.as_mut_ptr(),
+                area.len(),
+                self.counts,
                 role,
                 term,
                 present,
@@ -228,7 +433,10 @@ impl Port for Behind {
 
     fn read_entry(&mut self, area: &[u8], server: u64, index: u64, buffer: &mut [u8]) -> Entry {
         unsafe {
-            bench_read_entry(area.as_ptr(), area.len(), self.counts,
+            bench_read_entry(
+                area.as_ptr(),
+                area.len(),
+                self.counts,
                 server,
                 index,
                 buffer.as_mut_ptr(),
@@ -247,7 +455,10 @@ impl Port for Behind {
 
     fn read_applied_entry(&mut self, area: &[u8], index: u64, buffer: &mut [u8]) -> AppliedEntry {
         unsafe {
-            bench_read_applied_entry(area.as_ptr(), area.len(), self.counts,
+            bench_read_applied_entry(
+                area.as_ptr(),
+                area.len(),
+                self.counts,
                 index,
                 buffer.as_mut_ptr(),
                 buffer.len(),
@@ -283,7 +494,13 @@ impl Port for Behind {
         unsafe { bench_read_settings(area.as_ptr(), area.len(), self.counts) }
     }
 
-    fn chaos_schedule(&mut self, _servers: &[u8], _chaos: &Chaos, _generator: &mut u64, _list: &mut [u8]) -> Drawn {
+    fn chaos_schedule(
+        &mut self,
+        _servers: &[u8],
+        _chaos: &Chaos,
+        _generator: &mut u64,
+        _list: &mut [u8],
+    ) -> Drawn {
         Drawn::refused(kinds::refusal::SERVERS)
     }
 }
