@@ -1,0 +1,2 @@
+//! The report page in a browser.
+fn main() {}
