@@ -117,7 +117,7 @@ impl Listen for Story {
 }
 
 /// What happened, without when and where.
-pub fn sentence(what: &Happening<'_>) -> String {
+fn sentence(what: &Happening<'_>) -> String {
     match what {
         Happening::Opened(opened) => opening(opened),
         Happening::Wrote(write) => wrote(write),

@@ -59,5 +59,9 @@ fn pictured(choice: &Choice, summary: &Summary) -> Option<Timeline> {
     let plan = shared.settings.plan();
     let verdict = node.told(&plan, record.seed, &mut recorder).ok()?;
     let same = shared.record(&verdict) == *record;
-    same.then(|| recorder.timeline(record.time))
+    let mut timeline = recorder.timeline(record.time);
+    if let Some(fault) = &record.fault {
+        timeline.broken(fault.time, fault.server, "the node's fault", &fault.about);
+    }
+    same.then_some(timeline)
 }

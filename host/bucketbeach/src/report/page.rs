@@ -1,7 +1,7 @@
 //! The page around the picture.
 
 use super::html::{around, escape, table, text};
-use super::picture::{PATTERNS, legend, picture, window};
+use super::picture::{PATTERNS, legend, overview, picture, window};
 use super::timeline::{Note, Timeline};
 use crate::record::Record;
 use crate::summary::{Outcome, Summary};
@@ -231,35 +231,42 @@ fn pictured(summary: &Summary, timeline: Option<&Timeline>) -> String {
             "This run is not drawn: the command that made this page has not its node or its calls.";
         return section("picture", &heading, &text("p", why));
     };
-    let (from, to) = window(timeline);
-    let about = match timeline.violations.first() {
-        Some((time, name)) if from > 0 => format!(
-            "The last {} before the first violation ({name}, {}); the run takes {}.",
-            duration((time - from) / 1_000_000 * 1_000_000),
-            seconds(*time),
-            seconds(timeline.end)
-        ),
-        Some((time, name)) => {
-            format!(
-                "From the start to the first violation ({name}, {}).",
-                seconds(*time)
-            )
-        }
-        None => format!(
-            "From the start to {}; the run takes {}.",
-            seconds(to),
-            seconds(timeline.end)
-        ),
-    };
+    let shown = window(timeline);
+    let whole = (shown.0 > 0 || shown.1 < timeline.end).then(|| {
+        let about = format!("The whole run, {}:", seconds(timeline.end));
+        text("p", &about) + &at_each_width(|width| overview(timeline, width))
+    });
+    let strips = at_each_width(|width| picture(timeline, shown, width));
+    let content = [
+        whole.unwrap_or_default(),
+        text("p", &caption(timeline, shown)),
+        strips,
+        legend(),
+        led(timeline, shown.0),
+    ];
+    section("picture", &heading, &content.concat())
+}
+
+/// A drawing for each width; the style shows the one that fits.
+fn at_each_width(drawn: impl Fn(u64) -> String) -> String {
     let strips = |(class, width): &(&str, u64)| {
-        around(
-            &format!("div class=\"strips {class}\""),
-            &picture(timeline, (from, to), *width),
-        )
+        around(&format!("div class=\"strips {class}\""), &drawn(*width))
     };
-    let strips: String = WIDTHS.iter().map(strips).collect();
-    let content = text("p", &about) + &strips + &legend() + &led(timeline, from);
-    section("picture", &heading, &content)
+    WIDTHS.iter().map(strips).collect()
+}
+
+/// What the picture shows.
+fn caption(timeline: &Timeline, (from, to): (u64, u64)) -> String {
+    let Some((time, name)) = timeline.violations.first() else {
+        return format!("From the start to {}:", seconds(to));
+    };
+    let at = seconds(*time);
+    if from > 0 {
+        let before = duration(time.saturating_sub(from) / 10_000_000 * 10_000_000);
+        format!("The last {before} before the first violation ({name}, {at}):")
+    } else {
+        format!("From the start to the first violation ({name}, {at}):")
+    }
 }
 
 /// The lines before the first violation, and its own.
@@ -267,7 +274,7 @@ fn led(timeline: &Timeline, from: u64) -> String {
     let violation = timeline
         .notes
         .iter()
-        .position(|note| note.text.starts_with("VIOLATION"));
+        .position(|note| note.text.starts_with("VIOLATED"));
     let Some(end) = violation else {
         return String::new();
     };

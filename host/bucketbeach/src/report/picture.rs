@@ -10,7 +10,7 @@ use crate::story::role_name;
 use crate::words::seconds;
 
 /// How many units a second takes, at most.
-const SECOND: u64 = 560;
+const SECOND: u64 = 900;
 /// The longest time that is shown.
 const LONGEST: u64 = 2_000_000_000;
 
@@ -39,6 +39,11 @@ pub fn window(timeline: &Timeline) -> (u64, u64) {
     let from = to.saturating_sub(LONGEST);
     // A little more at the left is no reason to cut.
     (if from < LONGEST / 8 { 0 } else { from }, to)
+}
+
+/// The whole run in one strip, where the picture shows less.
+pub fn overview(timeline: &Timeline, width: u64) -> String {
+    Strip::new(timeline, 0, timeline.end.max(1), width as f64).drawn()
 }
 
 /// The picture of a time, in strips of a width.

@@ -8,7 +8,7 @@ use port::kinds::fault as of;
 
 use crate::nodes::Listen;
 use crate::record::Broken;
-use crate::story::{role_name, sentence};
+use crate::story::role_name;
 use crate::words;
 
 /// What a server is.
@@ -90,6 +90,18 @@ pub struct Timeline {
     pub notes: Vec<Note>,
     /// The end of the run.
     pub end: u64,
+}
+
+impl Timeline {
+    /// Something that must not happen.
+    pub fn broken(&mut self, time: u64, server: u64, name: &str, about: &str) {
+        self.violations.push((time, name.to_owned()));
+        self.notes.push(Note {
+            time,
+            server,
+            text: format!("VIOLATED: {name}: {about}"),
+        });
+    }
 }
 
 /// Notes a run.
@@ -321,9 +333,10 @@ impl Listen for Recorder {
             Happening::Stopped => self.stopped(time, server),
             Happening::Fault(fault) => self.fault(time, fault),
             Happening::Violation(violation) => {
-                let broken = Broken::from(*violation);
-                self.timeline.violations.push((broken.time, broken.name));
-                self.note(broken.time, server, sentence(what));
+                let Broken {
+                    time, name, text, ..
+                } = Broken::from(*violation);
+                self.timeline.broken(time, server, &name, &text);
             }
             _ => {}
         }
