@@ -5,7 +5,8 @@ use std::time::{Duration, Instant};
 
 use bench::{ENTRIES, QUEUED, fastest};
 use consensus::{Command, Entry, LogIndex, NodeId, Payload, Rng, Storage, Term, Timer};
-use nodes::{Correct, Message, Raft};
+use node::Message;
+use nodes::{Correct, Raft};
 use sim::leaves::{self, EventQueue, TrackedStorage};
 use sim::{SimConfig, Simulation};
 

@@ -1,12 +1,13 @@
 //! Campaigns: many seeds, compared call by call.
 //!
 //! [`Mode`] is which node runs; [`record`] makes the run of a mode and a seed at the reference;
-//! [`campaign`] does it for many seeds and compares.
+//! [`campaign`] does it for many seeds and compares. [`reference`] judges by the judge's plan.
 
 pub mod campaign;
 mod hostile;
 mod plan;
 mod raft;
+pub mod reference;
 
 use nodes::{AppliesEarly, Correct, TermNotSaved, TruncatesTooFar, VoteNotSaved};
 use observe::Recording;

@@ -12,7 +12,7 @@ use port::{Input, Port, kinds};
 
 use crate::disk::{Disk, Write};
 use crate::run;
-use crate::simulation::{Simulation, timer_number};
+use crate::simulation::{Server, Simulation, timer_number};
 use crate::stop::Stop;
 use crate::watch::{Happening, Opened, Watch};
 
@@ -59,7 +59,8 @@ impl<N: Consensus, P: Port, W: Watch> Simulation<N, P, W> {
         let id = input.server;
         if input.kind == kinds::input::START {
             let disk = self.found(id);
-            self.server(id).disk = disk;
+            let server = self.server(id);
+            (server.disk, server.last) = (disk, 0);
         }
         let asked = self.asked(&input)?;
         let answer = self.ask(id, asked)?;
@@ -72,7 +73,7 @@ impl<N: Consensus, P: Port, W: Watch> Simulation<N, P, W> {
         Ok((next, refusal))
     }
 
-    fn server(&mut self, id: u64) -> &mut crate::simulation::Server<N> {
+    fn server(&mut self, id: u64) -> &mut Server<N> {
         &mut self.servers[id as usize - 1]
     }
 
@@ -114,14 +115,10 @@ impl<N: Consensus, P: Port, W: Watch> Simulation<N, P, W> {
             }
             kinds::input::MESSAGE => {
                 let from = NodeId(first);
-                let bytes = &self.buffer[..second as usize];
-                let Some(message) = N::Message::from_bytes(bytes) else {
-                    let about = "a message that it sent cannot be read again";
-                    return Err(self.fault("from_bytes", first, 0, about));
-                };
+                let (message, kind) = self.received(first, second)?;
                 let opened = Opened::Message {
                     from,
-                    kind: N::message_kind(&message),
+                    kind,
                     bytes: second,
                     entries: input.third,
                 };
@@ -151,13 +148,29 @@ impl<N: Consensus, P: Port, W: Watch> Simulation<N, P, W> {
         Ok(asked)
     }
 
-    /// Starts the node or calls it. A panic in it is its fault.
+    /// The message in the buffer, and its kind's name.
+    fn received(&mut self, from: u64, length: u64) -> Result<(N::Message, &'static str), Stop> {
+        let bytes = &self.buffer[..length as usize];
+        let read = guarded(|| {
+            let message = N::Message::from_bytes(bytes)?;
+            let kind = N::message_kind(&message);
+            Some((message, kind))
+        });
+        let about = match read {
+            Ok(Some(message)) => return Ok(message),
+            Ok(None) => "a message that it sent cannot be read again".to_string(),
+            Err(about) => about,
+        };
+        Err(self.fault("from_bytes", from, 0, about))
+    }
+
+    /// Starts the node or calls it.
     fn ask(&mut self, id: u64, asked: Asked<N::Message>) -> Result<Answer<N>, Stop> {
         let name = asked.name();
         let (cluster, config) = (&self.cluster, &self.config);
         let server = &mut self.servers[id as usize - 1];
         let (slot, disk) = (&mut server.node, &mut server.disk);
-        let called = catch_unwind(AssertUnwindSafe(|| {
+        let called = guarded(|| {
             let asked = match asked {
                 Asked::Start { seed } => {
                     let (node, outputs) = N::start(NodeId(id), cluster, config, seed, disk);
@@ -174,11 +187,8 @@ impl<N: Consensus, P: Port, W: Watch> Simulation<N, P, W> {
                 Asked::Confirmation(request) => node.confirm_leadership(disk, request),
                 Asked::Start { .. } => Ok(Vec::new()),
             }
-        }));
-        called.map_err(|panic| {
-            let about = format!("the node panicked: {}", words(&*panic));
-            self.fault(name, id, 0, about)
-        })
+        });
+        called.map_err(|about| self.fault(name, id, 0, about))
     }
 
     // ----- Its writes ----------------------------------------------------------------
@@ -229,9 +239,11 @@ impl<N: Consensus, P: Port, W: Watch> Simulation<N, P, W> {
             return Ok(None);
         }
         // A stopped server's storage is what was durable.
-        let disk = self.found(id);
-        let server = self.server(id);
-        (server.node, server.disk) = (None, disk);
+        let last = self.read(|port, area| port.read_log(area, id)).last;
+        *self.server(id) = Server {
+            last,
+            ..Server::default()
+        };
         self.tell_stop(id);
         Ok(Some(sealed.input))
     }
@@ -295,13 +307,16 @@ impl<N: Consensus, P: Port, W: Watch> Simulation<N, P, W> {
     }
 
     fn send(&mut self, id: u64, to: NodeId, message: &N::Message) -> Result<(), Stop> {
-        let bytes = message.to_bytes();
-        let entries = N::entry_count(message) as u64;
+        let made = guarded(|| {
+            let entries = N::entry_count(message) as u64;
+            (message.to_bytes(), entries, N::message_kind(message))
+        });
+        let (bytes, entries, kind) = made.map_err(|about| self.fault("to_bytes", id, 0, about))?;
         let done = (self.port).output_send(&mut self.area, to.0, &bytes, entries);
         self.node("output_send", id, done.refusal)?;
         let sent = Happening::Sent {
             to,
-            kind: N::message_kind(message),
+            kind,
             bytes: bytes.len() as u64,
             entries,
         };
@@ -312,7 +327,9 @@ impl<N: Consensus, P: Port, W: Watch> Simulation<N, P, W> {
     /// Ends the input with the node's status. Returns the input that is owed next.
     fn end(&mut self, id: u64) -> Result<Input, Stop> {
         let node = self.server(id).node.as_ref();
-        let status = node.expect("a synced input's server runs").status();
+        let node = node.expect("a synced input's server runs");
+        let status = guarded(|| node.status());
+        let status = status.map_err(|about| self.fault("status", id, 0, about))?;
         let (hinted, leader) = optional(status.leader);
         let (role, term, commit) = (
             role_number(status.role),
@@ -368,6 +385,12 @@ fn telling<M>(output: &Output<M>) -> Option<Happening<'_>> {
             read_index: None,
         },
     })
+}
+
+/// Calls the node. A panic in it is its fault, and comes back as words.
+fn guarded<A>(call: impl FnOnce() -> A) -> Result<A, String> {
+    catch_unwind(AssertUnwindSafe(call))
+        .map_err(|panic| format!("the node panicked: {}", words(&*panic)))
 }
 
 /// What a panic said.

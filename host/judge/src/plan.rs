@@ -14,6 +14,9 @@ const FAULTS_BEGIN: u64 = 100 * MS;
 /// The longest time to a quick restart.
 const QUICK: u64 = 50 * MS;
 
+/// How often power fails at every server at the end of a run with many clients, at most.
+const POWER_FAILURES: u64 = 8;
+
 /// Which faults a run has.
 #[derive(Debug, Clone, Copy, PartialEq, Eq)]
 pub struct Faults {
@@ -65,7 +68,7 @@ pub struct Plan {
 }
 
 impl Default for Plan {
-    /// Three servers, three clients, every fault.
+    /// Three servers, three clients, every fault, five seconds.
     fn default() -> Self {
         Plan {
             settings: Settings {
@@ -75,7 +78,7 @@ impl Default for Plan {
                 election_timeout_max: 200 * MS,
                 max_entries_per_message: 8,
                 max_entries_in_flight: 1_024,
-                one_way_delay: 20 * MS,
+                one_way_delay: 7_500_000,
                 clients: 3,
                 command_bytes: 16,
                 client_timeout: 500 * MS,
@@ -88,12 +91,12 @@ impl Default for Plan {
                 log: 512,
                 payload: 16,
                 message: 256,
-                events: 128,
+                events: 256,
                 writes: 64,
                 history: 512,
             },
             faults: Faults::ALL,
-            time: 2_500 * MS,
+            time: 5_000 * MS,
             patience: 3_000,
             events: 1_000_000,
         }
@@ -111,12 +114,14 @@ impl Plan {
         self.time.saturating_mul(8).min(1 << 62)
     }
 
-    /// The log index at which a run is brought to its end, since the log has L places.
+    /// The log index at which a run is brought to its end, since the log has L places: each client
+    /// may add some more by then.
     fn long_log(&self) -> u64 {
-        self.limits.log - self.limits.log / 8
+        let (places, clients) = (self.limits.log, self.settings.clients);
+        places - (places / 8).max(4 * clients).min(places / 2)
     }
 
-    /// The log index at which it ends in any case.
+    /// The log index at which it ends in any case, so that none is put outside the log.
     fn longest_log(&self) -> u64 {
         self.limits.log - self.limits.log / 32
     }
@@ -197,22 +202,29 @@ pub trait Driver {
     /// Looks for the acknowledged commands.
     fn check_durability(&mut self) -> Result<(), Self::Stop>;
 
+    /// The time.
+    fn now(&mut self) -> u64;
+
     /// The server that leads.
     fn leader(&mut self) -> Option<u64>;
 
     /// The highest index that any server's log holds.
     fn longest_log(&mut self) -> u64;
 
-    /// Whether every server has applied what was acknowledged.
-    fn caught_up(&mut self) -> bool;
+    /// The highest index that an acknowledged command has.
+    fn acknowledged(&mut self) -> u64;
+
+    /// The highest index that every server has applied since it last started.
+    fn applied_by_all(&mut self) -> u64;
 }
 
-/// Makes the run of a plan and a seed: faults, then quiet, then both checks.
+/// Makes the run of a plan and a seed: faults, then quiet, then the checks. Returns whether
+/// durability was checked: not, where it could only have been told that the run is not over.
 ///
 /// # Errors
 ///
 /// Why the run could not go on.
-pub fn drive<D: Driver>(plan: &Plan, seed: u64, driver: &mut D) -> Result<(), D::Stop> {
+pub fn drive<D: Driver>(plan: &Plan, seed: u64, driver: &mut D) -> Result<bool, D::Stop> {
     let mut driven = Driven {
         plan,
         driver,
@@ -221,9 +233,24 @@ pub fn drive<D: Driver>(plan: &Plan, seed: u64, driver: &mut D) -> Result<(), D:
     };
     driven.schedule(seed)?;
     driven.faults()?;
-    driven.quiet()?;
+    let settled = driven.quiet()? != End::Busy;
     driver.check_log_matching()?;
-    driver.check_durability()
+    if settled {
+        driver.check_durability()?;
+    }
+    Ok(settled)
+}
+
+/// How a run comes to its end.
+#[derive(Debug, Clone, Copy, PartialEq, Eq)]
+enum End {
+    /// Every server has applied what was acknowledged.
+    CaughtUp,
+    /// A server does not come to apply what was acknowledged long ago: the check says which.
+    Stuck,
+    /// The log or the plan's events are used up, or clients are acknowledged faster than the last
+    /// server applies: that a server is behind shows no mistake.
+    Busy,
 }
 
 /// A run that is being made, with the choices that are left.
@@ -299,20 +326,19 @@ impl<D: Driver> Driven<'_, D> {
             .schedule(back, &Fault::of(kinds::fault::RESTART, id))
     }
 
-    /// Two candidates at once, and crashes with quick restarts while the votes are on their way.
+    /// Two candidates at once, and crashes with quick restarts of the others while the votes are on
+    /// their way: who does not remember its vote has a second one.
     fn contest(&mut self, now: u64) -> Result<(), D::Stop> {
         let servers = self.plan.settings.servers;
         let delay = self.plan.settings.one_way_delay;
-        let leader = self.driver.leader();
-        let others: Vec<u64> = (1..=servers).filter(|id| Some(*id) != leader).collect();
-        let first = self.below(servers) as usize;
-        for id in others.iter().cycle().skip(first).take(2.min(others.len())) {
-            self.driver.fire_timer(*id, Timer::Election)?;
-        }
+        let first = self.server();
+        let second = 1 + first % servers;
         for id in 1..=servers {
-            if self.one_in(2) {
-                let at = now + delay / 2 + self.below(2 * delay);
-                let back = at + self.below(delay / 4);
+            if id == first || id == second {
+                self.driver.fire_timer(id, Timer::Election)?;
+            } else if !self.one_in(4) {
+                let at = now + delay / 2 + self.below(delay);
+                let back = at + self.below(delay / 8);
                 self.driver
                     .schedule(at, &Fault::of(kinds::fault::CRASH, id))?;
                 self.driver
@@ -350,9 +376,9 @@ impl<D: Driver> Driven<'_, D> {
     fn faults(&mut self) -> Result<(), D::Stop> {
         let end = self.plan.faults_end();
         let mut contest = if self.plan.faults.contests { 0 } else { end };
-        while self.driver.longest_log() < self.plan.long_log() {
+        while !self.long_log() {
             if self.step(contest.min(end))? {
-                if self.plan.faults.calls && self.one_in(48) {
+                if self.plan.faults.calls && self.one_in(24) {
                     self.direct_call()?;
                 }
                 if self.one_in(512) {
@@ -369,15 +395,61 @@ impl<D: Driver> Driven<'_, D> {
     }
 
     /// No more faults but those that are due: until every server has applied what was acknowledged,
-    /// or patience is over.
-    fn quiet(&mut self) -> Result<(), D::Stop> {
-        while self.driver.longest_log() < self.plan.long_log() && self.step(self.plan.time)? {}
+    /// or patience is over, or a log is long.
+    fn quiet(&mut self) -> Result<End, D::Stop> {
+        while !self.long_log() && self.step(self.plan.time)? {}
+        if self.long_log() || self.events > self.plan.events {
+            return self.settle();
+        }
+        let before = self.driver.acknowledged();
         for _ in 0..self.plan.patience {
-            if self.driver.caught_up() || self.driver.longest_log() >= self.plan.longest_log() {
-                break;
+            if self.caught_up() {
+                return Ok(End::CaughtUp);
+            }
+            if self.long_log() {
+                return self.settle();
             }
             self.step(self.plan.latest())?;
         }
-        Ok(())
+        if self.driver.applied_by_all() < before {
+            return Ok(End::Stuck);
+        }
+        self.settle()
+    }
+
+    /// Where many clients leave no moment in which all servers have caught up: power fails at every
+    /// server, some times in a row. Until there is a leader again nothing is acknowledged, and what
+    /// was is applied again by all.
+    fn settle(&mut self) -> Result<End, D::Stop> {
+        for _ in 0..POWER_FAILURES {
+            let settings = &self.plan.settings;
+            let back = self.driver.now() + 2 * settings.one_way_delay;
+            let deadline = back + 4 * settings.election_timeout_max + 20 * settings.one_way_delay;
+            for id in 1..=settings.servers {
+                self.driver
+                    .schedule(0, &Fault::of(kinds::fault::CRASH, id))?;
+            }
+            self.driver
+                .schedule(back, &Fault::of(kinds::fault::HEAL_ALL, 0))?;
+            while self.step(deadline)? {
+                if self.driver.longest_log() >= self.plan.longest_log() {
+                    return Ok(End::Busy);
+                }
+                if self.caught_up() {
+                    return Ok(End::CaughtUp);
+                }
+            }
+        }
+        Ok(End::Busy)
+    }
+
+    /// Whether every server has applied what was acknowledged.
+    fn caught_up(&mut self) -> bool {
+        self.driver.acknowledged() <= self.driver.applied_by_all()
+    }
+
+    /// Whether a log is so long that the run is brought to its end.
+    fn long_log(&mut self) -> bool {
+        self.driver.longest_log() >= self.plan.long_log()
     }
 }

@@ -21,6 +21,8 @@ const KEPT: u64 = 32;
 pub(crate) struct Server<N> {
     pub(crate) node: Option<N>,
     pub(crate) disk: Disk,
+    /// The last index of a server that was cut, whose disk is read again when it starts.
+    pub(crate) last: u64,
     /// What a watch was told: whether it runs, and its role and term.
     pub(crate) running: bool,
     pub(crate) shown: Option<(Role, Term)>,
@@ -31,6 +33,7 @@ impl<N> Default for Server<N> {
         Server {
             node: None,
             disk: Disk::default(),
+            last: 0,
             running: false,
             shown: None,
         }
@@ -59,21 +62,10 @@ pub struct Simulation<N, P, W = ()> {
 }
 
 impl<N: Consensus, P: Port, W: Watch> Simulation<N, P, W> {
-    /// Begins a run: the area is made, and every server is started that starts at time zero.
-    ///
-    /// # Errors
-    ///
-    /// Why the run cannot go on, with the run as it is then; none where it did not begin.
-    #[allow(clippy::type_complexity)]
-    pub fn start(
-        port: P,
-        settings: &Settings,
-        limits: &Limits,
-        seed: u64,
-        watch: W,
-    ) -> Result<Self, (Stop, Option<Self>)> {
+    /// A run that is yet to be started, with its area.
+    pub fn new(port: P, settings: &Settings, limits: &Limits, seed: u64, watch: W) -> Self {
         let servers = settings.servers.min(8);
-        let mut simulation = Simulation {
+        Simulation {
             port,
             area: vec![0; area_bytes(settings, limits)],
             buffer: vec![0; limits.message.max(limits.payload).min(1 << 12) as usize],
@@ -89,24 +81,26 @@ impl<N: Consensus, P: Port, W: Watch> Simulation<N, P, W> {
             now: 0,
             told: 0,
             due: VecDeque::new(),
-        };
-        let opened = (simulation.port).start(&mut simulation.area, settings, limits, seed);
+        }
+    }
+
+    /// Starts the run, and every server that starts at time zero. It is called first, and once.
+    ///
+    /// # Errors
+    ///
+    /// Why the run cannot go on; so with every call below. Where the call itself was refused, there
+    /// is no run to read.
+    pub fn start(&mut self) -> Result<(), Stop> {
+        let opened = (self.port).start(&mut self.area, &self.settings, &self.limits, self.seed);
         if opened.refusal != 0 {
-            return Err((simulation.not_begun(opened.refusal), None));
+            return Err(self.not_started(opened.refusal));
         }
-        match simulation.follow(opened.input) {
-            Ok(_) => Ok(simulation),
-            Err(stop) => Err((stop, Some(simulation))),
-        }
+        self.follow(opened.input).map(|_| ())
     }
 
     // ----- Running -------------------------------------------------------------------
 
     /// Takes one event that is due by the deadline, and follows it. Returns whether there was one.
-    ///
-    /// # Errors
-    ///
-    /// Why the run cannot go on; so with every call below.
     pub fn step(&mut self, deadline: u64) -> Result<bool, Stop> {
         let stepped = (self.port).step(&mut self.area, deadline, &mut self.buffer);
         self.own("step", stepped.refusal)?;
@@ -247,7 +241,8 @@ impl<N: Consensus, P: Port, W: Watch> Simulation<N, P, W> {
 
     /// The highest index that any server's log holds.
     pub fn longest_log(&self) -> u64 {
-        let last = self.servers.iter().map(|server| server.disk.last_index().0);
+        let servers = self.servers.iter();
+        let last = servers.map(|server| server.disk.last_index().0.max(server.last));
         last.max().unwrap_or_default()
     }
 
@@ -300,7 +295,7 @@ impl<N: Consensus, P: Port, W: Watch> Simulation<N, P, W> {
     }
 
     /// The start was refused: there is nothing to read. Only events can be too many for a table.
-    fn not_begun(&self, refusal: u64) -> Stop {
+    fn not_started(&self, refusal: u64) -> Stop {
         let call = "start";
         let from = self.limits.events;
         if refusal == kinds::refusal::ROOM && from < Capacity::MOST {
@@ -471,6 +466,10 @@ impl<N: Consensus, P: Port, W: Watch> Driver for Simulation<N, P, W> {
         Simulation::check_durability(self)
     }
 
+    fn now(&mut self) -> u64 {
+        self.run().now
+    }
+
     fn leader(&mut self) -> Option<u64> {
         Simulation::leader(self).map(|(id, _)| id.0)
     }
@@ -479,8 +478,12 @@ impl<N: Consensus, P: Port, W: Watch> Driver for Simulation<N, P, W> {
         Simulation::longest_log(self)
     }
 
-    fn caught_up(&mut self) -> bool {
-        self.acknowledged() <= self.applied_by_all()
+    fn acknowledged(&mut self) -> u64 {
+        Simulation::acknowledged(self)
+    }
+
+    fn applied_by_all(&mut self) -> u64 {
+        Simulation::applied_by_all(self)
     }
 }
 

@@ -16,7 +16,7 @@ pub enum Stop {
 }
 
 /// A table that a run can fill, by the letters of document 01.
-#[derive(Debug, Clone, Copy, PartialEq, Eq)]
+#[derive(Debug, Clone, Copy, PartialEq, Eq, PartialOrd, Ord)]
 pub enum Capacity {
     /// Q: events.
     Events,

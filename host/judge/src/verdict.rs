@@ -17,6 +17,10 @@ pub struct Verdict {
     pub violations: Vec<Violation>,
     /// All that were reported.
     pub reported: u64,
+    /// Whether durability was checked at the end. Not, where the node broke its contract, or where
+    /// the run came to no moment in which every server had applied what was acknowledged, though
+    /// none was stuck: more clients than it can settle with, or a log that is full.
+    pub settled: bool,
     /// Events taken.
     pub events: u64,
     /// The simulated time at the end, in nanoseconds.
@@ -75,32 +79,26 @@ fn attempt<N: Consensus, P: Port + Default>(
     seed: u64,
     watch: &mut impl Watch,
 ) -> Result<Verdict, Failed> {
-    let started = Simulation::<N, P, _>::start(P::default(), &plan.settings, limits, seed, watch);
-    let (run, stop) = match started {
-        Ok(mut run) => {
-            let stop = drive(plan, seed, &mut run).err();
-            (Some(run), stop)
-        }
-        Err((stop, run)) => (run, Some(stop)),
-    };
-    match (stop, run) {
-        (None, Some(run)) => Ok(told(run, seed, None)),
-        (Some(Stop::Node(fault)), Some(run)) => Ok(told(run, seed, Some(fault))),
-        (Some(Stop::Full(raise)), _) => Err(Failed::Full(raise)),
-        (Some(Stop::Call(refused)), _) => Err(Failed::Refused(refused)),
-        (None | Some(Stop::Node(_)), None) => unreachable!("a run that began is at hand"),
+    let mut run = Simulation::<N, P, _>::new(P::default(), &plan.settings, limits, seed, watch);
+    let made = run.start().and_then(|()| drive(plan, seed, &mut run));
+    match made {
+        Ok(settled) => Ok(told(run, settled, None)),
+        Err(Stop::Node(fault)) => Ok(told(run, false, Some(fault))),
+        Err(Stop::Full(raise)) => Err(Failed::Full(raise)),
+        Err(Stop::Call(refused)) => Err(Failed::Refused(refused)),
     }
 }
 
 /// What a run that is over tells.
 fn told<N: Consensus, P: Port, W: Watch>(
     mut run: Simulation<N, P, W>,
-    seed: u64,
+    settled: bool,
     fault: Option<NodeFault>,
 ) -> Verdict {
     let whole = run.run();
     Verdict {
-        seed,
+        seed: whole.seed,
+        settled,
         violations: run.violations(),
         reported: whole.violations,
         events: whole.events,

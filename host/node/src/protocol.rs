@@ -1,6 +1,7 @@
 //! What a node does: inputs, outputs, status.
 
 use std::fmt::{self, Debug};
+use std::hash::Hash;
 use std::time::Duration;
 
 use crate::{Command, Config, LogIndex, NodeId, Payload, Storage, Term, Wire};
@@ -13,7 +14,7 @@ use crate::{Command, Config, LogIndex, NodeId, Payload, Storage, Term, Wire};
 /// it, and its status changes only in an input.
 pub trait Consensus: Sized {
     /// What servers send to one another.
-    type Message: Debug + Wire;
+    type Message: Clone + Debug + Eq + Hash + Wire;
 
     /// Starts a server with what its storage holds. `cluster` names every server, this one too.
     fn start<S: Storage>(

@@ -2,12 +2,10 @@
 
 use std::collections::BTreeMap;
 
-use node::Wire;
-
-use crate::Bytes;
+use crate::Carried;
 use crate::same::{to_judge, to_reference};
 
-/// A node of the judge under the reference's trait. A message is its bytes there.
+/// A node of the judge under the reference's trait.
 ///
 /// The one side's storage lends entries of its own type, so the other's are kept beside it: read
 /// once at the start, and written with each write.
@@ -73,24 +71,16 @@ fn found<S: consensus::Storage>(storage: &S) -> BTreeMap<u64, node::Entry> {
     (1..=storage.last_index().0).filter_map(held).collect()
 }
 
-/// The outputs, with messages as bytes.
-fn outputs<N: node::Consensus>(
-    outputs: Vec<node::Output<N::Message>>,
-) -> Vec<consensus::Output<Bytes>> {
-    let carried = |message: N::Message| Bytes(message.to_bytes());
+/// The outputs, with their messages.
+fn outputs<M>(outputs: Vec<node::Output<M>>) -> Vec<consensus::Output<Carried<M>>> {
     let outputs = outputs.into_iter();
     outputs
-        .map(|output| to_reference::output(output, carried))
+        .map(|output| to_reference::output(output, Carried))
         .collect()
 }
 
-/// The message of these bytes, which were made of one.
-fn read<N: node::Consensus>(bytes: &Bytes) -> N::Message {
-    N::Message::from_bytes(&bytes.0).expect("a message can be read again")
-}
-
 impl<N: node::Consensus> consensus::Consensus for Adapted<N> {
-    type Message = Bytes;
+    type Message = Carried<N::Message>;
 
     fn start<S: consensus::Storage>(
         id: consensus::NodeId,
@@ -98,7 +88,7 @@ impl<N: node::Consensus> consensus::Consensus for Adapted<N> {
         config: &consensus::Config,
         seed: u64,
         storage: &mut S,
-    ) -> (Self, Vec<consensus::Output<Bytes>>) {
+    ) -> (Self, Vec<consensus::Output<Carried<N::Message>>>) {
         let cluster: Vec<_> = cluster.iter().map(|id| to_judge::id(*id)).collect();
         let mut log = found(storage);
         let mut view = View {
@@ -107,17 +97,17 @@ impl<N: node::Consensus> consensus::Consensus for Adapted<N> {
         };
         let (id, config) = (to_judge::id(id), to_judge::config(config));
         let (node, outs) = N::start(id, &cluster, &config, seed, &mut view);
-        (Adapted { node, log }, outputs::<N>(outs))
+        (Adapted { node, log }, outputs(outs))
     }
 
     fn step<S: consensus::Storage>(
         &mut self,
         storage: &mut S,
         from: consensus::NodeId,
-        message: Bytes,
-    ) -> Vec<consensus::Output<Bytes>> {
-        let message = read::<N>(&message);
-        outputs::<N>(self.input(storage, |node, view| {
+        message: Carried<N::Message>,
+    ) -> Vec<consensus::Output<Carried<N::Message>>> {
+        let Carried(message) = message;
+        outputs(self.input(storage, |node, view| {
             node.step(view, to_judge::id(from), message)
         }))
     }
@@ -126,8 +116,8 @@ impl<N: node::Consensus> consensus::Consensus for Adapted<N> {
         &mut self,
         storage: &mut S,
         timer: consensus::Timer,
-    ) -> Vec<consensus::Output<Bytes>> {
-        outputs::<N>(self.input(storage, |node, view| {
+    ) -> Vec<consensus::Output<Carried<N::Message>>> {
+        outputs(self.input(storage, |node, view| {
             node.on_timer(view, to_judge::timer(timer))
         }))
     }
@@ -136,33 +126,33 @@ impl<N: node::Consensus> consensus::Consensus for Adapted<N> {
         &mut self,
         storage: &mut S,
         command: consensus::Command,
-    ) -> Result<Vec<consensus::Output<Bytes>>, consensus::NotLeader> {
+    ) -> Result<Vec<consensus::Output<Carried<N::Message>>>, consensus::NotLeader> {
         let answer = self.input(storage, |node, view| {
             node.propose(view, to_judge::command(command))
         });
-        answer.map(outputs::<N>).map_err(to_reference::not_leader)
+        answer.map(outputs).map_err(to_reference::not_leader)
     }
 
     fn confirm_leadership<S: consensus::Storage>(
         &mut self,
         storage: &mut S,
         request: consensus::RequestId,
-    ) -> Result<Vec<consensus::Output<Bytes>>, consensus::NotLeader> {
+    ) -> Result<Vec<consensus::Output<Carried<N::Message>>>, consensus::NotLeader> {
         let answer = self.input(storage, |node, view| {
             node.confirm_leadership(view, to_judge::request(request))
         });
-        answer.map(outputs::<N>).map_err(to_reference::not_leader)
+        answer.map(outputs).map_err(to_reference::not_leader)
     }
 
     fn status(&self) -> consensus::Status {
         to_reference::status(self.node.status())
     }
 
-    fn message_kind(message: &Bytes) -> &'static str {
-        N::message_kind(&read::<N>(message))
+    fn message_kind(message: &Carried<N::Message>) -> &'static str {
+        N::message_kind(&message.0)
     }
 
-    fn entry_count(message: &Bytes) -> usize {
-        N::entry_count(&read::<N>(message))
+    fn entry_count(message: &Carried<N::Message>) -> usize {
+        N::entry_count(&message.0)
     }
 }

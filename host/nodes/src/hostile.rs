@@ -12,8 +12,9 @@ use consensus::{
     Command, Config, Consensus, Entry, HardState, LogIndex, NodeId, NotLeader, Output, Payload,
     RequestId, Rng, Role, Status, Storage, Term, Timer,
 };
+use node::Wire;
 
-use crate::Bytes;
+use crate::Carried;
 
 /// The longest timer of document 01, in nanoseconds.
 const LONGEST: u64 = 1 << 40;
@@ -23,6 +24,20 @@ const PAYLOAD: u64 = 256;
 
 /// How many commands a node remembers.
 const REMEMBERED: usize = 4;
+
+/// A message: any bytes.
+#[derive(Debug, Clone, PartialEq, Eq, Hash)]
+pub struct Noise(pub Vec<u8>);
+
+impl Wire for Noise {
+    fn to_bytes(&self) -> Vec<u8> {
+        self.0.clone()
+    }
+
+    fn from_bytes(bytes: &[u8]) -> Option<Self> {
+        Some(Noise(bytes.to_vec()))
+    }
+}
 
 /// A server.
 #[derive(Debug)]
@@ -137,7 +152,7 @@ impl Hostile {
         }
     }
 
-    fn apply<S: Storage>(&mut self, storage: &S) -> Output<Bytes> {
+    fn apply<S: Storage>(&mut self, storage: &S) -> Output<Carried<Noise>> {
         let index = match self.rng.below(4) {
             0 => self.rng.below(self.log + 1),
             _ => self.next.min(self.log),
@@ -152,11 +167,11 @@ impl Hostile {
         Output::Apply { index, payload }
     }
 
-    fn output<S: Storage>(&mut self, storage: &S) -> Output<Bytes> {
+    fn output<S: Storage>(&mut self, storage: &S) -> Output<Carried<Noise>> {
         match self.rng.below(16) {
             0..6 => Output::Send {
                 to: self.member(),
-                message: Bytes(self.bytes(self.message)),
+                message: Carried(Noise(self.bytes(self.message))),
             },
             6..10 => {
                 let bound = if self.one_in(16) {
@@ -183,7 +198,7 @@ impl Hostile {
     }
 
     /// One input, whatever it was.
-    fn act<S: Storage>(&mut self, storage: &mut S) -> Vec<Output<Bytes>> {
+    fn act<S: Storage>(&mut self, storage: &mut S) -> Vec<Output<Carried<Noise>>> {
         let writes = match self.rng.below(24) {
             0 => 40,
             _ => self.rng.below(4),
@@ -209,7 +224,7 @@ impl Hostile {
     fn act_or_refuse<S: Storage>(
         &mut self,
         storage: &mut S,
-    ) -> Result<Vec<Output<Bytes>>, NotLeader> {
+    ) -> Result<Vec<Output<Carried<Noise>>>, NotLeader> {
         let outputs = self.act(storage);
         if self.one_in(3) {
             let leader = self.anyone();
@@ -221,7 +236,7 @@ impl Hostile {
 }
 
 impl Consensus for Hostile {
-    type Message = Bytes;
+    type Message = Carried<Noise>;
 
     fn start<S: Storage>(
         _id: NodeId,
@@ -229,7 +244,7 @@ impl Consensus for Hostile {
         config: &Config,
         seed: u64,
         storage: &mut S,
-    ) -> (Self, Vec<Output<Bytes>>) {
+    ) -> (Self, Vec<Output<Carried<Noise>>>) {
         let message = config.max_entries_per_message as u64;
         let mut node = Hostile {
             cluster: cluster.to_vec(),
@@ -253,12 +268,16 @@ impl Consensus for Hostile {
         &mut self,
         storage: &mut S,
         _from: NodeId,
-        _message: Bytes,
-    ) -> Vec<Output<Bytes>> {
+        _message: Carried<Noise>,
+    ) -> Vec<Output<Carried<Noise>>> {
         self.act(storage)
     }
 
-    fn on_timer<S: Storage>(&mut self, storage: &mut S, _timer: Timer) -> Vec<Output<Bytes>> {
+    fn on_timer<S: Storage>(
+        &mut self,
+        storage: &mut S,
+        _timer: Timer,
+    ) -> Vec<Output<Carried<Noise>>> {
         self.act(storage)
     }
 
@@ -266,7 +285,7 @@ impl Consensus for Hostile {
         &mut self,
         storage: &mut S,
         command: Command,
-    ) -> Result<Vec<Output<Bytes>>, NotLeader> {
+    ) -> Result<Vec<Output<Carried<Noise>>>, NotLeader> {
         if self.remembered.len() == REMEMBERED {
             self.remembered.remove(0);
         }
@@ -278,7 +297,7 @@ impl Consensus for Hostile {
         &mut self,
         storage: &mut S,
         _request: RequestId,
-    ) -> Result<Vec<Output<Bytes>>, NotLeader> {
+    ) -> Result<Vec<Output<Carried<Noise>>>, NotLeader> {
         self.act_or_refuse(storage)
     }
 
@@ -286,13 +305,13 @@ impl Consensus for Hostile {
         self.status
     }
 
-    fn message_kind(_message: &Bytes) -> &'static str {
+    fn message_kind(_message: &Carried<Noise>) -> &'static str {
         "Noise"
     }
 
     /// Any 32 bits: the first four bytes.
-    fn entry_count(message: &Bytes) -> usize {
-        let first = message.0.iter().take(4).rev();
+    fn entry_count(message: &Carried<Noise>) -> usize {
+        let first = message.0.0.iter().take(4).rev();
         first.fold(0, |count, byte| count << 8 | usize::from(*byte))
     }
 }

@@ -6,15 +6,15 @@
 //! keeps to no rule but the limits of document 01.
 
 mod adapted;
-mod bytes;
+mod carried;
 mod foreign;
 mod hostile;
 mod same;
 
 pub use adapted::Adapted;
-pub use bytes::Bytes;
+pub use carried::Carried;
 pub use foreign::Foreign;
-pub use hostile::Hostile;
+pub use hostile::{Hostile, Noise};
 pub use node::{AppliesEarly, Correct, TermNotSaved, TruncatesTooFar, Variant, VoteNotSaved};
 
 /// The embedded Raft under the reference's trait.

@@ -15,5 +15,6 @@ mod recorded;
 mod run;
 
 pub use coverage::Coverage;
+pub use reads::metrics;
 pub use recorded::Recorded;
 pub use run::{Recording, Run};

@@ -134,7 +134,8 @@ fn run<C: Consensus>(sim: &Simulation<C>, beside: &Beside<'_>) -> port::Run {
     }
 }
 
-fn metrics<C: Consensus>(sim: &Simulation<C>) -> port::Metrics {
+/// The counters of the reference's simulation.
+pub fn metrics<C: Consensus>(sim: &Simulation<C>) -> port::Metrics {
     let metrics = sim.metrics();
     port::Metrics {
         refusal: 0,
