@@ -108,7 +108,7 @@ pub struct PlanOptions {
     /// Clients, 0 to 64 [default: 3]
     #[arg(long, value_name = "C", value_parser = number("there are", 0, 64))]
     pub clients: Option<u64>,
-    /// Simulated time, e.g. 20s, 2.5s, 800ms; a run ends earlier where its log is full [default: 2.5s]
+    /// Simulated time, e.g. 20s, 2.5s, 800ms; a run ends earlier where its log is full [default: 5s]
     #[arg(long, value_name = "TIME", value_parser = length)]
     pub time: Option<u64>,
     /// A list of chaos, crashes, contests, calls; or all; or none [default: all]
@@ -123,7 +123,7 @@ pub struct PlanOptions {
     /// M: bytes of a message, 0 to 4096 [default: 256]
     #[arg(long, value_name = "M", value_parser = number("a message's bytes are", 0, 4_096))]
     pub message: Option<u64>,
-    /// Q: events at first, 1 to 65536 [default: 128]; doubled where they are full, as W and H
+    /// Q: events at first, 1 to 65536 [default: 256]; doubled where they are full, as W and H
     #[arg(long, value_name = "Q", value_parser = number("events are", 1, 65_536))]
     pub events: Option<u64>,
     /// W: writes of an input at first, 1 to 65536 [default: 64]
@@ -341,6 +341,36 @@ mod tests {
         assert_eq!(next, 13);
         assert!(seeds.part(Some(Shard { part: 1, parts: 11 })).is_err());
         assert!(shard("0/3").is_err() && shard("4/3").is_err() && shard("3").is_err());
+    }
+
+    #[test]
+    fn the_help_tells_the_defaults() {
+        let Plan {
+            settings,
+            limits,
+            time,
+            ..
+        } = Plan::default();
+        let (servers, clients) = (settings.servers, settings.clients);
+        let seconds = time / 1_000_000_000;
+        let tables = [limits.events, limits.writes, limits.history];
+        let sizes = [limits.log, limits.payload, limits.message];
+        let told = [
+            vec![
+                servers.to_string(),
+                clients.to_string(),
+                format!("{seconds}s"),
+            ],
+            vec!["all".to_owned()],
+            sizes.map(|size| size.to_string()).to_vec(),
+            tables.map(|size| size.to_string()).to_vec(),
+        ];
+        let help = include_str!("options.rs").lines();
+        let help = help.filter(|line| line.trim_start().starts_with("///"));
+        let defaults = help.filter_map(|line| line.split_once("[default: "));
+        let defaults = defaults.filter_map(|(_, rest)| rest.split_once(']'));
+        let defaults: Vec<&str> = defaults.map(|(default, _)| default).collect();
+        assert_eq!(defaults, told.concat());
     }
 
     #[test]

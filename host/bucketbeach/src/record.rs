@@ -23,6 +23,8 @@ pub struct Record {
     pub violations: Vec<Broken>,
     /// All that were reported.
     pub reported: u64,
+    /// Whether durability was checked at the end: not, where the run came to no quiet moment.
+    pub settled: bool,
     /// Events taken.
     pub events: u64,
     /// Syncs that wrote something.
@@ -275,6 +277,7 @@ impl Shared {
             settings: self.settings.clone(),
             violations: verdict.violations.iter().map(Broken::from).collect(),
             reported: verdict.reported,
+            settled: verdict.settled,
             events: verdict.events,
             syncs: verdict.metrics.fsyncs,
             time: verdict.time,

@@ -131,6 +131,11 @@ impl Summary {
         self.sum(|record| record.reported.saturating_sub(kept(record)))
     }
 
+    /// The runs at whose end durability could not be checked, though the node kept its contract.
+    pub fn unsettled(&self) -> u64 {
+        self.sum(|record| u64::from(!record.settled && record.fault.is_none()))
+    }
+
     /// The verdict in a sentence.
     pub fn sentence(&self) -> String {
         let runs = count(self.records.len() as u64, "run");
@@ -237,6 +242,13 @@ impl Summary {
             facts.push((
                 "capacities",
                 format!("{runs} made again with larger tables"),
+            ));
+        }
+        if self.unsettled() > 0 {
+            let runs = count(self.unsettled(), "run");
+            facts.push((
+                "durability",
+                format!("not checked in {runs} without a quiet end"),
             ));
         }
         facts

@@ -30,10 +30,9 @@ addEventListener('load', () => {
       wrong.push('wider than its band: ' + name);
   }
   if (document.documentElement.scrollWidth > innerWidth) wrong.push('the page scrolls sideways');
-  const note = document.createElement('pre');
-  note.id = 'measured';
+  const note = parent.document.getElementById('measured');
+  parent.document.getElementById('shown').innerHTML = document.body.innerHTML;
   note.textContent = innerWidth + ' wide; ' + wrong.length + ' wrong; ' + wrong.slice(0, 5).join(' | ') + ';';
-  document.body.append(note);
 });
 </script>";
 
@@ -58,11 +57,17 @@ fn browser() -> Option<&'static str> {
     found
 }
 
-/// The page as a browser has it at a width, with what it measured.
+/// The page as a browser has it at a width, with what it measured. A window has a least width, a
+/// frame has not.
 fn loaded(browser: &str, folder: &Path, page: &str, width: u32) -> String {
-    let file = folder.join(format!("measured{width}.html"));
+    let file = folder.join(format!("framed{width}.html"));
     let page = page.replace("</body>", &format!("{MEASURE}</body>"));
-    fs::write(&file, page).expect("the page with the measure");
+    let page = page.replace('&', "&amp;").replace('"', "&quot;");
+    let frame = format!("<iframe style=\"border: 0; width: {width}px; height: 900px\" srcdoc=\"");
+    let places = "<pre id=\"measured\"></pre><div id=\"shown\"></div>";
+    let framed =
+        format!("<!doctype html><meta charset=\"utf-8\"><body>{places}{frame}{page}\"></iframe>");
+    fs::write(&file, framed).expect("the page in its frame");
     let output = Command::new(browser)
         .args([
             "--headless",
@@ -70,8 +75,11 @@ fn loaded(browser: &str, folder: &Path, page: &str, width: u32) -> String {
             "--disable-gpu",
             "--hide-scrollbars",
         ])
-        .args(["--dump-dom", "--virtual-time-budget=3000"])
-        .arg(format!("--window-size={width},900"))
+        .args([
+            "--dump-dom",
+            "--virtual-time-budget=3000",
+            "--window-size=1400,1000",
+        ])
         .arg(format!(
             "--user-data-dir={}",
             folder.join("profile").display()
@@ -79,7 +87,9 @@ fn loaded(browser: &str, folder: &Path, page: &str, width: u32) -> String {
         .arg(format!("file://{}", file.display()))
         .output()
         .expect("the browser runs");
-    String::from_utf8_lossy(&output.stdout).into_owned()
+    let dom = String::from_utf8_lossy(&output.stdout).into_owned();
+    let end = dom.find("<iframe").unwrap_or(dom.len());
+    dom[..end].to_owned()
 }
 
 /// The measure's line.

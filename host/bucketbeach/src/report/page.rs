@@ -11,6 +11,8 @@ use crate::words::{CHECKS, count, duration, exact, grouped, seconds};
 const MOST_ROWS: usize = 200;
 /// Lines of what led to the violation.
 const MOST_NOTES: usize = 16;
+/// The check that is made at the end of a run.
+const DURABILITY: usize = 4;
 /// The check that no run reports.
 const LIVENESS: usize = 5;
 
@@ -142,14 +144,19 @@ fn checks(summary: &Summary) -> String {
     let failed = summary.checks();
     let row = |(number, (name, says)): (usize, &(&str, &str))| {
         let row = failed.iter().find(|row| row.check == number as u64);
-        let result = match row {
+        let mut result = match row {
+            None if summary.unkept() > 0 => "not among the violations kept".to_owned(),
+            None if summary.outcome() == Outcome::Faulted => "held as far as checked".to_owned(),
             None => "held".to_owned(),
-            Some(row) => format!(
-                "FAILED in {}, first with seed {}",
-                count(row.runs, "run"),
-                row.seed
-            ),
+            Some(row) => {
+                let runs = count(row.runs, "run");
+                format!("FAILED in {runs}, first with seed {}", row.seed)
+            }
         };
+        if number == DURABILITY && summary.unsettled() > 0 {
+            let runs = count(summary.unsettled(), "run");
+            result += &format!("; not checked in {runs} without a quiet end");
+        }
         vec![(*name).to_owned(), (*says).to_owned(), result]
     };
     let shown = CHECKS

@@ -27,8 +27,6 @@ const LANE: f64 = 47.0;
 const ROW: f64 = 21.0;
 /// The axis.
 const AXIS: f64 = 24.0;
-/// A letter's width, about.
-const LETTER: f64 = 7.2;
 
 /// The time that is shown: up to the first violation, or from the beginning.
 pub fn window(timeline: &Timeline) -> (u64, u64) {
@@ -158,7 +156,7 @@ impl<'a> Strip<'a> {
             self.svg,
             "<rect x=\"{x:.1}\" y=\"{y:.1}\" width=\"{width:.1}\" height=\"{BAND}\" class=\"{class}\"><title>{title}</title></rect>"
         );
-        let fits = |label: &&&str| label.chars().count() as f64 * LETTER + 3.0 <= width;
+        let fits = |label: &&&str| breadth(label) <= width;
         if let Some(label) = labels.iter().find(fits) {
             let class = format!("on {class}");
             self.text(x + width / 2.0, y + BAND - 5.5, &class, label);
@@ -263,6 +261,12 @@ impl<'a> Strip<'a> {
             shown.push(*time);
         }
     }
+}
+
+/// About how wide a label is.
+fn breadth(label: &str) -> f64 {
+    let letter = |letter: char| if letter.is_ascii() { 7.6 } else { 12.5 };
+    3.0 + label.chars().map(letter).sum::<f64>()
 }
 
 fn class(mark: Mark) -> &'static str {
