@@ -24,6 +24,7 @@ mod words;
 use std::env;
 use std::io::{Write as _, stdout};
 use std::panic;
+use std::path::PathBuf;
 use std::process::ExitCode;
 use std::sync::Once;
 
@@ -103,6 +104,13 @@ fn say_one_panic() {
     static SAID: Once = Once::new();
     let say = panic::take_hook();
     panic::set_hook(Box::new(move |about| SAID.call_once(|| say(about))));
+}
+
+/// What the command is called: a user's own has another name.
+fn program() -> String {
+    let path = env::args_os().next().map(PathBuf::from);
+    let name = path.and_then(|path| Some(path.file_stem()?.to_string_lossy().into_owned()));
+    name.unwrap_or_else(|| "bucketbeach".to_owned())
 }
 
 /// Prints; a reader that has gone away needs no more.

@@ -170,7 +170,8 @@ impl Summary {
     pub fn again(&self) -> String {
         let Shared { node, settings, .. } = &self.shared;
         let record = self.telling();
-        format!("bucketbeach run {}{}", record.seed, asking(node, settings))
+        let program = crate::program();
+        format!("{program} run {}{}", record.seed, asking(node, settings))
     }
 
     /// The table and the verdict.

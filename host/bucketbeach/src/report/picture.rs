@@ -242,23 +242,32 @@ impl<'a> Strip<'a> {
     /// A line through all lanes at each violation, and a flag at the first.
     fn violations(&mut self, bottom: f64) {
         let mut shown: Vec<u64> = Vec::new();
-        for (time, name) in &self.timeline.violations {
+        let timeline = self.timeline;
+        for (at, (time, name)) in timeline.violations.iter().enumerate() {
             if !self.shows(*time) || shown.contains(time) {
                 continue;
             }
-            let x = self.x(*time);
-            self.path("violation", &format!("M{x:.1} {FLAG}V{bottom:.1}"));
-            let (l, r, top) = (x - 6.0, x + 6.0, FLAG - 12.0);
-            self.path("flag", &format!("M{l:.1} {top}H{r:.1}L{x:.1} {FLAG}Z"));
-            if shown.is_empty() {
-                let label = format!("{name}, {}", seconds(*time));
-                if x > self.width / 2.0 {
-                    self.text(x - 10.0, FLAG - 4.0, "flagged end", &label);
-                } else {
-                    self.text(x + 10.0, FLAG - 4.0, "flagged", &label);
-                }
-            }
             shown.push(*time);
+            let x = self.x(*time);
+            let class = if at == 0 {
+                "violation"
+            } else {
+                "violation later"
+            };
+            self.path(class, &format!("M{x:.1} {FLAG}V{bottom:.1}"));
+            if at == 0 {
+                self.flag(x, &format!("{name}, {}", seconds(*time)));
+            }
+        }
+    }
+
+    fn flag(&mut self, x: f64, label: &str) {
+        let (l, r, top) = (x - 6.0, x + 6.0, FLAG - 12.0);
+        self.path("flag", &format!("M{l:.1} {top}H{r:.1}L{x:.1} {FLAG}Z"));
+        if x > self.width / 2.0 {
+            self.text(x - 10.0, FLAG - 4.0, "flagged end", label);
+        } else {
+            self.text(x + 10.0, FLAG - 4.0, "flagged", label);
         }
     }
 }
