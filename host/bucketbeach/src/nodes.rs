@@ -33,13 +33,19 @@ impl Watch for Listening<'_> {
 /// What is told of each verdict of a campaign.
 type Tell<'a> = dyn Fn(&Verdict) + Sync + 'a;
 
+/// Makes a campaign of a node.
+type Campaign = fn(&Plan, Range<u64>, &Tell<'_>) -> Result<Vec<Verdict>, Refused>;
+
+/// Makes one run of a node, told to a listener.
+type Telling = fn(&Plan, u64, &mut dyn Listen) -> Result<Verdict, Refused>;
+
 /// A node by its name.
 #[derive(Clone, Copy)]
 pub struct Judged {
     /// What `--node` calls it.
     pub name: &'static str,
-    campaign: fn(&Plan, Range<u64>, &Tell<'_>) -> Result<Vec<Verdict>, Refused>,
-    told: fn(&Plan, u64, &mut dyn Listen) -> Result<Verdict, Refused>,
+    campaign: Campaign,
+    told: Telling,
 }
 
 impl Judged {

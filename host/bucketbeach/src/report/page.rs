@@ -1,7 +1,7 @@
 //! The page around the picture.
 
 use super::html::{around, escape, table, text};
-use super::picture::{PATTERNS, legend, overview, picture, window};
+use super::picture::{legend, overview, picture, stripes, window};
 use super::timeline::{Note, Timeline};
 use crate::record::Record;
 use crate::summary::{Outcome, Summary};
@@ -39,7 +39,7 @@ pub fn page(summary: &Summary, timeline: Option<&Timeline>) -> String {
         again(summary),
         rests_on(summary),
     ];
-    let body = PATTERNS.to_owned() + &around("main", &main.concat());
+    let body = stripes() + &around("main", &main.concat());
     let head = around("head", &head.concat());
     format!(
         "<!doctype html>\n<html lang=\"en\">{head}{}</html>\n",

@@ -306,13 +306,22 @@ fn shape(mark: Mark, x: f64, y: f64) -> String {
     }
 }
 
-/// The patterns that all strips use.
-pub const PATTERNS: &str = "<svg class=\"patterns\" width=\"0\" height=\"0\" aria-hidden=\"true\"><defs>\
-<pattern id=\"hatch\" width=\"7\" height=\"7\" patternUnits=\"userSpaceOnUse\" patternTransform=\"rotate(45)\">\
-<rect width=\"7\" height=\"7\" fill=\"#fdf3d8\"/><path d=\"M0 0V7\" stroke=\"#c99a2e\" stroke-width=\"3\"/></pattern>\
-<pattern id=\"dots\" width=\"6\" height=\"6\" patternUnits=\"userSpaceOnUse\">\
-<rect width=\"6\" height=\"6\" fill=\"#fff\"/><circle cx=\"2\" cy=\"2\" r=\"1\" fill=\"#777\"/></pattern>\
-</defs></svg>";
+/// The stripes that all strips use: repeated gradients with hard edges, which print as lines where a
+/// pattern would print as a large image.
+pub fn stripes() -> String {
+    let stripe = |id: &str, (x, y): (u32, u32), light: &str, dark: &str| {
+        format!(
+            "<linearGradient id=\"{id}\" gradientUnits=\"userSpaceOnUse\" x1=\"0\" y1=\"0\" x2=\"{x}\" y2=\"{y}\" spreadMethod=\"repeat\">\
+<stop offset=\"0\" stop-color=\"{light}\"/><stop offset=\"0.6\" stop-color=\"{light}\"/>\
+<stop offset=\"0.6\" stop-color=\"{dark}\"/><stop offset=\"1\" stop-color=\"{dark}\"/></linearGradient>"
+        )
+    };
+    let candidate = stripe("slanted", (5, 5), "#fdf3d8", "#d9a93a");
+    let network = stripe("upright", (4, 0), "#ffffff", "#c3c9d1");
+    format!(
+        "<svg class=\"stripes\" width=\"0\" height=\"0\" aria-hidden=\"true\"><defs>{candidate}{network}</defs></svg>"
+    )
+}
 
 /// The legend: signs and what they mean.
 pub fn legend() -> String {
