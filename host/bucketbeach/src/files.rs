@@ -8,6 +8,26 @@ use std::sync::Mutex;
 
 use crate::record::Record;
 
+/// Looks whether files may be written, before any of them is made.
+///
+/// # Errors
+///
+/// A line that says which may not.
+pub fn free(json: Option<&Path>, report: Option<&Path>, force: bool) -> Result<(), String> {
+    if json.is_some() && json == report {
+        return Err("--json and --report name the same file".to_owned());
+    }
+    let mut named = [json, report].into_iter().flatten();
+    match named.find(|path| !force && path.exists()) {
+        Some(path) => Err(exists(path)),
+        None => Ok(()),
+    }
+}
+
+fn exists(path: &Path) -> String {
+    format!("{} exists; --force overwrites it", path.display())
+}
+
 /// Makes a file to write to.
 ///
 /// # Errors
@@ -21,14 +41,9 @@ pub fn create(path: &Path, force: bool) -> Result<File, String> {
     } else {
         options.create_new(true);
     }
-    options.open(path).map_err(|error| {
-        let name = path.display();
-        match error.kind() {
-            std::io::ErrorKind::AlreadyExists => {
-                format!("{name} exists; --force overwrites it")
-            }
-            _ => format!("{name} cannot be written: {error}"),
-        }
+    options.open(path).map_err(|error| match error.kind() {
+        std::io::ErrorKind::AlreadyExists => exists(path),
+        _ => format!("{} cannot be written: {error}", path.display()),
     })
 }
 

@@ -67,10 +67,7 @@ fn each_mistake_is_caught() {
     ] {
         let done = call(&folder, &format!("judge --node {node} --seeds 1..60"));
         assert_eq!(done.status.code(), Some(1), "{node}: {}", out(&done));
-        assert!(
-            out(&done).contains(&format!("its story: bucketbeach run ")),
-            "{node}"
-        );
+        assert!(out(&done).contains("its story: bucketbeach run "), "{node}");
     }
 }
 
@@ -181,6 +178,14 @@ fn nothing_is_overwritten_unasked() {
         fs::read_to_string(folder.join("runs.json")).expect("it is there"),
         "mine"
     );
+    let both = call(
+        &folder,
+        "judge --seeds 1..1 --json runs.json --report page.html",
+    );
+    assert_eq!(both.status.code(), Some(2));
+    assert!(!folder.join("page.html").exists());
+    let same = call(&folder, "judge --seeds 1..1 --json a --report a --force");
+    assert!(err(&same).contains("the same file"));
     let forced = call(&folder, "judge --seeds 1..1 --json runs.json --force");
     assert_eq!(forced.status.code(), Some(0));
     assert_eq!(lines(folder.join("runs.json")).len(), 1);

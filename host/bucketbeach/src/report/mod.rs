@@ -9,7 +9,7 @@ use std::fs::File;
 use std::io::Write as _;
 use std::path::Path;
 
-use crate::files::create;
+use crate::files::{create, free};
 use crate::nodes::Choice;
 use crate::options::FileOptions;
 use crate::summary::Summary;
@@ -17,19 +17,15 @@ use timeline::Recorder;
 
 pub(crate) use timeline::Timeline;
 
-/// Makes the report's file before anything is run.
+/// Makes the report's file before anything is run. `json` is the other file that is asked for.
 ///
 /// # Errors
 ///
 /// A line that says why not.
 pub fn file(options: &FileOptions, json: Option<&Path>) -> Result<Option<File>, String> {
-    let Some(path) = &options.report else {
-        return Ok(None);
-    };
-    if json == Some(path) {
-        return Err("--json and --report name the same file".to_owned());
-    }
-    create(path, options.force).map(Some)
+    let report = options.report.as_deref();
+    free(json, report, options.force)?;
+    report.map(|path| create(path, options.force)).transpose()
 }
 
 /// Writes the page, where one is asked for.
