@@ -267,6 +267,17 @@ sim_schedule_answer sim_chaos_schedule(const uint8_t *servers, size_t servers_le
 /* A simulation begins, whatever was in the area before. */
 sim_opened_answer sim_start(uint8_t *area, size_t area_length, sim_settings settings, sim_limits limits, uint64_t seed);
 
+/* The first event at or before the deadline happens; where there is none, the time rises to the deadline. The bytes
+ * of a message go to the buffer. */
+sim_stepped_answer sim_step(uint8_t *area, size_t area_length, uint64_t deadline, uint8_t *buffer, size_t buffer_length);
+
+/* The node has returned: whether it refused its input, and which leader it named. The input's writes are synced, or
+ * cut. */
+sim_sealed_answer sim_seal(uint8_t *area, size_t area_length, uint64_t refused, uint64_t present, uint64_t leader);
+
+/* The outputs are over; the node's status. What is owed goes on. */
+sim_opened_answer sim_end(uint8_t *area, size_t area_length, uint64_t role, uint64_t term, uint64_t present, uint64_t leader, uint64_t commit);
+
 /* A command proposed at a server: a sequence number is used, whether or not it runs. */
 sim_opened_answer sim_propose(uint8_t *area, size_t area_length, uint64_t server);
 

@@ -1,10 +1,8 @@
 -- What the proofs of lib.rt cite. Assumes nothing.
-use mathlib.Core.Path.{_≡_, refl, sym, ap, ap₂, subst, _∙_}
+use mathlib.Core.Path.{_≡_, sym, ap, ap₂, subst, _∙_}
 use mathlib.Core.Bool.{Bool, true, false, _&&_}
 use mathlib.Core.List.{List}
-use mathlib.Core.Option.{Option, some}
-use Prim.Native.Nat.{ℕ, _+_, _^_, _<_}
-use native.Mathlib.Omega.{arith}
+use Prim.Native.Nat.{ℕ, _+_, _<_}
 use lib.Dec.{leb}
 use lib.ListN.{length}
 use Rattle.laws.specs.Bools.{_and_, and-left, and-right, and-assoc, code-and}
@@ -13,7 +11,7 @@ use Rattle.config.specs.declared.SimConfig.{SimConfig}
 use Rattle.network.specs.declared.Network.{Network}
 use Rattle.network.specs.declared.Delayed.{Delayed}
 use Rattle.network.specs.Network.{delay}
-use Rattle.clients.specs.Clients.{Client, Outstanding, clientOf, outstandingOf}
+use Rattle.clients.specs.Clients.{Client, clientOf, outstandingOf}
 use Rattle.clients.specs.declared.Client.{Client as ClientRow}
 use Rattle.clients.specs.declared.OutstandingOption.{OutstandingOption}
 use Rattle.clients.specs.declared.OutstandingOption.the-variants.{None, Some}
@@ -23,7 +21,7 @@ use Rattle.queue.specs.declared.Event.{Event}
 use Rattle.queue.specs.declared.Event.the-variants as event
 use Rattle.model.specs.State.{State}
 use Rattle.model.specs.Fields.{withAttempt}
-use Rattle.model.specs.Fits.{stateFits, clientStateFits}
+use Rattle.model.specs.Fits.{stateFits}
 use Rattle.state.specs.declared.Capacity.{Capacity}
 use Rattle.state.specs.declared.Run.{Run}
 use Rattle.state.specs.Area.{Area, capacityOf, runOf}
@@ -31,7 +29,7 @@ use Rattle.state.specs.Fitting.{area-fits}
 use Rattle.state.specs.Changes.{AreaOf, Changes, Reads}
 use Rattle.state_header.specs.Header.{settingsOf, networkOf, networkSet}
 use Rattle.state_records.specs.Records.{clientSet}
-use Rattle.state_queue.specs.Events.{eventInRange, plain, pushed}
+use Rattle.state_queue.specs.Events.{plain, pushed}
 use Rattle.state_queue.specs.Fits.{fits-push, fits-unpushed, plain-range}
 use Rattle.sim_outputs.specs.declared.Sum.{Sum}
 use Rattle.sim_outputs.specs.Outputs.{Sums}

@@ -1,29 +1,28 @@
 -- Question 10 of a client's attempt. Assumes nothing.
-use mathlib.Core.Path.{_≡_, refl, sym, ap, ap₂, subst, _∙_}
+use mathlib.Core.Path.{_≡_, refl, sym, ap, ap₂, _∙_}
 use mathlib.Core.Bool.{Bool, true, false}
 use mathlib.Core.List.{List, [], _∷_}
 use mathlib.Core.Option.{Option, none, some}
-use Prim.Native.Nat.{ℕ, zero, suc, _+_, _-_, _^_, _≤_, _<_}
+use Prim.Native.Nat.{ℕ, zero, suc, _+_, _-_, _^_, _<_}
 use native.Mathlib.Omega.{arith}
-use lib.Dec.{leb, ltb, eqb}
-use lib.ListN.{length, getD, set}
+use lib.Dec.{leb, ltb}
+use lib.ListN.{length, getD}
 use lib.Seq.{getD-set-same}
-use borrow.Author.Tests.{lt-ltb, le-leb, leb-true, ltb-true, eqb-true}
-use Rattle.laws.specs.Bools.{pick, _and_, and-left, and-right, and-both, and-true, true-and, and-no, every, every-get}
+use borrow.Author.Tests.{lt-ltb, le-leb, leb-true, eqb-true}
+use Rattle.laws.specs.Bools.{pick, _and_, and-left, and-true, true-and, and-no, every-get}
 use Rattle.laws.specs.Lists.{modify, isSome}
 use Rattle.metrics.specs.Laws.{modify-set}
 use Rattle.config.specs.Limits.{InLimits, judge}
 use Rattle.config.specs.Laws.{in-limits}
-use Rattle.network.specs.Network.{delay}
 use Rattle.clients.specs.Clients.{Client, Outstanding}
 use Rattle.clients.specs.ClientLaws.{noClient}
 use Rattle.queue.specs.Queue.{Scheduled}
-use Rattle.queue.specs.Range.{word, eventFits}
+use Rattle.queue.specs.Range.{word}
 use Rattle.queue.specs.declared.Event.the-variants as event
 use Rattle.units.specs.declared.SimTime.{SimTime}
 use Rattle.model.specs.State.{State, clientAt}
 use Rattle.model.specs.Fields.{withClients, withAttempt}
-use Rattle.model.specs.Simulation.{clientAttempt, sendOutstanding, onClient, pushEvent, later}
+use Rattle.model.specs.Simulation.{clientAttempt, sendOutstanding, onClient, pushEvent}
 use Rattle.model.specs.Fits.{stateFits, clientStateFits, outstandingFits, ifSome}
 use Rattle.state.specs.FitsBy.{fits-test}
 use Rattle.state.specs.Fitting.{accepted-is}

@@ -1,13 +1,12 @@
 -- A delay drawn keeps a network in range, and a state fit. Assumes nothing.
-use mathlib.Core.Path.{_≡_, refl, sym, ap, ap₂, subst, _∙_}
+use mathlib.Core.Path.{_≡_, sym, ap, subst, _∙_}
 use mathlib.Core.Bool.{Bool, true}
 use mathlib.Core.List.{List}
 use Prim.Native.Nat.{ℕ, _+_, _^_}
 use native.Mathlib.Omega.{arith}
-use lib.Dec.{eqb}
 use lib.ListN.{set}
 use borrow.Author.Tests.{lt-ltb}
-use Rattle.laws.specs.Bools.{_and_, allb, and-left, and-right, and-both}
+use Rattle.laws.specs.Bools.{allb}
 use Rattle.rng.specs.declared.Rng.{Rng}
 use Rattle.rng.specs.Rng.{under, nextU64, moved}
 use Rattle.network.specs.declared.Network.{Network}

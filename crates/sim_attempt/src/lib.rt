@@ -48,7 +48,7 @@ fn with_attempt(client: Client, attempt: u64) -> Client
 // ---- what is asked
 
 // When a message that is sent at a time arrives.
-pub fn arrival_at(area: &[u8], f: Capacity, time: u64) -> Sum
+fn arrival_at(area: &[u8], f: Capacity, time: u64) -> Sum
     requires { ⌜ Passed (now area) f ⌝ }
     ensures { λ r. ⌜ Arrives (now (area .entry)) f time r ⌝ }
 {
@@ -82,7 +82,7 @@ pub fn attempt_fits(area: &[u8], f: Capacity, time: u64, room: u64, attempt: u64
 // ---- what is done
 
 // The network after its draw of a delay.
-pub fn draw_delay(area: &mut [u8], f: Capacity)
+fn draw_delay(area: &mut [u8], f: Capacity)
     requires { ⌜ Passed (now area) f ⌝ }
     ensures { λ _. ⌜ Changes (now (area .entry)) (now (area .exit)) f delayed ⌝ }
 {

@@ -3,12 +3,12 @@ use mathlib.Core.Path.{_≡_, refl, sym, ap, ap₂, subst, _∙_}
 use mathlib.Core.Bool.{Bool, true, false, not, _&&_}
 use mathlib.Core.List.{List}
 use mathlib.Core.Option.{Option, none, some}
-use Prim.Native.Nat.{ℕ, _+_, _^_, _<_}
+use Prim.Native.Nat.{ℕ, _+_, _<_}
 use native.Mathlib.Omega.{arith}
-use lib.Dec.{eqb, leb, ltb}
+use lib.Dec.{eqb}
 use lib.ListN.{length}
 use borrow.Author.Tests.{eq-eqb, ne-eqb, ltb-true}
-use Rattle.laws.specs.Bools.{pick, cases, _and_, and-left, and-right, and-both, true-and, and-true, code-and}
+use Rattle.laws.specs.Bools.{pick, cases, _and_, and-left, and-right, and-both, true-and, code-and}
 use Rattle.laws.specs.Decides.{false-true}
 use Rattle.laws.specs.Lists.{isSome}
 use Rattle.units.specs.declared.SimTime.{SimTime}
@@ -36,10 +36,10 @@ use Rattle.state_header.specs.Laws.{fits-workload}
 use Rattle.state_records.specs.Records.{clientRead, clientSet}
 use Rattle.sim_outputs.specs.declared.Sum.{Sum}
 use Rattle.sim_outputs.specs.Outputs.{Sums}
-use Rattle.sim_attempt.specs.Attempts.{waiting, roomOf, arrivalTime, arrivalFits, timeoutTime, timeoutFits, attemptTest, delayed, attemptedAs}
+use Rattle.sim_attempt.specs.Attempts.{waiting, roomOf, arrivalTime, attemptTest, delayed, attemptedAs}
 use Rattle.sim_attempt.specs.Networks.{under-word}
 use Rattle.sim_attempt.specs.Laws.{client-changed, client-same, client-fits-at, limits-of, fits-attempt}
-use Rattle.sim_clients.specs.ClientEvents.{targetPut, awaitsIn, awaits, begun, Begins, sendTest, clientSent, againTest, clientRetried, clientTimedOut, targetDrawn}
+use Rattle.sim_clients.specs.ClientEvents.{targetPut, awaitsIn, awaits, begun, Begins, sendTest, clientSent, againTest, clientRetried, clientTimedOut}
 
 -- ---- a client of the code
 
@@ -192,9 +192,6 @@ module _ (s : State) (c : ℕ) (t : stateFits s ≡ true) (i : c < s .config .cl
       fits-attempt s c (withTarget k slot) t i o attempt-word outstanding-fits
       ∙ ap (λ (x : Bool). x and pick (isSome (k .outstanding)) (attemptTest (s .now .0) (roomOf s) (k .attempt) s) true) seq-word ∙ true-and _
 
-  drawn-fits : (g : Rng) → word (g .state) ≡ true → stateFits (workloadSet g s) ≡ true
-  drawn-fits g w = fits-workload s g (fits-test s t 11) ∙ and-both _ _ w t
-
 -- the workload's generator is no part of an attempt
 sent-with : (a : State) (c : ℕ) (o : Option Outstanding) (time : SimTime) (g : Rng) → sendOutstanding (withWorkload a g) c o time ≡ withWorkload (sendOutstanding a c o time) g
 sent-with a c none time g = refl
@@ -204,10 +201,6 @@ pub attempted-with : (s : State) (c : ℕ) (k : Client) (g : Rng) → attemptedA
 unfolding attemptedAs clientAttempt workloadSet clientSet arrivalTime delayed
 attempted-with s c k g =
     sent-with (delayed (clientSet c k s)) c (clientAt (clientSet c k s) c .outstanding) (record { 0 = arrivalTime (s .now .0) s }) g
-
-test-with : (s : State) (g : Rng) (attempt : ℕ) → attemptTest (workloadSet g s .now .0) (roomOf (workloadSet g s)) attempt (workloadSet g s) ≡ attemptTest (s .now .0) (roomOf s) attempt s
-unfolding attemptTest roomOf arrivalFits arrivalTime timeoutFits timeoutTime workloadSet
-test-with s g attempt = refl
 
 -- ---- a timeout
 

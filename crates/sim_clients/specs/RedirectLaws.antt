@@ -5,10 +5,10 @@ use mathlib.Core.List.{List}
 use mathlib.Core.Option.{none, some}
 use Prim.Native.Nat.{ℕ, _+_, _-_, _^_, _≤_, _<_}
 use native.Mathlib.Omega.{arith}
-use lib.Dec.{eqb, leb, ltb}
+use lib.Dec.{leb}
 use lib.ListN.{length}
 use borrow.Author.Tests.{lt-ltb, le-leb, lt-leb, leb-true, eqb-true}
-use Rattle.laws.specs.Bools.{pick, cases, _and_, and-left, and-right, and-both, true-and, and-true, code-and, first-true, second-true}
+use Rattle.laws.specs.Bools.{pick, cases, _and_, and-right, and-both, and-true, code-and, first-true, second-true}
 use Rattle.laws.specs.Lists.{isSome}
 use Rattle.units.specs.declared.NodeId.{NodeId}
 use Rattle.units.specs.declared.NodeOption.{NodeOption}
@@ -23,8 +23,8 @@ use Rattle.queue.specs.Range.{word}
 use Rattle.queue.specs.declared.Event.the-variants as event
 use Rattle.model.specs.State.{State, clientAt}
 use Rattle.model.specs.Fields.{withWorkload, withTarget}
-use Rattle.model.specs.Simulation.{latest, clientAttempt, clientRedirect, follow, knownSlot, onClient, pushEvent, later}
-use Rattle.model.specs.Fits.{stateFits, clientStateFits}
+use Rattle.model.specs.Simulation.{latest, clientAttempt, clientRedirect, follow, knownSlot, pushEvent, later}
+use Rattle.model.specs.Fits.{stateFits}
 use Rattle.state.specs.declared.Capacity.{Capacity}
 use Rattle.state.specs.declared.Run.{Run}
 use Rattle.state.specs.Area.{Area, capacityOf, runOf}
@@ -46,7 +46,7 @@ use Rattle.sim_clients.specs.declared.redirects.SlotOption.{SlotOption}
 use Rattle.sim_clients.specs.declared.redirects.SlotOption.the-variants.{None, Some}
 use Rattle.sim_clients.specs.ClientEvents.{targetPut, awaitsIn, awaits, targetDrawn}
 use Rattle.sim_clients.specs.Redirects.{knownIn, isKnown, backoffTime, backoffFits, BacksOff, redirectTest, retryPut, followed, clientRedirected}
-use Rattle.sim_clients.specs.EventLaws.{not-true, not-false, read-is, read-attempt, read-awaits, seq-word, attempt-word, outstanding-fits, drawn-below, moved-fits, waits-of, drawn-is, moved-is, clients-of}
+use Rattle.sim_clients.specs.EventLaws.{not-true, not-false, read-is, read-attempt, read-awaits, seq-word, attempt-word, outstanding-fits, drawn-below, moved-fits, waits-of, drawn-is, moved-is}
 
 -- ---- where to
 

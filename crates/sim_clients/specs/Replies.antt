@@ -2,14 +2,13 @@
 use mathlib.Core.Path.{_≡_}
 use mathlib.Core.Bool.{Bool, true, false}
 use mathlib.Core.Option.{Option, none, some}
-use Prim.Native.Nat.{ℕ, _+_, _^_}
+use Prim.Native.Nat.{ℕ, _+_}
 use lib.Dec.{eqb, leb}
 use lib.ListN.{length}
 use Rattle.laws.specs.Bools.{pick, _and_}
 use Rattle.units.specs.declared.LogIndex.{LogIndex}
 use Rattle.units.specs.declared.SimTime.{SimTime}
 use Rattle.metrics.specs.Metrics.{countersFit, recordReply}
-use Rattle.checks_durability.specs.declared.replies.Reply.{Reply}
 use Rattle.clients.specs.Clients.{Client, Outstanding, clientOf}
 use Rattle.clients.specs.declared.Client.{Client as ClientRow}
 use Rattle.clients.specs.declared.OutstandingOption.{OutstandingOption}

@@ -8,13 +8,12 @@ use native.Mathlib.Omega.{arith}
 use lib.Dec.{eqb, leb, ltb}
 use lib.ListN.{length}
 use borrow.Author.Tests.{lt-ltb, le-leb, leb-true, ltb-true, eq-eqb, ne-eqb, eqb-true}
-use Rattle.laws.specs.Bools.{pick, cases, _and_, and-left, and-right, and-both, and-no, true-and, and-true, and-assoc, code-and}
-use Rattle.laws.specs.Decides.{false-true}
+use Rattle.laws.specs.Bools.{pick, cases, _and_, and-left, and-right, and-both, true-and, and-true, and-assoc, code-and}
 use Rattle.units.specs.declared.LogIndex.{LogIndex}
 use Rattle.units.specs.declared.SimTime.{SimTime}
 use Rattle.metrics.specs.declared.Metrics.{Metrics}
 use Rattle.metrics.specs.declared.Counted.{Counted}
-use Rattle.metrics.specs.Metrics.{metricsFit, countersFit, recordReply, counted}
+use Rattle.metrics.specs.Metrics.{countersFit, recordReply, counted}
 use Rattle.metrics.specs.Laws.{counters-fit, replied-in-range, counted-fits}
 use Rattle.checks_durability.specs.declared.replies.Reply.{Reply}
 use Rattle.checks_durability.specs.Replies as table
@@ -103,7 +102,7 @@ module _ (b : List ℕ) (F : Capacity) (room c seq : ℕ) (k : ClientRow) (w : B
 
 -- ---- what is done
 
-counted-is : (m m′ : Metrics) → countersFit m′ ≡ true → counted m m′ .metrics ≡ m′
+pub counted-is : (m m′ : Metrics) → countersFit m′ ≡ true → counted m m′ .metrics ≡ m′
 unfolding counted
 counted-is m m′ t = ap (λ (u : Bool). let x : Counted = pick u (record { fits = true; metrics = m′ }) (record { fits = false; metrics = m }) in x .metrics) t
 

@@ -1,9 +1,8 @@
 // The events of clients (simulation.rs), over an area: for each, whether the state that it gives fits, and what it does. Whether it fits is
 // asked before the event is taken: the time that it brings and the places that the queue then has are arguments.
 ghost use mathlib.Core.Path.{_≡_};
-ghost use Prim.Native.Nat.{_<_, _≤_};
-ghost use Rattle.clients.specs.Clients.{clientOf};
-ghost use Rattle.state.specs.Changes.{Inside, Reads, Changes};
+ghost use Prim.Native.Nat.{_<_};
+ghost use Rattle.state.specs.Changes.{Reads, Changes};
 ghost use Rattle.sim_outputs.specs.Outputs.{Passed};
 ghost use Rattle.sim_clients.specs.ClientEvents.{
   targetPut,
@@ -14,7 +13,6 @@ ghost use Rattle.sim_clients.specs.ClientEvents.{
   againTest,
   clientRetried,
   clientTimedOut,
-  targetDrawn,
 };
 use clients::Client;
 use clients::OutstandingOption;

@@ -1,6 +1,6 @@
 // A reply reaches its client: it is recorded, and the client goes on.
 ghost use mathlib.Core.Path.{_≡_};
-ghost use Prim.Native.Nat.{_<_, _≤_};
+ghost use Prim.Native.Nat.{_<_};
 ghost use Rattle.clients.specs.Clients.{clientOf};
 ghost use Rattle.state.specs.Changes.{Inside, Reads, Changes};
 ghost use Rattle.sim_clients.specs.Replies.{

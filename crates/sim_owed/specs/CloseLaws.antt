@@ -3,33 +3,30 @@ use mathlib.Core.Path.{_≡_, refl, sym, ap, ap₂, subst, _∙_}
 use mathlib.Core.Bool.{Bool, true, false, not}
 use mathlib.Core.List.{List, map}
 use mathlib.Core.Option.{Option, none, some}
-use Prim.Native.Nat.{ℕ, zero, suc, _+_, _-_, _≤_, _<_}
+use Prim.Native.Nat.{ℕ, suc, _+_, _-_, _≤_, _<_}
 use native.Mathlib.Numerals.{add-one}
 use native.Mathlib.Omega.{arith}
-use lib.Dec.{eqb, ltb}
+use lib.Dec.{eqb}
 use lib.ListN.{length, getD, set, length-map, length-set}
 use lib.Seq.{getD-set-same, getD-set-other}
 use borrow.Author.Tests.{lt-ltb, le-ltb, eq-eqb, ne-eqb, eqb-true}
-use Rattle.laws.specs.Bools.{pick, cases, and-both}
+use Rattle.laws.specs.Bools.{pick, cases}
 use Rattle.laws.specs.Decides.{false-true}
 use Rattle.laws.specs.Lists.{isSome}
 use Rattle.metrics.specs.Laws.{modify-set}
 use Rattle.protocol.specs.declared.Status.{Status}
-use Rattle.model.specs.State.{State, Server, newServer, Owed, nothing, construction, healing, closed, serverAt}
-use Rattle.model.specs.Fields.{withPhase, withCrashOnNextInput}
-use Rattle.model.specs.Simulation.{Moved, noInput, onServer, running, idle, startServer, firstSends, constructFrom, healFrom, closeInput}
+use Rattle.model.specs.State.{State, Server, newServer, construction, healing, closed, serverAt}
+use Rattle.model.specs.Fields.{withPhase}
+use Rattle.model.specs.Simulation.{noInput, running, idle, startServer, firstSends, constructFrom, healFrom}
 use Rattle.model.specs.Fits.{stateFits}
 use Rattle.state.specs.declared.Capacity.{Capacity}
-use Rattle.state.specs.declared.OpenInput.{OpenInput}
 use Rattle.state.specs.declared.ServerState.{ServerState}
 use Rattle.state.specs.declared.StatusOption.{StatusOption}
 use Rattle.state.specs.declared.StatusOption.the-variants as status
-use Rattle.state.specs.Parts.{openOf}
-use Rattle.state.specs.Server.{stateOfServer, optionStatus}
+use Rattle.state.specs.Server.{optionStatus}
 use Rattle.state.specs.Area.{Area, capacityOf}
 use Rattle.state.specs.Fitting.{area-fits}
 use Rattle.state.specs.FitsBy.{server-count}
-use Rattle.state.specs.Lens.{servers-kept, servers-fit}
 use Rattle.state.specs.Changes.{Inside, AreaOf, Changes, Reads}
 use Rattle.state.specs.Exits.{inside-after}
 use Rattle.state_header.specs.Header.{phaseSet, SetsPhase}
@@ -41,7 +38,7 @@ use Rattle.answers.specs.Answers.{inputOf, noInputNumbers}
 use Rattle.sim_owed.specs.declared.Owed.{Owed as OwedKind}
 use Rattle.sim_owed.specs.declared.Owed.the-variants.{Nothing, Construction, Healing}
 use Rattle.sim_owed.specs.Servers.{owedOf, Opens, startAt, restartTest, restartAt}
-use Rattle.sim_owed.specs.Closes.{idleAt, constructAt, constructTest, statusRuns, runsAt, runsAs, flagsOf, firstStopped, stoppedFrom, Seeking, stoppedTest, healTest, healAt, uncrashedState, uncrashedAt, HealsOne, Healing as HealingTo, closeAt, closeTest}
+use Rattle.sim_owed.specs.Closes.{idleAt, constructAt, constructTest, statusRuns, runsAt, runsAs, flagsOf, firstStopped, stoppedFrom, Seeking, stoppedTest, healTest, healAt, uncrashedState, uncrashedAt, HealsOne, HealedTo, closeAt, closeTest}
 use Rattle.sim_owed.specs.Fits.{running-is, uncrashedServer, fits-idle, fits-uncrashed, settled-fits, heal-runs, heal-stopped, construct-last, construct-next}
 use Rattle.sim_owed.specs.ServerLaws.{opens-after, opens-is}
 
@@ -60,7 +57,8 @@ no false e = refl
 -- ---- nothing is owed
 
 pub phase-closed : (b b′ : List ℕ) (F : Capacity) (r : InputNumbers)
-    → SetsPhase b b′ F (record { phase = 0; slot = 0; input = 0; client = 0; seq = 0; attempt = 0; verdict = 0; leader = 0; owed = 0; next = 0 }) → r ≡ noInputNumbers → Opens b b′ F r idleAt
+    → SetsPhase b b′ F (record { phase = 0; slot = 0; input = 0; client = 0; seq = 0; attempt = 0; verdict = 0; leader = 0; owed = 0; next = 0 })
+    → r ≡ noInputNumbers → Opens b b′ F r idleAt
 unfolding idleAt phaseSet
 phase-closed b b′ F r p e = record { changes = p .to closed refl; input = λ s h ef t. e }
 
@@ -74,7 +72,8 @@ construct-early b F place more i = record {
       sym (ap (λ (t : Bool). pick t true (queueRoom (more + s .config .clients) s)) (lt-ltb place (s .config .servers) j));
 }
 
-pub construct-late : (b : List ℕ) (F : Capacity) (place more : ℕ) (r : Bool) → F .servers ≤ place → Reads b F r (queueRoom (more + F .clients)) → Reads b F r (constructTest place more)
+pub construct-late : (b : List ℕ) (F : Capacity) (place more : ℕ) (r : Bool) → F .servers ≤ place
+    → Reads b F r (queueRoom (more + F .clients)) → Reads b F r (constructTest place more)
 unfolding constructTest
 construct-late b F place more r i q = record {
   to = λ s h ef.
@@ -83,7 +82,8 @@ construct-late b F place more r i q = record {
       ∙ sym (ap (λ (t : Bool). pick t true (queueRoom (more + s .config .clients) s)) (le-ltb place (s .config .servers) j));
 }
 
-pub construct-goes : (b b′ : List ℕ) (F : Capacity) (place : ℕ) (r : InputNumbers) → place < F .servers → Opens b b′ F r (startAt place (owedOf (Construction (place + 1)))) → Opens b b′ F r (constructAt place)
+pub construct-goes : (b b′ : List ℕ) (F : Capacity) (place : ℕ) (r : InputNumbers) → place < F .servers
+    → Opens b b′ F r (startAt place (owedOf (Construction (place + 1)))) → Opens b b′ F r (constructAt place)
 unfolding owedOf
 construct-goes b b′ F place r i q =
     opens-is (startAt place (construction (place + 1))) (constructAt place) q
@@ -95,7 +95,8 @@ unfolding constructAt constructFrom
 construct-opens place s l =
     ap (λ (u : Bool). pick u (startServer s place (construction (suc place))) (idle (firstSends s 0 (length (s .clients)))) .opening) (le-ltb place (length (s .servers)) l)
 
-pub construct-ends : (b b₁ b₂ : List ℕ) (F : Capacity) (place : ℕ) (r : InputNumbers) → F .servers ≤ place → Opens b b₁ F r idleAt → Changes b₁ b₂ F firstSent → Opens b b₂ F r (constructAt place)
+pub construct-ends : (b b₁ b₂ : List ℕ) (F : Capacity) (place : ℕ) (r : InputNumbers) → F .servers ≤ place → Opens b b₁ F r idleAt
+    → Changes b₁ b₂ F firstSent → Opens b b₂ F r (constructAt place)
 unfolding idleAt
 construct-ends b b₁ b₂ F place r i q p = record {
   changes = record {
@@ -128,7 +129,8 @@ pub runs-told : (b : List ℕ) (F : Capacity) (place slot : ℕ) (running : Bool
 unfolding runsAs
 runs-told b F place slot r e = record { to = λ s h ef. sym (ap (λ (t : Bool). pick t r (running s place)) (eq-eqb place slot e)) }
 
-pub runs-read : (b : List ℕ) (F : Capacity) (place slot : ℕ) (running : Bool) (x : StatusOption) (r : Bool) → (place ≡ slot → ⊥) → Reads b F x (statusAt place) → r ≡ statusRuns x
+pub runs-read : (b : List ℕ) (F : Capacity) (place slot : ℕ) (running : Bool) (x : StatusOption) (r : Bool) → (place ≡ slot → ⊥)
+    → Reads b F x (statusAt place) → r ≡ statusRuns x
     → Reads b F r (runsAs place slot running)
 unfolding runsAs statusAt
 runs-read b F place slot told x r n q e = record {
@@ -139,10 +141,12 @@ runs-read b F place slot told x r n q e = record {
 
 flags-long : (s : State) (place : ℕ) → place < length (s .servers) → place < length (flagsOf s)
 unfolding flagsOf
-flags-long s place l = let n : length (map (λ (v : Server). isSome (v .status)) (s .servers)) ≡ length (s .servers) = length-map (s .servers) (λ (v : Server). isSome (v .status)) in omega arith
+flags-long s place l =
+    let n : length (map (λ (v : Server). isSome (v .status)) (s .servers)) ≡ length (s .servers) = length-map (s .servers) (λ (v : Server). isSome (v .status)) in omega arith
 
 -- the flag at a place, with the one at `slot` as told
-flag-as : (s : State) (place slot : ℕ) (runs : Bool) → place < length (s .servers) → getD (set (flagsOf s) slot runs) place false ≡ runsAs place slot runs s
+flag-as : (s : State) (place slot : ℕ) (runs : Bool) → place < length (s .servers)
+    → getD (set (flagsOf s) slot runs) place false ≡ runsAs place slot runs s
 unfolding runsAs
 flag-as s place slot runs l =
     cases (eqb place slot)
@@ -195,7 +199,8 @@ module _ (b : List ℕ) (F : Capacity) (place slot : ℕ) (running : Bool) (k : 
   heal-some r i p = record {
     to = λ s h ef.
         let j : k < s .config .servers = subst (λ (G : Capacity). k < G .servers) ef i in
-        p .to s h ef ∙ sym (ap (λ (t : Bool). pick t (restartTest k s) true) (lt-ltb k (s .config .servers) j)) ∙ ap (λ (n : ℕ). stoppedTest n s) (q .to s h ef);
+        p .to s h ef ∙ sym (ap (λ (t : Bool). pick t (restartTest k s) true) (lt-ltb k (s .config .servers) j))
+        ∙ ap (λ (n : ℕ). stoppedTest n s) (q .to s h ef);
   }
 
   pub heal-all : F .servers ≤ k → Reads b F true (healTest place slot running)
@@ -203,25 +208,29 @@ module _ (b : List ℕ) (F : Capacity) (place slot : ℕ) (running : Bool) (k : 
   heal-all i = record {
     to = λ s h ef.
         let j : s .config .servers ≤ k = subst (λ (G : Capacity). G .servers ≤ k) ef i in
-        sym (ap (λ (t : Bool). pick t (restartTest k s) true) (le-ltb k (s .config .servers) j)) ∙ ap (λ (n : ℕ). stoppedTest n s) (q .to s h ef);
+        sym (ap (λ (t : Bool). pick t (restartTest k s) true) (le-ltb k (s .config .servers) j))
+        ∙ ap (λ (n : ℕ). stoppedTest n s) (q .to s h ef);
   }
 
 -- ---- a HealAll
 
-pub one-healed : (b b′ : List ℕ) (F : Capacity) (k : ℕ) (x y : ServerState) (r : Bool) → Reads b F x (serverStateAt k) → y ≡ uncrashedState x
+pub one-healed : (b b′ : List ℕ) (F : Capacity) (k : ℕ) (x y : ServerState) (r : Bool) → Reads b F x (serverStateAt k)
+    → y ≡ uncrashedState x
     → Changes b b′ F (serverStateSet k y) → r ≡ statusRuns (x .status) → HealsOne b b′ F k r
 unfolding serverStateAt uncrashedState uncrashedAt runsAt
 one-healed b b′ F k x y r q e p er = record {
   changes = record {
     to = λ s rest h t.
         let es : serverStateSet k y s ≡ uncrashedAt k s =
-        ap (λ (z : ServerState). serverStateSet k z s) (e ∙ ap uncrashedState (q .to s (h .area) (h .capacity))) ∙ server-state-set s k uncrashedServer refl refl in
+        ap (λ (z : ServerState). serverStateSet k z s) (e ∙ ap uncrashedState (q .to s (h .area) (h .capacity)))
+        ∙ server-state-set s k uncrashedServer refl refl in
         subst (AreaOf b′ rest F) es (p .to s rest h (ap stateFits es ∙ t));
   };
-  runs = record { to = λ s h ef. er ∙ ap (λ (z : ServerState). statusRuns (z .status)) (q .to s h ef) ∙ status-runs (serverAt s k .status) };
+  runs =
+      record { to = λ s h ef. er ∙ ap (λ (z : ServerState). statusRuns (z .status)) (q .to s h ef) ∙ status-runs (serverAt s k .status) };
 }
 
-pub healing-start : (b : List ℕ) (F : Capacity) (place : ℕ) → Inside b F → HealingTo b F place b place
+pub healing-start : (b : List ℕ) (F : Capacity) (place : ℕ) → Inside b F → HealedTo b F place b place
 healing-start b F place i = record { inside = i; long = refl; whole = λ b₂ r q. q }
 
 -- the servers that are left from k on
@@ -231,7 +240,8 @@ left-from s k l = ap (healFrom s k) (let n : length (s .servers) - k ≡ suc (le
 
 long-uncrashed : (s : State) (k : ℕ) → length (uncrashedAt k s .servers) ≡ length (s .servers)
 unfolding uncrashedAt
-long-uncrashed s k = ap length (modify-set uncrashedServer (newServer 0) k (s .servers)) ∙ length-set (s .servers) k (uncrashedServer (serverAt s k))
+long-uncrashed s k =
+    ap length (modify-set uncrashedServer (newServer 0) k (s .servers)) ∙ length-set (s .servers) k (uncrashedServer (serverAt s k))
 
 -- a server that runs
 runs-on : (s : State) (k : ℕ) → k < length (s .servers) → running s k ≡ true → healAt (k + 1) (uncrashedAt k s) ≡ healAt k s
@@ -240,12 +250,12 @@ runs-on s k l r =
     ap₂ (λ (j n : ℕ). healFrom (uncrashedAt k s) j n) (add-one k) (ap (λ (m : ℕ). m - (k + 1)) (long-uncrashed s k))
     ∙ sym (left-from s k l ∙ heal-runs s k (length (s .servers) - (k + 1)) r)
 
-module _ (b : List ℕ) (F : Capacity) (place : ℕ) (b₁ : List ℕ) (k : ℕ) (p : HealingTo b F place b₁ k) where
+module _ (b : List ℕ) (F : Capacity) (place : ℕ) (b₁ : List ℕ) (k : ℕ) (p : HealedTo b F place b₁ k) where
   module _ (b₂ : List ℕ) (r : Bool) (i : k < F .servers) (q : HealsOne b₁ b₂ F k r) where
     within : (s : State) → Area b₁ s → F ≡ capacityOf s → stateFits (uncrashedAt k s) ≡ true
     within s h ef = fits-uncrashed s k (settled-fits s (area-fits h)) (subst (λ (G : Capacity). k < G .servers) ef i) ∙ area-fits h
 
-    pub healing-turn : not r ≡ false → length b₂ ≡ length b₁ → HealingTo b F place b₂ (k + 1)
+    pub healing-turn : not r ≡ false → length b₂ ≡ length b₁ → HealedTo b F place b₂ (k + 1)
     unfolding runsAt
     healing-turn t l = record {
       inside = inside-after b₁ b₂ F (p .inside) l;
@@ -255,7 +265,8 @@ module _ (b : List ℕ) (F : Capacity) (place : ℕ) (b₁ : List ℕ) (k : ℕ)
           (λ s h ef fit. (runs-on s k (omega (arith, count-is h ef)) (sym (q .runs .to s h ef) ∙ yes r t), within s h ef)));
     }
 
-    pub healing-stop : (b₃ : List ℕ) (n : InputNumbers) → not r ≡ true → Opens b₂ b₃ F n (restartAt k (owedOf (Healing (k + 1)))) → Opens b b₃ F n (healAt place)
+    pub healing-stop : (b₃ : List ℕ) (n : InputNumbers) → not r ≡ true → Opens b₂ b₃ F n (restartAt k (owedOf (Healing (k + 1))))
+        → Opens b b₃ F n (healAt place)
     unfolding runsAt owedOf
     healing-stop b₃ n t o =
         p .whole b₃ n (opens-after (uncrashedAt k) (restartAt k (healing (k + 1))) (healAt k) (q .changes) o
@@ -279,13 +290,17 @@ module _ (b : List ℕ) (F : Capacity) (o : OwedKind) where
     unfolding closeTest owedOf
     asked-nothing e = record { to = λ s h ef. sym (ap (λ (x : OwedKind). closeTest (owedOf x) more slot running s) e) }
 
-    pub asked-construction : (place : ℕ) (r : Bool) → o ≡ Construction place → Reads b F r (constructTest place more) → Reads b F r (closeTest (owedOf o) more slot running)
+    pub asked-construction : (place : ℕ) (r : Bool) → o ≡ Construction place → Reads b F r (constructTest place more)
+        → Reads b F r (closeTest (owedOf o) more slot running)
     unfolding closeTest owedOf
-    asked-construction place r e q = record { to = λ s h ef. q .to s h ef ∙ sym (ap (λ (x : OwedKind). closeTest (owedOf x) more slot running s) e) }
+    asked-construction place r e q =
+        record { to = λ s h ef. q .to s h ef ∙ sym (ap (λ (x : OwedKind). closeTest (owedOf x) more slot running s) e) }
 
-    pub asked-healing : (place : ℕ) (r : Bool) → o ≡ Healing place → Reads b F r (healTest place slot running) → Reads b F r (closeTest (owedOf o) more slot running)
+    pub asked-healing : (place : ℕ) (r : Bool) → o ≡ Healing place → Reads b F r (healTest place slot running)
+        → Reads b F r (closeTest (owedOf o) more slot running)
     unfolding closeTest owedOf
-    asked-healing place r e q = record { to = λ s h ef. q .to s h ef ∙ sym (ap (λ (x : OwedKind). closeTest (owedOf x) more slot running s) e) }
+    asked-healing place r e q =
+        record { to = λ s h ef. q .to s h ef ∙ sym (ap (λ (x : OwedKind). closeTest (owedOf x) more slot running s) e) }
 
   module _ (b′ : List ℕ) (r : InputNumbers) where
     pub close-nothing : o ≡ Nothing → Opens b b′ F r idleAt → Opens b b′ F r (closeAt (owedOf o))
@@ -294,7 +309,8 @@ module _ (b : List ℕ) (F : Capacity) (o : OwedKind) where
 
     pub close-construction : (place : ℕ) → o ≡ Construction place → Opens b b′ F r (constructAt place) → Opens b b′ F r (closeAt (owedOf o))
     unfolding closeAt owedOf constructAt
-    close-construction place e q = opens-is (constructAt place) (closeAt (owedOf o)) q (λ s h ef. sym (ap (λ (x : OwedKind). closeAt (owedOf x) s) e))
+    close-construction place e q =
+        opens-is (constructAt place) (closeAt (owedOf o)) q (λ s h ef. sym (ap (λ (x : OwedKind). closeAt (owedOf x) s) e))
 
     pub close-healing : (place : ℕ) → o ≡ Healing place → Opens b b′ F r (healAt place) → Opens b b′ F r (closeAt (owedOf o))
     unfolding closeAt owedOf healAt

@@ -9,7 +9,7 @@ use Rattle.laws.specs.Bools.{pick}
 use Rattle.laws.specs.Lists.{isSome}
 use Rattle.config.specs.declared.SimConfig.{SimConfig}
 use Rattle.config.specs.declared.Limits.{Limits}
-use Rattle.model.specs.State.{State, Server, Owed, nothing, construction, healing, Phase, serverAt}
+use Rattle.model.specs.State.{State, Server, Owed, nothing, construction, healing, Phase}
 use Rattle.model.specs.Fields.{withCrashOnNextInput}
 use Rattle.model.specs.Simulation.{Moved, onServer, running, idle, constructFrom, healFrom, closeInput}
 use Rattle.model.specs.Fits.{phaseFits}
@@ -107,7 +107,7 @@ pub record HealsOne (b b′ : List ℕ) (F : Capacity) (place : ℕ) (r : Bool) 
   pub runs : Reads b F r (runsAt place)
 
 -- The servers from one place up to another run, and their crash flags are cleared: what a HealAll does from the second on does it from the first.
-pub record Healing (b : List ℕ) (F : Capacity) (place : ℕ) (b′ : List ℕ) (k : ℕ) : Type 0 where
+pub record HealedTo (b : List ℕ) (F : Capacity) (place : ℕ) (b′ : List ℕ) (k : ℕ) : Type 0 where
   pub inside : Inside b′ F
   pub long : length b′ ≡ length b
   pub whole : (b₂ : List ℕ) (r : InputNumbers) → Opens b′ b₂ F r (healAt k) → Opens b b₂ F r (healAt place)

@@ -1,48 +1,48 @@
 -- Question 10 of a start, a stop, a restart and of what is owed, so that a caller can ask it before it changes anything. Assumes nothing.
-use mathlib.Core.Path.{_≡_, refl, sym, ap, ap₂, subst, _∙_}
+use mathlib.Core.Path.{_≡_, refl, sym, ap, ap₂, _∙_}
 use mathlib.Core.Bool.{Bool, true, false}
 use mathlib.Core.List.{List, [], _∷_, map}
 use mathlib.Core.Option.{none}
-use Prim.Native.Nat.{ℕ, zero, suc, _+_, _-_, _^_, _≤_, _<_}
+use Prim.Native.Nat.{ℕ, zero, suc, _+_, _-_, _≤_, _<_}
 use native.Mathlib.Nat.{zero-add}
 use native.Mathlib.Omega.{arith}
 use lib.Dec.{leb, ltb}
 use lib.ListN.{length, getD, set, length-map, List·getD-map}
 use borrow.Author.Tests.{lt-ltb, le-ltb, le-leb, ltb-true, ltb-false}
-use Rattle.laws.specs.Bools.{pick, cases, _and_, allb-in, and-left, and-right, and-both, and-true, true-and}
+use Rattle.laws.specs.Bools.{pick, cases, _and_, allb-in, and-right, and-both, and-true, true-and}
 use Rattle.laws.specs.Lists.{modify, isSome}
 use Rattle.laws.specs.Order.{chain}
-use Rattle.queue.specs.Range.{word}
 use Rattle.queue.specs.declared.Event.the-variants as event
 use Rattle.storage.specs.Storage.{crash}
 use Rattle.model.specs.State.{State, Server, newServer, Owed, nothing, construction, healing, startInput, closed, writing, serverAt}
-use Rattle.model.specs.Fields.{withPhase, withServers, withStatus, withStorage, withIncarnation, withElection, withHeartbeat, withCrashOnNextInput, withNextApply, withPending, withLeading}
-use Rattle.model.specs.Simulation.{Moved, onServer, running, pushEvent, idle, startServer, stopServer, restartServer, firstSends, constructFrom, healFrom, closeInput}
-use Rattle.model.specs.Fits.{stateFits, serverFits, serverTests, owedFits, phaseFits, tableFits}
-use Rattle.layout.specs.Keys.{keys}
+use Rattle.model.specs.Fields.{withPhase, withStatus, withStorage, withIncarnation, withElection, withHeartbeat, withCrashOnNextInput, withNextApply, withPending, withLeading}
+use Rattle.model.specs.Simulation.{Moved, onServer, running, pushEvent, idle, startServer, stopServer, restartServer, firstSends, constructFrom, healFrom}
+use Rattle.model.specs.Fits.{stateFits, serverFits, serverTests, owedFits}
 use Rattle.state.specs.declared.Capacity.{Capacity}
 use Rattle.state.specs.Area.{capacityOf}
 use Rattle.state.specs.FitsBy.{fits-test}
-use Rattle.state.specs.Lens.{ServersFit, ServersIn, servers-fit, server-fine, fits-on-server, servers-kept}
+use Rattle.state.specs.Lens.{ServersFit, servers-fit, server-fine, fits-on-server, servers-kept}
 use Rattle.state_disk.specs.DiskLaws.{crash-fits}
 use Rattle.state_header.specs.Header.{phaseSet}
 use Rattle.state_header.specs.Laws.{fits-phase}
 use Rattle.state_queue.specs.Events.{queueRoom, firstSent}
 use Rattle.state_queue.specs.Sends.{fits-first-sent}
 use Rattle.sim_owed.specs.Servers.{startAt, stopAt, canRise, restartTest, restartAt}
-use Rattle.sim_owed.specs.Closes.{idleAt, constructAt, constructTest, flagsOf, firstStopped, stoppedFrom, stoppedTest, healTest, healAt, uncrashedAt, closeAt, closeTest, Settled, SettledIn, Agrees}
+use Rattle.sim_owed.specs.Closes.{idleAt, constructAt, constructTest, flagsOf, firstStopped, stoppedFrom, stoppedTest, healTest, healAt, uncrashedAt, closeAt, closeTest, SettledIn, Agrees}
 
 -- ---- lists of servers
 
 -- what all servers keep, a list with one of them changed does
-pub map-kept : {A : Type 0} (g : Server → A) (f : Server → Server) → ((v : Server) → g (f v) ≡ g v) → (k : ℕ) (vs : List Server) → map g (modify k f vs) ≡ map g vs
+pub map-kept : {A : Type 0} (g : Server → A) (f : Server → Server) → ((v : Server) → g (f v) ≡ g v) → (k : ℕ) (vs : List Server)
+    → map g (modify k f vs) ≡ map g vs
 unfolding modify
 map-kept g f e k [] = refl
 map-kept g f e zero (v ∷ vs) = ap (λ (x : _). x ∷ map g vs) (e v)
 map-kept g f e (suc k) (v ∷ vs) = ap (λ (l : List _). g v ∷ l) (map-kept g f e k vs)
 
 -- what one server becomes, the list has at its place
-pub map-set : {A : Type 0} (g : Server → A) (f : Server → Server) (x : A) → ((v : Server) → g (f v) ≡ x) → (k : ℕ) (vs : List Server) → map g (modify k f vs) ≡ set (map g vs) k x
+pub map-set : {A : Type 0} (g : Server → A) (f : Server → Server) (x : A) → ((v : Server) → g (f v) ≡ x) → (k : ℕ) (vs : List Server)
+    → map g (modify k f vs) ≡ set (map g vs) k x
 unfolding modify
 map-set g f x e k [] = refl
 map-set g f x e zero (v ∷ vs) = ap (λ (y : _). y ∷ map g vs) (e v)
@@ -73,11 +73,13 @@ module _ (t : State) (p : SettledIn t) where
   unfolding phaseSet
   closed-fits = fits-phase t closed (p .phase) ∙ true-and (stateFits t)
 
-  pub fits-start : (slot : ℕ) (o : Owed) → slot < t .config .servers → owedFits (t .config) (t .limits) o ≡ true → stateFits (startAt slot o t .state) ≡ stateFits t
+  pub fits-start : (slot : ℕ) (o : Owed) → slot < t .config .servers → owedFits (t .config) (t .limits) o ≡ true
+      → stateFits (startAt slot o t .state) ≡ stateFits t
   unfolding startAt startServer phaseSet
   fits-start slot o i h =
       fits-phase t (writing slot startInput o) (p .phase)
-      ∙ ap (λ (u : Bool). u and stateFits t) (and-both _ _ (lt-ltb slot (t .config .servers) i) (and-both _ _ refl h)) ∙ true-and (stateFits t)
+      ∙ ap (λ (u : Bool). u and stateFits t) (and-both _ _ (lt-ltb slot (t .config .servers) i) (and-both _ _ refl h))
+      ∙ true-and (stateFits t)
 
 -- ---- a stop
 
@@ -126,7 +128,8 @@ module _ (t : State) (slot : ℕ) (p : SettledIn t) (i : slot < t .config .serve
   pub fits-risen : stateFits (onServer t slot risenServer) ≡ (restartTest slot t and stateFits t)
   fits-risen = fits-on-server t slot (p .servers) i risenServer ∙ ap (λ (u : Bool). u and stateFits t) risen-fits
 
-  pub fits-restart : (o : Owed) → owedFits (t .config) (t .limits) o ≡ true → stateFits (restartAt slot o t .state) ≡ (restartTest slot t and stateFits t)
+  pub fits-restart : (o : Owed) → owedFits (t .config) (t .limits) o ≡ true
+      → stateFits (restartAt slot o t .state) ≡ (restartTest slot t and stateFits t)
   unfolding restartAt restartServer startServer phaseSet
   fits-restart o h =
       fits-phase (onServer t slot risenServer) (writing slot startInput o) (p .phase)
@@ -161,22 +164,26 @@ pub restart-uncrashed : (t : State) (place k : ℕ) → restartTest k (uncrashed
 unfolding uncrashedAt canRise
 restart-uncrashed t place k =
     sym (restart-is (uncrashedAt place t) k)
-    ∙ ap (λ (l : List Bool). getD l k (canRise (newServer 0))) (map-kept canRise uncrashedServer (λ v. refl) place (t .servers)) ∙ restart-is t k
+    ∙ ap (λ (l : List Bool). getD l k (canRise (newServer 0))) (map-kept canRise uncrashedServer (λ v. refl) place (t .servers))
+    ∙ restart-is t k
 
 stopped-uncrashed : (t : State) (place k : ℕ) → stoppedTest k (uncrashedAt place t) ≡ stoppedTest k t
 unfolding stoppedTest uncrashedAt
 stopped-uncrashed t place k = ap (λ (u : Bool). pick (ltb k (t .config .servers)) u true) (restart-uncrashed t place k)
 
 -- what a HealAll finds at a place
-pub heal-runs : (t : State) (place left : ℕ) → running t place ≡ true → healFrom t place (suc left) ≡ healFrom (uncrashedAt place t) (suc place) left
+pub heal-runs : (t : State) (place left : ℕ) → running t place ≡ true
+    → healFrom t place (suc left) ≡ healFrom (uncrashedAt place t) (suc place) left
 unfolding healFrom uncrashedAt
 heal-runs t place left e = rw e refl
 
-pub heal-stopped : (t : State) (place left : ℕ) → running t place ≡ false → healFrom t place (suc left) ≡ restartAt place (healing (suc place)) (uncrashedAt place t)
+pub heal-stopped : (t : State) (place left : ℕ) → running t place ≡ false
+    → healFrom t place (suc left) ≡ restartAt place (healing (suc place)) (uncrashedAt place t)
 unfolding healFrom uncrashedAt restartAt
 heal-stopped t place left e = rw e refl
 
-first-runs : (flags : List Bool) (place left : ℕ) → getD flags place false ≡ true → firstStopped flags place (suc left) ≡ firstStopped flags (suc place) left
+first-runs : (flags : List Bool) (place left : ℕ) → getD flags place false ≡ true
+    → firstStopped flags place (suc left) ≡ firstStopped flags (suc place) left
 unfolding firstStopped
 first-runs flags place left e = rw e refl
 
@@ -233,9 +240,11 @@ construct-last place t l =
     ∙ sends-idle (length (t .clients)) 0 t
 
 -- before it
-pub construct-next : (place : ℕ) (t : State) → place < length (t .servers) → constructAt place t ≡ startAt place (construction (suc place)) t
+pub construct-next : (place : ℕ) (t : State) → place < length (t .servers)
+    → constructAt place t ≡ startAt place (construction (suc place)) t
 unfolding constructAt constructFrom startAt
-construct-next place t l = ap (λ (u : Bool). pick u (startServer t place (construction (suc place))) (idle (firstSends t 0 (length (t .clients))))) (lt-ltb place (length (t .servers)) l)
+construct-next place t l =
+    ap (λ (u : Bool). pick u (startServer t place (construction (suc place))) (idle (firstSends t 0 (length (t .clients))))) (lt-ltb place (length (t .servers)) l)
 
 room-closed : (n : ℕ) (t : State) → queueRoom n (withPhase t closed) ≡ queueRoom n t
 unfolding queueRoom
@@ -291,7 +300,8 @@ module _ {s : State} {more slot : ℕ} {runs : Bool} {t : State} (a : Agrees s m
   fits-close (healing place) = fits-heal place
 
 -- a state behind changes of no server
-pub agrees-none : {s t : State} {more slot : ℕ} {runs : Bool} → capacityOf t ≡ capacityOf s → SettledIn t → length (t .queue) ≡ length (s .queue) + more
+pub agrees-none : {s t : State} {more slot : ℕ} {runs : Bool} → capacityOf t ≡ capacityOf s → SettledIn t
+    → length (t .queue) ≡ length (s .queue) + more
     → t .servers ≡ s .servers → length (s .servers) ≤ slot → Agrees s more slot runs t
 unfolding flagsOf
 agrees-none {s} {t} {more} {slot} {runs} c p q e l = record {

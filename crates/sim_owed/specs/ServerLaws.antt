@@ -1,22 +1,19 @@
 -- What the proofs of lib.rt and servers.rt cite, and moves behind changes. Assumes nothing.
 use mathlib.Core.Path.{_≡_, refl, sym, ap, ap₂, subst, _∙_}
-use mathlib.Core.Bool.{Bool, true, false, _&&_}
-use mathlib.Core.List.{List, [], _∷_}
-use mathlib.Core.Option.{none}
-use Prim.Native.Nat.{ℕ, zero, suc, _+_, _-_, _%_, _^_, _≤_, _<_}
+use mathlib.Core.Bool.{Bool, true, _&&_}
+use mathlib.Core.List.{List, []}
+use Prim.Native.Nat.{ℕ, zero, suc, _+_, _%_, _^_, _<_}
 use native.Mathlib.Omega.{arith}
-use lib.Dec.{eqb, ltb}
-use lib.ListN.{length, getD, drop}
+use lib.Dec.{ltb}
+use lib.ListN.{getD, drop}
 use borrow.Author.Tests.{lt-ltb, le-ltb, ltb-true, ltb-false}
-use Rattle.laws.specs.Bools.{pick, cases, _and_, allb-in, and-left, and-right, and-both, and-assoc, code-and, true-and}
-use Rattle.units.specs.declared.NodeId.{NodeId}
+use Rattle.laws.specs.Bools.{cases, _and_, allb-in, and-left, and-right, and-both, and-assoc, code-and}
 use Rattle.seeds.specs.Seeds.{streamSeed}
-use Rattle.seeds.specs.declared.Stream.{Stream}
 use Rattle.seeds.specs.declared.Stream.the-variants as stream
 use Rattle.queue.specs.Range.{word}
 use Rattle.storage.specs.Storage.{crash}
-use Rattle.model.specs.State.{State, Server, Owed, nothing, construction, healing, startInput, writing, serverAt, idOf}
-use Rattle.model.specs.Fields.{withStatus, withStorage, withIncarnation, withElection, withHeartbeat, withCrashOnNextInput, withNextApply, withPending, withLeading}
+use Rattle.model.specs.State.{State, Server, Owed, startInput, writing, serverAt, idOf}
+use Rattle.model.specs.Fields.{withStorage, withPending}
 use Rattle.model.specs.Simulation.{Moved, openStart, onServer, startServer, stopServer, restartServer}
 use Rattle.model.specs.Fits.{stateFits, serverFits, serverTests}
 use Rattle.state.specs.declared.Capacity.{Capacity}
@@ -29,14 +26,14 @@ use Rattle.state.specs.Server.{stateOfServer}
 use Rattle.state.specs.Area.{Area, capacityOf, runOf}
 use Rattle.state.specs.Fitting.{area-fits}
 use Rattle.state.specs.FitsBy.{server-fits-at}
-use Rattle.state.specs.Lens.{area-of, server-twice, server-same, ServersFit, servers-fit, server-fine, fits-on-server, servers-kept}
+use Rattle.state.specs.Lens.{area-of, server-twice, server-same, servers-fit, fits-on-server}
 use Rattle.state.specs.Changes.{AreaOf, Changes, Reads}
 use Rattle.state_header.specs.Header.{phaseOf, phaseSet, SetsPhase}
 use Rattle.state_header.specs.Laws.{fits-phase}
 use Rattle.state_server.specs.Servers.{serverStateAt, withState, serverStateSet, pendingCleared}
-use Rattle.state_server.specs.ServerLaws.{server-state-set, fits-pending-cleared}
+use Rattle.state_server.specs.ServerLaws.{server-state-set}
 use Rattle.state_disk.specs.Disks.{crashedAt}
-use Rattle.state_disk.specs.DiskLaws.{fits-crashed, kept-crashed}
+use Rattle.state_disk.specs.DiskLaws.{fits-crashed}
 use Rattle.answers.specs.declared.InputNumbers.{InputNumbers}
 use Rattle.answers.specs.Answers.{inputOf}
 use Rattle.sim_outputs.specs.declared.Sum.{Sum}
@@ -44,8 +41,7 @@ use Rattle.sim_outputs.specs.Outputs.{Sums}
 use Rattle.sim_owed.specs.declared.Owed.{Owed as OwedKind}
 use Rattle.sim_owed.specs.declared.Owed.the-variants.{Nothing, Construction, Healing}
 use Rattle.sim_owed.specs.Servers.{owedOf, kindOf, placeOf, Opens, StartsAs, startAt, stoppedState, stopAt, restartedState, Restarts, canRise, restartTest, restartAt}
-use Rattle.sim_owed.specs.Closes.{SettledIn}
-use Rattle.sim_owed.specs.Fits.{risenServer, stoppedServer, fits-risen, fits-stop, settled-fits}
+use Rattle.sim_owed.specs.Fits.{risenServer, stoppedServer, fits-risen, settled-fits}
 
 -- ---- what is owed
 
@@ -100,7 +96,8 @@ given-healing (suc zero) next h k = absurd (k refl)
 given-healing (suc (suc kind)) next h k = refl
 
 -- what is owed behind the open input of a state
-pub owed-read : (b : List ℕ) (F : Capacity) (n : OpenInput) (o : OwedKind) → Reads b F n (λ s. openOf (phaseOf s)) → owedOf o ≡ owedIn (n .owed) (n .next)
+pub owed-read : (b : List ℕ) (F : Capacity) (n : OpenInput) (o : OwedKind) → Reads b F n (λ s. openOf (phaseOf s))
+    → owedOf o ≡ owedIn (n .owed) (n .next)
     → Reads b F (owedOf o) (λ s. phaseOwed (s .phase))
 owed-read b F n o q e = record {
   to = λ s h ef. e ∙ ap (λ (x : OpenInput). owedIn (x .owed) (x .next)) (q .to s h ef) ∙ owed-back (phaseOwed (s .phase));
@@ -109,7 +106,8 @@ owed-read b F n o q e = record {
 -- ---- moves behind changes
 
 -- a move behind a change is another move, where the state after it fits
-pub opens-after : {b b₁ b₂ : List ℕ} {F : Capacity} {r : InputNumbers} (op : State → State) (move whole : State → Moved) → Changes b b₁ F op → Opens b₁ b₂ F r move
+pub opens-after : {b b₁ b₂ : List ℕ} {F : Capacity} {r : InputNumbers} (op : State → State) (move whole : State → Moved) → Changes b b₁ F op
+    → Opens b₁ b₂ F r move
     → ((s : State) → Area b s → F ≡ capacityOf s → stateFits (whole s .state) ≡ true → (move (op s) ≡ whole s) × (stateFits (op s) ≡ true))
     → Opens b b₂ F r whole
 opens-after {b} {b₁} {b₂} {F} {r} op move whole p q g = record {
@@ -122,7 +120,8 @@ opens-after {b} {b₁} {b₂} {F} {r} op move whole p q g = record {
   input = λ s a ef t.
       let k = g s a ef t in
       let h : AreaOf b₁ (drop (bytesOf F) b) F (op s) = p .to s (drop (bytesOf F) b) (area-of a ef) (k .1) in
-      q .input (op s) (h .area) (h .capacity) (ap (λ (m : Moved). stateFits (m .state)) (k .0) ∙ t) ∙ ap (λ (m : Moved). inputOf (m .opening)) (k .0);
+      q .input (op s) (h .area) (h .capacity) (ap (λ (m : Moved). stateFits (m .state)) (k .0) ∙ t)
+      ∙ ap (λ (m : Moved). inputOf (m .opening)) (k .0);
 }
 
 -- a move that is another on every state that fits
@@ -147,18 +146,23 @@ starting-is slot kind place o ek ep =
     ap₂ (λ (k p : ℕ). numbers k p) (ek ∙ kind-is o) (ep ∙ place-is o)
   where
     numbers : ℕ → ℕ → OpenInput
-    numbers k p = record { phase = 1; slot = slot; input = 0; client = 0; seq = 0; attempt = 0; verdict = 0; leader = 0; owed = k; next = p }
+    numbers k p =
+        record { phase = 1; slot = slot; input = 0; client = 0; seq = 0; attempt = 0; verdict = 0; leader = 0; owed = k; next = p }
 
-pub starts-as : (seed slot incarnation own : ℕ) (r : InputNumbers) → own ≡ streamSeed seed (stream.Server (record { 0 = slot + 1 }) (incarnation % 4294967296))
+pub starts-as : (seed slot incarnation own : ℕ) (r : InputNumbers)
+    → own ≡ streamSeed seed (stream.Server (record { 0 = slot + 1 }) (incarnation % 4294967296))
     → r ≡ inputOf (openStart (record { 0 = slot + 1 }) incarnation own) → StartsAs seed slot incarnation r
 starts-as seed slot incarnation own r eo er = record {
   is = λ l.
       let m : incarnation % 4294967296 ≡ incarnation = omega arith in
-      er ∙ ap (λ (x : ℕ). inputOf (openStart (idOf slot) incarnation x)) (eo ∙ ap (λ (n : ℕ). streamSeed seed (stream.Server (idOf slot) n)) m);
+      er
+      ∙ ap (λ (x : ℕ). inputOf (openStart (idOf slot) incarnation x)) (eo ∙ ap (λ (n : ℕ). streamSeed seed (stream.Server (idOf slot) n)) m);
 }
 
-pub started : (b b′ : List ℕ) (F : Capacity) (slot : ℕ) (o : Owed) (x : ServerState) (run : Run) (n : OpenInput) (r : InputNumbers) → slot < F .servers
-    → Reads b F x (serverStateAt slot) → Reads b F run runOf → n ≡ openOf (writing slot startInput o) → SetsPhase b b′ F n → StartsAs (run .seed) slot (x .incarnation) r
+pub started : (b b′ : List ℕ) (F : Capacity) (slot : ℕ) (o : Owed) (x : ServerState) (run : Run) (n : OpenInput) (r : InputNumbers)
+    → slot < F .servers
+    → Reads b F x (serverStateAt slot) → Reads b F run runOf → n ≡ openOf (writing slot startInput o) → SetsPhase b b′ F n
+    → StartsAs (run .seed) slot (x .incarnation) r
     → Opens b b′ F r (startAt slot o)
 unfolding startAt startServer phaseSet serverStateAt
 started b b′ F slot o x run n r i qx qr en p k = record {
@@ -204,7 +208,8 @@ module _ (s : State) (k : ℕ) (f : stateFits s ≡ true) (i : k < s .config .se
       ∙ server-twice s k (λ v. withStorage (withState (stoppedState (stateOfServer (serverAt s k))) v) (crash (v .storage))) (λ v. withPending v [])
       ∙ server-same s k (λ v. withPending (withStorage (withState (stoppedState (stateOfServer (serverAt s k))) v) (crash (v .storage))) []) stoppedServer refl
 
-pub server-stopped : (b b₁ b₂ b₃ : List ℕ) (F : Capacity) (k : ℕ) (x y : ServerState) → k < F .servers → Reads b F x (serverStateAt k) → y ≡ stoppedState x
+pub server-stopped : (b b₁ b₂ b₃ : List ℕ) (F : Capacity) (k : ℕ) (x y : ServerState) → k < F .servers → Reads b F x (serverStateAt k)
+    → y ≡ stoppedState x
     → Changes b b₁ F (serverStateSet k y) → Changes b₁ b₂ F (crashedAt k) → Changes b₂ b₃ F (pendingCleared k) → Changes b b₃ F (stopAt k)
 unfolding serverStateAt halted
 server-stopped b b₁ b₂ b₃ F k x y i qx ey p₁ p₂ p₃ = record {
@@ -233,7 +238,8 @@ rise-tests n e h =
     (λ t. t ∙ sym (lt-ltb (n + 1) (2 ^ 32) (omega (arith, ltb-true n 4294967295 t))))
     (λ t. t ∙ sym (le-ltb (n + 1) (2 ^ 32) (omega (arith, ltb-false n 4294967295 t)))))
 
-pub restart-asked : (b : List ℕ) (F : Capacity) (slot : ℕ) (x : ServerState) (e h : Sum) → Reads b F x (serverStateAt slot) → Sums (x .election) 1 e → Sums (x .heartbeat) 1 h
+pub restart-asked : (b : List ℕ) (F : Capacity) (slot : ℕ) (x : ServerState) (e h : Sum) → Reads b F x (serverStateAt slot)
+    → Sums (x .election) 1 e → Sums (x .heartbeat) 1 h
     → Reads b F ((ltb (x .incarnation) 4294967295 && e .fits) && h .fits) (restartTest slot)
 unfolding serverStateAt restartTest canRise
 restart-asked b F slot x e h q qe qh = record {
@@ -271,7 +277,8 @@ restart-start : (s : State) (k : ℕ) (o : Owed) → startAt k o (onServer s k r
 unfolding startAt restartAt restartServer
 restart-start s k o = refl
 
-pub server-restarted : (b b₁ b₂ : List ℕ) (F : Capacity) (k : ℕ) (o : Owed) (x y : ServerState) (r : InputNumbers) → k < F .servers → Reads b F x (serverStateAt k) → Restarts x y
+pub server-restarted : (b b₁ b₂ : List ℕ) (F : Capacity) (k : ℕ) (o : Owed) (x y : ServerState) (r : InputNumbers) → k < F .servers
+    → Reads b F x (serverStateAt k) → Restarts x y
     → Changes b b₁ F (serverStateSet k y) → Opens b₁ b₂ F r (startAt k o) → Opens b b₂ F r (restartAt k o)
 unfolding serverStateAt
 server-restarted b b₁ b₂ F k o x y r i qx qy p q =

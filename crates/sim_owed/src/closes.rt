@@ -134,7 +134,7 @@ fn uncrashed(x: ServerState) -> ServerState
     }
 }
 
-// A server's crash flag is cleared; told is whether it runs.
+// A server's crash flag is cleared; the answer is whether it runs.
 fn heal_one(area: &mut [u8], f: Capacity, place: u64) -> bool
     requires { ⌜ Inside (now area) f ⌝ }
     requires { ⌜ place < f .servers ⌝ }

@@ -1,21 +1,19 @@
 -- What the proofs of cuts.rt cite, and question 10 of a cut. Assumes nothing.
 use mathlib.Core.Path.{_≡_, refl, sym, ap, ap₂, subst, _∙_}
 use mathlib.Core.Bool.{Bool, true, false, _&&_}
-use mathlib.Core.List.{List, [], map}
-use mathlib.Core.Option.{none}
-use Prim.Native.Nat.{ℕ, suc, _+_, _≤_, _<_}
+use mathlib.Core.List.{List, map}
+use Prim.Native.Nat.{ℕ, _+_, _≤_, _<_}
 use native.Mathlib.Omega.{arith}
 use lib.ListN.{length, set}
-use Rattle.laws.specs.Bools.{pick, cases, _and_, and-left, and-right, and-both, and-true, true-and, code-and}
-use Rattle.laws.specs.Lists.{modify, isSome}
+use Rattle.laws.specs.Bools.{pick, cases, _and_, and-true, code-and}
+use Rattle.laws.specs.Lists.{isSome}
 use Rattle.laws.specs.Order.{numbers, pairs, removeBy}
 use Rattle.laws.specs.OrderLaws.{length-push}
 use Rattle.client.specs.Key.{keyOf}
 use Rattle.queue.specs.Queue.{timeOf, push}
-use Rattle.queue.specs.declared.Event.{Event}
-use Rattle.model.specs.State.{State, Server, Input, Verdict, Owed, sending, serverAt}
+use Rattle.model.specs.State.{State, Server, Input, Verdict, Owed, sending}
 use Rattle.model.specs.Fields.{withPending}
-use Rattle.model.specs.Simulation.{Moved, redirect, stopServer, closeInput, cutInput}
+use Rattle.model.specs.Simulation.{stopServer, closeInput, cutInput}
 use Rattle.model.specs.Fits.{stateFits, phaseFits}
 use Rattle.state.specs.declared.Capacity.{Capacity}
 use Rattle.state.specs.declared.OpenInput.{OpenInput}
@@ -23,8 +21,8 @@ use Rattle.state.specs.Parts.{openOf, owedIn, owed-back}
 use Rattle.state.specs.Area.{Area, capacityOf}
 use Rattle.state.specs.Fitting.{area-fits}
 use Rattle.state.specs.FitsBy.{fits-test}
-use Rattle.state.specs.Lens.{ServersFit, ServersIn, servers-fit}
-use Rattle.state.specs.Changes.{AreaOf, Changes, Reads}
+use Rattle.state.specs.Lens.{servers-fit}
+use Rattle.state.specs.Changes.{Changes, Reads}
 use Rattle.state_server.specs.Servers.{forgotten}
 use Rattle.state_server.specs.ServerLaws.{kept-forgotten}
 use Rattle.answers.specs.declared.InputNumbers.{InputNumbers}
@@ -33,10 +31,11 @@ use Rattle.sim_replies.specs.Laws.{network-fits}
 use Rattle.sim_replies.specs.RedirectLaws.{keyIn, redirectEvent, redirected-none, redirected-told, redirected-is, redirected-both, fits-redirect}
 use Rattle.sim_owed.specs.declared.Owed.{Owed as OwedKind}
 use Rattle.sim_owed.specs.Servers.{owedOf, Opens, stopAt, canRise}
-use Rattle.sim_owed.specs.Closes.{closeAt, closeTest, flagsOf, Settled, SettledIn, Agrees}
+use Rattle.sim_owed.specs.Closes.{closeAt, closeTest, flagsOf, SettledIn, Agrees}
 use Rattle.sim_owed.specs.Fits.{map-kept, map-set, stoppedServer, fits-stop, kept-stop, fits-close, before-close}
 use Rattle.sim_owed.specs.ServerLaws.{opens-after}
 use Rattle.state_queue.specs.Events.{queueRoom}
+use Rattle.sim_seal_sync.specs.Laws.{swapped}
 use Rattle.sim_seal.specs.Cuts.{cutAt, cutTest}
 
 -- ---- the state in which a cut goes on
@@ -110,13 +109,6 @@ room-stopped : (o : OpenInput) (s : State) (slot : ℕ) → redirectTest o (stop
 unfolding redirectTest tellTest arrivalTime queueRoom stopAt stopServer
 room-stopped o s slot = refl
 
-swapped : (t u : Bool) → (t and u) ≡ (u and t)
-unfolding _and_
-swapped true true = refl
-swapped true false = refl
-swapped false true = refl
-swapped false false = refl
-
 module _ (s : State) (slot : ℕ) (input : Input) (verdict : Verdict) (owed : Owed) where
   abbrev o : OpenInput
   o = openOf (sending slot input verdict owed)
@@ -151,7 +143,8 @@ unfolding redirectCount
 redirect-few o r e = cases (refusesClient o)
     (λ t. let z : r ≡ 1 = e ∙ ap (λ (u : Bool). pick u 1 0) t in omega arith) (λ t. let z : r ≡ 0 = e ∙ ap (λ (u : Bool). pick u 1 0) t in omega arith)
 
-pub cut-asked : (b : List ℕ) (F : Capacity) (o : OpenInput) (w : OwedKind) (more : ℕ) (t u : Bool) → owedOf w ≡ owedIn (o .owed) (o .next) → more ≡ redirectCount o
+pub cut-asked : (b : List ℕ) (F : Capacity) (o : OpenInput) (w : OwedKind) (more : ℕ) (t u : Bool) → owedOf w ≡ owedIn (o .owed) (o .next)
+    → more ≡ redirectCount o
     → Reads b F t (redirectTest o) → Reads b F u (closeTest (owedOf w) more (o .slot) false) → Reads b F (t && u) (cutTest o)
 unfolding cutTest
 cut-asked b F o w more t u ew em qt qu = record {
@@ -160,7 +153,8 @@ cut-asked b F o w more t u ew em qt qu = record {
       ∙ ap₂ (λ (x y : Bool). x and y) (qt .to s h ef) (qu .to s h ef ∙ ap₂ (λ (x : Owed) (n : ℕ). closeTest x n (o .slot) false s) ew em);
 }
 
-pub cut-done : (b b₁ b₂ b₃ : List ℕ) (F : Capacity) (o : OpenInput) (w : OwedKind) (r : InputNumbers) → o .slot < F .servers → owedOf w ≡ owedIn (o .owed) (o .next)
+pub cut-done : (b b₁ b₂ b₃ : List ℕ) (F : Capacity) (o : OpenInput) (w : OwedKind) (r : InputNumbers) → o .slot < F .servers
+    → owedOf w ≡ owedIn (o .owed) (o .next)
     → Changes b b₁ F (stopAt (o .slot)) → Changes b₁ b₂ F (redirected o) → Opens b₂ b₃ F r (closeAt (owedOf w)) → Opens b b₃ F r (cutAt o)
 unfolding cutAt
 cut-done b b₁ b₂ b₃ F o w r i ew p q c =

@@ -2,34 +2,31 @@
 use mathlib.Core.Path.{_≡_, refl, sym, ap, ap₂, subst, _∙_}
 use mathlib.Core.Bool.{Bool, true, false, _&&_, _||_}
 use mathlib.Core.List.{List}
-use Prim.Native.Nat.{ℕ, zero, suc, _+_, _^_, _≤_, _<_}
+use Prim.Native.Nat.{ℕ, zero, suc, _^_, _≤_, _<_}
 use native.Mathlib.Omega.{arith}
-use lib.Dec.{leb, ltb, eqb}
-use borrow.Author.Tests.{eq-eqb, ne-eqb, eqb-true, lt-ltb, ltb-true, leb-true, lt-leb}
+use lib.Dec.{leb, eqb}
+use borrow.Author.Tests.{eq-eqb, ne-eqb, lt-ltb, ltb-true, lt-leb}
 use mir.Syntax.{w64}
 use mir.Val.{Fits}
-use Rattle.laws.specs.Bools.{pick, pick-both, cases, _and_, and-left, and-right, and-both, and-true, true-and, code-and, and-assoc}
+use Rattle.laws.specs.Bools.{pick, pick-both, cases, _and_, and-left, and-right, and-both, code-and, and-assoc}
 use Rattle.laws.specs.Decides.{false-true}
 use Rattle.units.specs.declared.NodeOption.{NodeOption}
-use Rattle.units.specs.declared.NodeOption.the-variants.{None, Some}
 use Rattle.queue.specs.Range.{word}
-use Rattle.storage.specs.Storage.{unsynced}
-use Rattle.model.specs.State.{State, direct, fromClient, Input, startInput, messageInput, timerInput, proposeInput, confirmInput, Verdict, accepted, notLeader, Owed, Phase, closed, writing, sending, serverAt}
-use Rattle.model.specs.Simulation.{noInput, cutInput, syncInput}
-use Rattle.model.specs.Calls.{Out, refused, done, ask, isFlag, nodeOption, whileWriting, Sealing, synced, nothingToSync, cut, sealingNumber, Sealed, canBeRefused, verdictOf, sealed, seal}
+use Rattle.model.specs.State.{State, direct, fromClient, Input, startInput, messageInput, timerInput, proposeInput, confirmInput, Verdict, accepted, notLeader, Owed, Phase, closed, writing, sending}
+use Rattle.model.specs.Simulation.{noInput}
+use Rattle.model.specs.Calls.{Out, refused, done, ask, isFlag, nodeOption, whileWriting, synced, nothingToSync, cut, sealingNumber, canBeRefused, verdictOf, sealed, seal}
 use Rattle.model.specs.Fits.{stateFits, nodeFits, verdictFits, phaseFits}
 use Rattle.state.specs.declared.Capacity.{Capacity}
 use Rattle.state.specs.declared.Gate.{Gate}
 use Rattle.state.specs.declared.OpenInput.{OpenInput}
 use Rattle.state.specs.declared.ServerState.{ServerState}
-use Rattle.state.specs.Parts.{openOf, phaseKind, phaseSlot, phaseInput, inputKind, verdictKind, verdictNumber}
-use Rattle.state.specs.Area.{Area, capacityOf}
+use Rattle.state.specs.Parts.{openOf, phaseKind, inputKind, verdictKind, verdictNumber}
 use Rattle.state.specs.Decode.{decode}
 use Rattle.state.specs.EncodeLaws.{area-decode}
 use Rattle.state.specs.Fitting.{area-fits, laid-limits}
 use Rattle.state.specs.FitsBy.{fits-test}
 use Rattle.state.specs.Call.{call}
-use Rattle.state.specs.Changes.{Inside, Gated, Changes, Reads, Planned, judged}
+use Rattle.state.specs.Changes.{Gated, Reads, Planned, judged}
 use Rattle.state.specs.Exits.{call-refused, call-done}
 use Rattle.state_header.specs.Header.{phaseOf}
 use Rattle.state_server.specs.Servers.{serverStateAt}
@@ -37,7 +34,7 @@ use Rattle.state_disk.specs.declared.SyncTold.{SyncTold}
 use Rattle.state_disk.specs.Disks.{unsyncedAt}
 use Rattle.answers.specs.declared.InputNumbers.{InputNumbers}
 use Rattle.answers.specs.declared.SealedAnswer.{SealedAnswer}
-use Rattle.answers.specs.Answers.{inputOf, noInputNumbers, sealedNo, sealedOf, sealedYes}
+use Rattle.answers.specs.Answers.{noInputNumbers, sealedNo, sealedOf, sealedYes}
 use Rattle.sim_outputs.specs.Outputs.{Passed, outputCode}
 use Rattle.sim_outputs.specs.Laws.{sender-read}
 use Rattle.sim_owed.specs.Servers.{Opens}
@@ -46,7 +43,7 @@ use Rattle.sim_seal_sync.specs.Laws.{fits-sync, sync-is}
 use Rattle.sim_seal.specs.declared.SealPlan.{SealPlan}
 use Rattle.sim_seal.specs.Cuts.{cutAt, cutTest}
 use Rattle.sim_seal.specs.CutLaws.{fits-cut, cut-is}
-use Rattle.sim_seal.specs.Seals.{givenKind, givenLeader, sealedNumbers, argsGiven, crashesAt, sealingAt, outcomeAt, sealTest, SyncPlanned, SealPlanned}
+use Rattle.sim_seal.specs.Seals.{givenKind, givenLeader, sealedNumbers, argsGiven, crashesAt, sealingAt, outcomeAt, sealTest, SealPlanned}
 
 -- ---- the verdict in numbers
 
@@ -62,21 +59,26 @@ pub kind-unnamed : (refusal present : ℕ) → refusal ≡ 1 → (present ≡ 1 
 unfolding givenKind
 kind-unnamed refusal present e p = sym (ap₂ (λ (t u : Bool). pick t (pick u 2 1) 0) (eq-eqb refusal 1 e) (ne-eqb present 1 p))
 
-pub leader-named : (refusal present leader kind : ℕ) → kind ≡ givenKind refusal present → kind ≡ 2 → leader ≡ givenLeader refusal present leader
+pub leader-named : (refusal present leader kind : ℕ) → kind ≡ givenKind refusal present → kind ≡ 2
+    → leader ≡ givenLeader refusal present leader
 unfolding givenLeader
 leader-named refusal present leader kind e t = sym (ap (λ (u : Bool). pick u leader 0) (eq-eqb (givenKind refusal present) 2 (sym e ∙ t)))
 
-pub leader-none : (refusal present leader kind : ℕ) → kind ≡ givenKind refusal present → (kind ≡ 2 → ⊥) → 0 ≡ givenLeader refusal present leader
+pub leader-none : (refusal present leader kind : ℕ) → kind ≡ givenKind refusal present → (kind ≡ 2 → ⊥)
+    → 0 ≡ givenLeader refusal present leader
 unfolding givenLeader
-leader-none refusal present leader kind e t = sym (ap (λ (u : Bool). pick u leader 0) (ne-eqb (givenKind refusal present) 2 (λ z. t (e ∙ z))))
+leader-none refusal present leader kind e t =
+    sym (ap (λ (u : Bool). pick u leader 0) (ne-eqb (givenKind refusal present) 2 (λ z. t (e ∙ z))))
 
-pub sealing-is : (n : OpenInput) (refusal present leader kind named : ℕ) → kind ≡ givenKind refusal present → named ≡ givenLeader refusal present leader
+pub sealing-is : (n : OpenInput) (refusal present leader kind named : ℕ) → kind ≡ givenKind refusal present
+    → named ≡ givenLeader refusal present leader
     → record { phase = 2; slot = n .slot; input = n .input; client = n .client; seq = n .seq; attempt = n .attempt; verdict = kind; leader = named; owed = n .owed; next = n .next } ≡ sealedNumbers n refusal present leader
 unfolding sealedNumbers
 sealing-is n refusal present leader kind named ek en = rw (ek, en)
 
 -- the numbers are those of the definition's verdict
-verdict-is : (refusal present leader : ℕ) → (verdictKind (verdictOf refusal present leader) ≡ givenKind refusal present) × (verdictNumber (verdictOf refusal present leader) ≡ givenLeader refusal present leader)
+verdict-is : (refusal present leader : ℕ)
+    → (verdictKind (verdictOf refusal present leader) ≡ givenKind refusal present) × (verdictNumber (verdictOf refusal present leader) ≡ givenLeader refusal present leader)
 unfolding givenKind givenLeader
 verdict-is refusal present leader =
     cases (eqb refusal 1)
@@ -97,7 +99,8 @@ either (suc zero) u = refl
 either (suc (suc n)) u =
     rw (ne-eqb (suc (suc n)) 0 (λ e. omega arith), ne-eqb (suc (suc n)) 1 (λ e. omega arith), lt-leb (suc (suc n)) 1 (omega arith)) refl
 
-pub args-given : (input refusal present : ℕ) → (eqb refusal 0 || ((eqb refusal 1 && leb present 1) && leb 3 input)) ≡ argsGiven input refusal present
+pub args-given : (input refusal present : ℕ)
+    → (eqb refusal 0 || ((eqb refusal 1 && leb present 1) && leb 3 input)) ≡ argsGiven input refusal present
 unfolding argsGiven
 args-given input refusal present =
     ap (λ (t : Bool). eqb refusal 0 || t)
@@ -114,7 +117,8 @@ refused-from (proposeInput direct) = refl
 refused-from (proposeInput (fromClient c seq attempt)) = refl
 refused-from confirmInput = refl
 
-pub crashes-read : (b : List ℕ) (F : Capacity) (slot : ℕ) (x : ServerState) → Reads b F x (serverStateAt slot) → Reads b F (x .«crash_on_next_input») (crashesAt slot)
+pub crashes-read : (b : List ℕ) (F : Capacity) (slot : ℕ) (x : ServerState) → Reads b F x (serverStateAt slot)
+    → Reads b F (x .«crash_on_next_input») (crashesAt slot)
 unfolding serverStateAt crashesAt
 crashes-read b F slot x q = record { to = λ s h ef. ap (λ (y : ServerState). y .«crash_on_next_input») (q .to s h ef) }
 
@@ -143,25 +147,30 @@ module _ (b : List ℕ) (F : Capacity) (o : OpenInput) (cuts r : Bool) where
 -- ---- the plan
 
 -- the open input's server is in the cluster
-pub open-below : (b : List ℕ) (F : Capacity) (n o : OpenInput) (refusal present leader : ℕ) → Passed b F → Reads b F n (λ s. openOf (phaseOf s))
+pub open-below : (b : List ℕ) (F : Capacity) (n o : OpenInput) (refusal present leader : ℕ) → Passed b F
+    → Reads b F n (λ s. openOf (phaseOf s))
     → o ≡ sealedNumbers n refusal present leader → o .slot < F .servers
 unfolding sealedNumbers
-open-below b F n o refusal present leader q r e = subst (λ (k : ℕ). k < F .servers) (sym (ap (λ (x : OpenInput). x .slot) e)) (sender-read b F n q r .below)
+open-below b F n o refusal present leader q r e =
+    subst (λ (k : ℕ). k < F .servers) (sym (ap (λ (x : OpenInput). x .slot) e)) (sender-read b F n q r .below)
 
 -- an input that is refused may be, and any leader may be named
-verdict-fits : (s : State) (input : Input) (refusal present leader : ℕ) → word leader ≡ true → argsGiven (inputKind input) refusal present ≡ true
+verdict-fits : (s : State) (input : Input) (refusal present leader : ℕ) → word leader ≡ true
+    → argsGiven (inputKind input) refusal present ≡ true
     → verdictFits (s .config) (s .limits) input (verdictOf refusal present leader) ≡ true
 unfolding argsGiven
 verdict-fits s input refusal present leader w a =
     cases (eqb refusal 1)
     (λ t.
     let may : canBeRefused input ≡ true =
-    sym (refused-from input) ∙ and-right (isFlag present) (leb 3 (inputKind input)) (sym (ap (λ (u : Bool). pick u (isFlag present and leb 3 (inputKind input)) true) t) ∙ and-right _ _ a) in
+    sym (refused-from input)
+    ∙ and-right (isFlag present) (leb 3 (inputKind input)) (sym (ap (λ (u : Bool). pick u (isFlag present and leb 3 (inputKind input)) true) t) ∙ and-right _ _ a) in
     ap (λ (u : Bool). verdictFits (s .config) (s .limits) input (pick u (notLeader (nodeOption present leader)) accepted)) t
     ∙ by input may (nodeOption present leader) (pick-both (λ h. nodeFits h ≡ true) (eqb present 1) w refl))
     (λ t. ap (λ (u : Bool). verdictFits (s .config) (s .limits) input (pick u (notLeader (nodeOption present leader)) accepted)) t)
   where
-    by : (input : Input) → canBeRefused input ≡ true → (hint : NodeOption) → nodeFits hint ≡ true → verdictFits (s .config) (s .limits) input (notLeader hint) ≡ true
+    by : (input : Input) → canBeRefused input ≡ true → (hint : NodeOption) → nodeFits hint ≡ true
+        → verdictFits (s .config) (s .limits) input (notLeader hint) ≡ true
     by startInput m hint h = absurd (false-true m)
     by messageInput m hint h = absurd (false-true m)
     by timerInput m hint h = absurd (false-true m)
@@ -265,7 +274,8 @@ module _ (b : List ℕ) (F : Capacity) (refusal present leader : ℕ) (n o : Ope
     is-open = here ∙ ap openOf ep
 
     is-sealed : o ≡ openOf (sending slot input (verdictOf refusal present leader) owed)
-    is-sealed = eo ∙ ap (λ (x : OpenInput). sealedNumbers x refusal present leader) is-open ∙ sealed-is slot input owed refusal present leader
+    is-sealed =
+        eo ∙ ap (λ (x : OpenInput). sealedNumbers x refusal present leader) is-open ∙ sealed-is slot input owed refusal present leader
 
     slot-is : o .slot ≡ slot
     slot-is = ap (λ (x : OpenInput). x .slot) is-sealed
@@ -310,7 +320,8 @@ module _ (b : List ℕ) (F : Capacity) (refusal present leader : ℕ) (n o : Ope
   seal-planned = by (s .phase) refl
     where
       by : (p : Phase) → s .phase ≡ p → SealPlanned b F refusal present leader plan
-      by closed e = shut (ap (λ (p : Phase). whileWriting p (λ slot input owed. ask (isFlag refusal and (pick (eqb refusal 1) (isFlag present and canBeRefused input) true)) 9 (sealed s slot input owed (verdictOf refusal present leader)))) e) (λ z. let y : _≡_ {A = ℕ} 0 1 = sym (ap phaseKind e) ∙ z in omega arith)
+      by closed e =
+          shut (ap (λ (p : Phase). whileWriting p (λ slot input owed. ask (isFlag refusal and (pick (eqb refusal 1) (isFlag present and canBeRefused input) true)) 9 (sealed s slot input owed (verdictOf refusal present leader)))) e) (λ z. let y : _≡_ {A = ℕ} 0 1 = sym (ap phaseKind e) ∙ z in omega arith)
       by (writing slot input owed) e = opened slot input owed e
       by (sending slot input verdict owed) e = shut (ap (λ (p : Phase). whileWriting p (λ slot input owed. ask (isFlag refusal and (pick (eqb refusal 1) (isFlag present and canBeRefused input) true)) 9 (sealed s slot input owed (verdictOf refusal present leader)))) e) (λ z. let y : _≡_ {A = ℕ} 2 1 = sym (ap phaseKind e) ∙ z in omega arith)
 
@@ -321,7 +332,8 @@ fitting true z = refl
 fitting false z = absurd (omega arith)
 
 -- a plan for the state that lies there is one for every state that could
-planned-here : {A : Type 0} {b : List ℕ} {F : Capacity} {c : ℕ} {f : State → Out A} {a : A} (op : State → State) → c ≡ judged (f (decode b)) → (c ≡ 0 → f (decode b) ≡ done a (op (decode b))) → Planned b F c f a op
+planned-here : {A : Type 0} {b : List ℕ} {F : Capacity} {c : ℕ} {f : State → Out A} {a : A} (op : State → State) → c ≡ judged (f (decode b))
+    → (c ≡ 0 → f (decode b) ≡ done a (op (decode b))) → Planned b F c f a op
 planned-here {A} {b} {F} {c} {f} {a} op e g = record {
   code = λ s h ef. e ∙ ap (λ (u : State). judged (f u)) (area-decode h);
   gives = λ s h ef z. subst (λ (u : State). f u ≡ done a (op u)) (area-decode h) (g z);
@@ -333,7 +345,8 @@ module _ (b : List ℕ) (g : Gate) (refusal present leader : ℕ) (p : SealPlan)
       call-refused sealedNo sealedYes b (seal refusal present leader) g q y (p .code) (record { sealing = cut; opening = noInput }) (λ s. s)
       (planned-here (λ s. s) (k .code) (λ z. absurd (omega arith))) r n e
 
-  pub seal-cut : (b′ : List ℕ) (i : InputNumbers) (r : SealedAnswer) → p .code ≤ 0 → p .cuts ≡ true → Opens b b′ (g .capacity) i (cutAt (p .input)) → r ≡ sealedOf 3 i
+  pub seal-cut : (b′ : List ℕ) (i : InputNumbers) (r : SealedAnswer) → p .code ≤ 0 → p .cuts ≡ true
+      → Opens b b′ (g .capacity) i (cutAt (p .input)) → r ≡ sealedOf 3 i
       → (r, b′) ≡ call sealedNo sealedYes b (seal refusal present leader)
   unfolding judged
   seal-cut b′ i r n c o e =
@@ -344,7 +357,8 @@ module _ (b : List ℕ) (g : Gate) (refusal present leader : ℕ) (p : SealPlan)
       (planned-here (λ s. cutAt (p .input) s .state) (k .code) (λ z. gives)) b′ r n (o .changes)
       (e ∙ ap (sealedOf 3) (o .input (decode b) (q .area is) (q .capacity is) (fitting _ (sym (k .code ∙ ap judged gives) ∙ zero))))
 
-  pub seal-synced : (b′ : List ℕ) (i : InputNumbers) (r : SealedAnswer) → p .code ≤ 0 → p .cuts ≡ false → SyncsInput b b′ (g .capacity) (p .input) → i ≡ noInputNumbers → r ≡ sealedOf (p .outcome) i
+  pub seal-synced : (b′ : List ℕ) (i : InputNumbers) (r : SealedAnswer) → p .code ≤ 0 → p .cuts ≡ false
+      → SyncsInput b b′ (g .capacity) (p .input) → i ≡ noInputNumbers → r ≡ sealedOf (p .outcome) i
       → (r, b′) ≡ call sealedNo sealedYes b (seal refusal present leader)
   unfolding outcomeAt
   seal-synced b′ i r n c o ei e =

@@ -1,9 +1,8 @@
 -- What the proofs of a seal that does not cut cite, and question 10 of it. Assumes nothing.
 use mathlib.Core.Path.{_≡_, refl, sym, ap, ap₂, subst, _∙_}
 use mathlib.Core.Bool.{Bool, true, false, not, _&&_}
-use mathlib.Core.List.{List, [], _∷_}
-use mathlib.Core.Option.{Option, none, some}
-use Prim.Native.Nat.{ℕ, zero, suc, _+_, _≤_, _<_}
+use mathlib.Core.List.{List, _∷_}
+use Prim.Native.Nat.{ℕ, _+_, _≤_, _<_}
 use native.Mathlib.Numerals.{add-one}
 use native.Mathlib.Omega.{arith}
 use lib.Dec.{eqb}
@@ -11,27 +10,24 @@ use lib.ListN.{length, drop, getD, drop-of-length-le}
 use lib.Seq.{drop-cons}
 use Rattle.laws.specs.Bools.{pick, cases, _and_, and-left, and-right, and-both, and-true, true-and, code-and, every}
 use Rattle.laws.specs.Decides.{false-true}
-use Rattle.units.specs.Types.{Entry}
 use Rattle.units.specs.declared.LogIndex.{LogIndex}
 use Rattle.units.specs.declared.SimTime.{SimTime}
 use Rattle.metrics.specs.Metrics.{recordSync, noneCounted, countersFit, metricsFit, counted}
 use Rattle.metrics.specs.declared.Metrics.{Metrics}
 use Rattle.metrics.specs.declared.Counted.{Counted}
-use Rattle.log.specs.Log.{Log, entryAt}
-use Rattle.storage.specs.Storage.{Write, writeHardState, writePut, writeTruncate, putIndex, written, sync, unsynced, unsyncedBytes}
+use Rattle.log.specs.Log.{entryAt}
+use Rattle.storage.specs.Storage.{Write, writeHardState, writePut, writeTruncate, putIndex, written, unsynced, unsyncedBytes}
 use Rattle.storage.specs.Waiting.{nothing}
-use Rattle.checks.specs.Checks.{Checker, onWrite, onWrites}
+use Rattle.checks.specs.Checks.{onWrite}
 use Rattle.checks_on_write.specs.declared.WriteAsked.{WriteAsked}
 use Rattle.checks_on_write.specs.declared.WritesAsked.{WritesAsked}
 use Rattle.checks_on_write.specs.OnWrites.{writeIndex, indexOf}
 use Rattle.model.specs.State.{State, Phase, Input, Verdict, Owed, sending, serverAt}
-use Rattle.model.specs.Fields.{withChecker, withMetrics, withPhase, withStorage}
-use Rattle.model.specs.Simulation.{onServer, syncInput}
+use Rattle.model.specs.Simulation.{syncInput}
 use Rattle.model.specs.Fits.{stateFits, checkerFits, phaseFits}
 use Rattle.state.specs.declared.Capacity.{Capacity}
 use Rattle.state.specs.declared.OpenInput.{OpenInput}
 use Rattle.state.specs.declared.Run.{Run}
-use Rattle.state.specs.Parts.{openOf}
 use Rattle.state.specs.Area.{Area, capacityOf, runOf}
 use Rattle.state.specs.Fitting.{area-fits}
 use Rattle.state.specs.FitsBy.{fits-test}
@@ -45,7 +41,6 @@ use Rattle.state_disk.specs.Disks.{unsyncedAt, syncedAt, SyncsAt}
 use Rattle.state_disk.specs.DiskLaws.{fits-synced}
 use Rattle.state_checks.specs.Checked.{entryOf}
 use Rattle.state_checks.specs.Acts.{ChangesWhere, WriteFlags, writeChecked}
-use Rattle.state_checks.specs.ActLaws.{before-write}
 use Rattle.state_checks.specs.FitLaws.{fits-checks}
 use Rattle.state_checks.specs.LoopLaws.{writesChecked, writes-done, writes-turn, before-writes}
 use Rattle.state_asks.specs.Asks.{Asks, logOf, waitingOf, writeCountOf, writtenIndexOf, writeAskedOf, afterWrites, checkerCode, WritesTold}
@@ -53,8 +48,10 @@ use Rattle.sim_seal_sync.specs.Syncs.{writeCheckedAt, restChecked, write
 
 -- ---- a written index
 
-pub write-checked : (b b′ : List ℕ) (F : Capacity) (k i : ℕ) (run : Run) (index : LogIndex) (asked : WriteAsked) → Reads b F run runOf → Reads b F index (writtenIndexOf k i)
-    → Reads b F asked (writeAskedOf k index) → ChangesWhere b b′ F (WriteFlags asked k index) (writeChecked k (run .now) index) → Changes b b′ F (writeCheckedAt k i)
+pub write-checked : (b b′ : List ℕ) (F : Capacity) (k i : ℕ) (run : Run) (index : LogIndex) (asked : WriteAsked) → Reads b F run runOf
+    → Reads b F index (writtenIndexOf k i)
+    → Reads b F asked (writeAskedOf k index) → ChangesWhere b b′ F (WriteFlags asked k index) (writeChecked k (run .now) index)
+    → Changes b b′ F (writeCheckedAt k i)
 unfolding writeCheckedAt WriteFlags writeAskedOf entryOf logOf
 write-checked b b′ F k i run index asked qr qi qa p = record {
   to = λ s r h t.
@@ -85,7 +82,8 @@ rest-turn k i s l =
 rest-none : (k i : ℕ) (s : State) → length (waitingOf k s) ≤ i → restChecked k i s ≡ s
 unfolding restChecked written
 rest-none k i s l =
-    ap (λ (ws : List Write). writesChecked k (s .now) (written ws) s) (drop-of-length-le (waitingOf k s) {i = i} l) ∙ writes-done k (s .now) s
+    ap (λ (ws : List Write). writesChecked k (s .now) (written ws) s) (drop-of-length-le (waitingOf k s) {i = i} l)
+    ∙ writes-done k (s .now) s
 
 rest-all : (k : ℕ) (s : State) → restChecked k 0 s ≡ writesCheckedAt k s
 unfolding restChecked writesCheckedAt writesChecked afterWrites logOf waitingOf
@@ -159,9 +157,11 @@ module _ (b : List ℕ) (F : Capacity) (k : ℕ) (told : SyncTold) (m : Metrics)
   pub count-none : not (told .wrote) ≡ true → CountsSync b F k (record { fits = true; metrics = m })
   unfolding unsyncedAt metricsOf countTest metricsAfter
   count-none w = record {
-    fits = record { to = λ s h ef. sym (ap (λ (t : Bool). pick t (countersFit (recordSync (s .metrics) (unsyncedBytes (serverAt s k .storage .waiting)))) true) (no s h ef)) };
+    fits =
+        record { to = λ s h ef. sym (ap (λ (t : Bool). pick t (countersFit (recordSync (s .metrics) (unsyncedBytes (serverAt s k .storage .waiting)))) true) (no s h ef)) };
     metrics = λ t. record {
-      to = λ s h ef. qm .to s h ef ∙ sym (ap (λ (t : Bool). pick t (recordSync (s .metrics) (unsyncedBytes (serverAt s k .storage .waiting))) (s .metrics)) (no s h ef));
+      to = λ s h ef. qm .to s h ef
+          ∙ sym (ap (λ (t : Bool). pick t (recordSync (s .metrics) (unsyncedBytes (serverAt s k .storage .waiting))) (s .metrics)) (no s h ef));
     };
   }
     where
@@ -178,7 +178,8 @@ module _ (b : List ℕ) (F : Capacity) (k : ℕ) (told : SyncTold) (m : Metrics)
     };
     metrics = λ t. record {
       to = λ s h ef.
-          ap (λ (x : Counted). x .metrics) e ∙ counted-next m (recordSync m (told .bytes)) (sym (ap (λ (x : Counted). x .fits) e) ∙ t) ∙ next s h ef
+          ap (λ (x : Counted). x .metrics) e ∙ counted-next m (recordSync m (told .bytes)) (sym (ap (λ (x : Counted). x .fits) e) ∙ t)
+          ∙ next s h ef
           ∙ sym (ap (λ (t : Bool). pick t (recordSync (s .metrics) (unsyncedBytes (serverAt s k .storage .waiting))) (s .metrics)) (yes s h ef));
     };
   }
@@ -186,19 +187,22 @@ module _ (b : List ℕ) (F : Capacity) (k : ℕ) (told : SyncTold) (m : Metrics)
       yes : (s : State) → Area b s → F ≡ capacityOf s → unsynced (serverAt s k .storage) ≡ true
       yes s h ef = sym (ap (λ (x : SyncTold). x .wrote) (qt .to s h ef)) ∙ wrote (told .wrote) w
 
-      next : (s : State) → Area b s → F ≡ capacityOf s → recordSync m (told .bytes) ≡ recordSync (s .metrics) (unsyncedBytes (serverAt s k .storage .waiting))
+      next : (s : State) → Area b s → F ≡ capacityOf s
+          → recordSync m (told .bytes) ≡ recordSync (s .metrics) (unsyncedBytes (serverAt s k .storage .waiting))
       next s h ef = ap₂ (λ (x : Metrics) (y : SyncTold). recordSync x (y .bytes)) (qm .to s h ef) (qt .to s h ef)
 
 -- ---- question 10
 
-swapped : (t u : Bool) → (t and u) ≡ (u and t)
+-- two tests in either order
+pub swapped : (t u : Bool) → (t and u) ≡ (u and t)
 unfolding _and_
 swapped true true = refl
 swapped true false = refl
 swapped false true = refl
 swapped false false = refl
 
-sync-range : (S : ℕ) (m : Metrics) (bytes : ℕ) → metricsFit S m ≡ true → metricsFit S (recordSync m bytes) ≡ countersFit (recordSync m bytes)
+sync-range : (S : ℕ) (m : Metrics) (bytes : ℕ) → metricsFit S m ≡ true
+    → metricsFit S (recordSync m bytes) ≡ countersFit (recordSync m bytes)
 unfolding metricsFit recordSync _and_
 sync-range S m bytes h =
     ap₂ (λ (t u : Bool). t and (u and countersFit (recordSync m bytes)))
@@ -216,18 +220,22 @@ module _ (s : State) (k : ℕ) (m : metricsFit (s .config .servers) (s .metrics)
   pub fits-counted : ServersFit s → k < s .config .servers → stateFits (syncCounted k s) ≡ (countTest k s and stateFits s)
   unfolding syncCounted metricsSet
   fits-counted h i =
-      fits-synced (metricsSet (metricsAfter k s) s) k h i ∙ fits-metrics s (metricsAfter k s) m ∙ ap (λ (t : Bool). t and stateFits s) metrics-range
+      fits-synced (metricsSet (metricsAfter k s) s) k h i ∙ fits-metrics s (metricsAfter k s) m
+      ∙ ap (λ (t : Bool). t and stateFits s) metrics-range
 
 module _ (s : State) (k : ℕ) (f : stateFits s ≡ true) (i : k < s .config .servers) where
   fits-written : stateFits (writesCheckedAt k s) ≡ checkerFits (s .config) (s .limits) (afterWrites k s)
   unfolding writesCheckedAt
-  fits-written = fits-checks s (afterWrites k s) (fits-test s f 13) ∙ ap (λ (t : Bool). checkerFits (s .config) (s .limits) (afterWrites k s) and t) f ∙ and-true _
+  fits-written =
+      fits-checks s (afterWrites k s) (fits-test s f 13) ∙ ap (λ (t : Bool). checkerFits (s .config) (s .limits) (afterWrites k s) and t) f
+      ∙ and-true _
 
   pub counted-after : stateFits (syncCounted k (writesCheckedAt k s)) ≡ (countTest k s and stateFits (writesCheckedAt k s))
   unfolding writesCheckedAt countTest
   counted-after = fits-counted (writesCheckedAt k s) k (fits-test s f 12) (servers-fit s f) i
 
-  pub phase-after : (p : Phase) → stateFits (syncAt k p s) ≡ (phaseFits (s .config) (s .limits) p and stateFits (syncCounted k (writesCheckedAt k s)))
+  pub phase-after : (p : Phase)
+      → stateFits (syncAt k p s) ≡ (phaseFits (s .config) (s .limits) p and stateFits (syncCounted k (writesCheckedAt k s)))
   unfolding syncAt syncCounted writesCheckedAt syncedAt metricsSet
   phase-after p = fits-phase (syncCounted k (writesCheckedAt k s)) p (fits-test s f 19)
 
@@ -238,7 +246,8 @@ module _ (s : State) (k : ℕ) (f : stateFits s ≡ true) (i : k < s .config .se
       ∙ true-and _ ∙ swapped (countTest k s) (checkerFits (s .config) (s .limits) (afterWrites k s))
 
 -- the definition's state
-pub sync-is : (s : State) (k : ℕ) (input : Input) (verdict : Verdict) (owed : Owed) → syncAt k (sending k input verdict owed) s ≡ syncInput s k input verdict owed
+pub sync-is : (s : State) (k : ℕ) (input : Input) (verdict : Verdict) (owed : Owed)
+    → syncAt k (sending k input verdict owed) s ≡ syncInput s k input verdict owed
 unfolding syncAt syncCounted writesCheckedAt syncedAt metricsSet phaseSet metricsAfter syncInput afterWrites logOf waitingOf
 sync-is s k input verdict owed = cases (unsynced (serverAt s k .storage)) (λ t. rw t refl) (λ t. rw t refl)
 
@@ -248,7 +257,8 @@ is-zero : (t : Bool) → eqb (pick t 0 10) 0 ≡ t
 is-zero true = refl
 is-zero false = refl
 
-pub sync-asked : (b : List ℕ) (F : Capacity) (k : ℕ) (asked : WritesAsked) (c : Counted) → Asks b F (WritesTold k asked) → CountsSync b F k c
+pub sync-asked : (b : List ℕ) (F : Capacity) (k : ℕ) (asked : WritesAsked) (c : Counted) → Asks b F (WritesTold k asked)
+    → CountsSync b F k c
     → Reads b F (eqb (asked .code) 0 && c .fits) (syncTest k)
 unfolding syncTest checkerCode
 sync-asked b F k asked c q p = record {
@@ -276,7 +286,8 @@ counted-synced b b₁ b₂ F k c told i q p y = record {
     set-fits : (s : State) (k : ℕ) → stateFits s ≡ true → countTest k s ≡ true → stateFits (metricsSet (metricsAfter k s) s) ≡ true
     set-fits s k f u = fits-metrics s (metricsAfter k s) (fits-test s f 12) ∙ and-both _ _ (metrics-range s k (fits-test s f 12) ∙ u) f
 
-pub input-synced : (b b₁ b₂ b₃ : List ℕ) (F : Capacity) (n : OpenInput) → n .slot < F .servers → Changes b b₁ F (writesCheckedAt (n .slot)) → Changes b₁ b₂ F (syncCounted (n .slot))
+pub input-synced : (b b₁ b₂ b₃ : List ℕ) (F : Capacity) (n : OpenInput) → n .slot < F .servers → Changes b b₁ F (writesCheckedAt (n .slot))
+    → Changes b₁ b₂ F (syncCounted (n .slot))
     → SetsPhase b₂ b₃ F n → SyncsInput b b₃ F n
 unfolding syncAt
 input-synced b b₁ b₂ b₃ F n i p q o = record {

@@ -1,10 +1,9 @@
 -- What the proofs of content.rt cite. Assumes nothing.
 use mathlib.Core.Path.{_≡_, refl, sym, ap, ap₂, subst, _∙_}
-use mathlib.Core.Bool.{Bool, true}
+use mathlib.Core.Bool.{true}
 use mathlib.Core.List.{List, [], _∷_, _++_, append-assoc, append-nil}
 use mathlib.Core.Option.{none}
 use Prim.Native.Nat.{ℕ, zero, suc, _+_, _-_, _*_, _≤_, _<_}
-use native.Mathlib.Nat.{suc-mul}
 use native.Mathlib.Numerals.{add-one}
 use native.Mathlib.Omega.{arith}
 use lib.ListN.{length, drop, length-append, length-replicate}
@@ -12,8 +11,7 @@ use lib.Seq.{sets, length-sets, drop-at}
 use Rattle.laws.specs.Bools.{_and_, and-both}
 use Rattle.words.specs.Words.{bytes, bytesOf as bytesOfNumber}
 use Rattle.words.specs.Lift.{bytes-one, length-bytes}
-use Rattle.layout.specs.Code.{zeros, flat}
-use Rattle.layout.specs.Rows.{row-end}
+use Rattle.layout.specs.Code.{zeros}
 use Rattle.rng.specs.Rng.{under}
 use Rattle.rng.specs.declared.Rng.{Rng}
 use Rattle.rng.specs.declared.Drawn.{Drawn}
@@ -41,14 +39,15 @@ use Rattle.state.specs.Exits.{inside-after}
 use Rattle.state_header.specs.Header.{workloadSet}
 use Rattle.state_header.specs.Laws.{fits-workload}
 use Rattle.sim_start.specs.Fill.{Filled, Clears, Writes}
-use Rattle.sim_start.specs.FillLaws.{filled-zeros, cleared, stored-words, writes-zeros, writes-both}
+use Rattle.sim_start.specs.FillLaws.{cleared, stored-words, writes-zeros, writes-both}
 use Rattle.sim_start.specs.Start.{countsFor, countWords, firstOffsets, lastOffsets, firstWords, headerWords, newServerWords, clientsWords, Draws, undrawn, LaysUndrawn, Lays}
-use Rattle.sim_start.specs.Words.{new-server-words, length-new-words, length-clients-words, length-targets, between, wordsOf, length-words-of, encode-undrawn}
+use Rattle.sim_start.specs.Words.{new-server-words, length-new-words, length-clients-words, between, wordsOf, length-words-of, encode-undrawn}
 use Rattle.sim_start.specs.Fits.{stream-word}
 
 -- ---- the header
 
-pub clear-stored : (b b′ : List ℕ) (F : Capacity) (n : ℕ) → Inside b F → (n ≡ areaLength (F .servers) (F .clients) (F .limits)) × (n ≤ 480931840)
+pub clear-stored : (b b′ : List ℕ) (F : Capacity) (n : ℕ) → Inside b F
+    → (n ≡ areaLength (F .servers) (F .clients) (F .limits)) × (n ≤ 480931840)
     → b′ ≡ sets b 0 (zeros (n - 0)) → Clears b b′ (bytesOf F)
 clear-stored b b′ F n i q e = subst (Clears b b′) (q .0) (cleared b b′ n (omega (arith, i .long, q .0)) e)
 
@@ -61,31 +60,37 @@ module _ (b b′ : List ℕ) (F : Capacity) where
   unfolding countWords
   counts-stored e = stored-words b b′ (bytesOf F) 0 (countWords F) (in-header 8 (omega arith)) e
 
-  pub first-offsets-stored : (z q s l r : ℕ) → Counted z (blockWords F) → Counted q (queueAt F) → Counted s (seenAt F) → Counted l (leadersAt F) → Counted r (repliesAt F)
+  pub first-offsets-stored : (z q s l r : ℕ) → Counted z (blockWords F) → Counted q (queueAt F) → Counted s (seenAt F)
+      → Counted l (leadersAt F) → Counted r (repliesAt F)
       → b′ ≡ sets b (8 * 8) (bytes (4096 ∷ 8 * z ∷ 8 * q ∷ 8 * s ∷ 8 * l ∷ 8 * r ∷ [])) → Writes b b′ (bytesOf F) 8 (firstOffsets F)
   unfolding firstOffsets
   first-offsets-stored z q s l r ez eq es el er e =
       stored-words b b′ (bytesOf F) 8 (firstOffsets F) (in-header 14 (omega arith)) (e ∙ rw (ez .is, eq .is, es .is, el .is, er .is))
 
-  pub last-offsets-stored : (c a k w n : ℕ) → Counted c (confirmationsAt F) → Counted a (appliedAt F) → Counted k (clientsAt F) → Counted w (wholeWords F)
+  pub last-offsets-stored : (c a k w n : ℕ) → Counted c (confirmationsAt F) → Counted a (appliedAt F) → Counted k (clientsAt F)
+      → Counted w (wholeWords F)
       → (n ≡ areaLength (F .servers) (F .clients) (F .limits)) × (n ≤ 480931840)
       → b′ ≡ sets b (8 * 14) (bytes (8 * c ∷ 8 * a ∷ 8 * k ∷ 8 * w ∷ n ∷ [])) → Writes b b′ (bytesOf F) 14 (lastOffsets F)
   unfolding lastOffsets
   last-offsets-stored c a k w n ec ea ek ew en e =
       stored-words b b′ (bytesOf F) 14 (lastOffsets F) (in-header 19 (omega arith)) (e ∙ rw (ec .is, ea .is, ek .is, ew .is, en .0))
 
-  pub settings-stored : (config : SimConfig) → b′ ≡ sets b (8 * 19) (bytes (settingsWords config)) → Writes b b′ (bytesOf F) 19 (settingsWords config)
+  pub settings-stored : (config : SimConfig) → b′ ≡ sets b (8 * 19) (bytes (settingsWords config))
+      → Writes b b′ (bytesOf F) 19 (settingsWords config)
   settings-stored config e = stored-words b b′ (bytesOf F) 19 (settingsWords config) (in-header 31 (omega arith)) e
 
   pub first-stored : (seed : ℕ) (w n : Rng) → w ≡ streamRng seed Workload → n ≡ streamRng seed Network
-      → b′ ≡ sets b (8 * 31) (bytes (seed ∷ 0 ∷ w .state ∷ 0 ∷ 0 ∷ 0 ∷ 0 ∷ 0 ∷ 1 ∷ 0 ∷ n .state ∷ [])) → Writes b b′ (bytesOf F) 31 (firstWords seed)
+      → b′ ≡ sets b (8 * 31) (bytes (seed ∷ 0 ∷ w .state ∷ 0 ∷ 0 ∷ 0 ∷ 0 ∷ 0 ∷ 1 ∷ 0 ∷ n .state ∷ []))
+      → Writes b b′ (bytesOf F) 31 (firstWords seed)
   unfolding firstWords
   first-stored seed w n ew en e =
       stored-words b b′ (bytesOf F) 31 (firstWords seed) (in-header 42 (omega arith))
       (e ∙ ap₂ (λ (x y : Rng). sets b 248 (bytes (seed ∷ 0 ∷ x .state ∷ 0 ∷ 0 ∷ 0 ∷ 0 ∷ 0 ∷ 1 ∷ 0 ∷ y .state ∷ []))) ew en)
 
-pub header-stored : {b b₁ b₂ b₃ b₄ b₅ : List ℕ} (F : Capacity) (config : SimConfig) (seed : ℕ) → Writes b b₁ (bytesOf F) 0 (countWords F) → Writes b₁ b₂ (bytesOf F) 8 (firstOffsets F)
-    → Writes b₂ b₃ (bytesOf F) 14 (lastOffsets F) → Writes b₃ b₄ (bytesOf F) 19 (settingsWords config) → Writes b₄ b₅ (bytesOf F) 31 (firstWords seed)
+pub header-stored : {b b₁ b₂ b₃ b₄ b₅ : List ℕ} (F : Capacity) (config : SimConfig) (seed : ℕ) → Writes b b₁ (bytesOf F) 0 (countWords F)
+    → Writes b₁ b₂ (bytesOf F) 8 (firstOffsets F)
+    → Writes b₂ b₃ (bytesOf F) 14 (lastOffsets F) → Writes b₃ b₄ (bytesOf F) 19 (settingsWords config)
+    → Writes b₄ b₅ (bytesOf F) 31 (firstWords seed)
     → Writes b b₅ (bytesOf F) 0 (headerWords F config seed)
 unfolding countWords firstOffsets lastOffsets firstWords headerWords
 header-stored F config seed p₁ p₂ p₃ p₄ p₅ = writes-both p₁ (writes-both p₂ (writes-both p₃ (writes-both p₄ p₅ refl) refl) refl) refl
@@ -93,7 +98,8 @@ header-stored F config seed p₁ p₂ p₃ p₄ p₅ = writes-both p₁ (writes-
 -- ---- the servers
 
 -- one more new server
-new-more : (F : Capacity) (n : ℕ) → newServerWords F (n + 1) ≡ newServerWords F n ++ serverCode F .enc (newServer (F .limits .«log_indexes»))
+new-more : (F : Capacity) (n : ℕ)
+    → newServerWords F (n + 1) ≡ newServerWords F n ++ serverCode F .enc (newServer (F .limits .«log_indexes»))
 unfolding newServerWords newServers
 new-more F n = ap (newServerWords F) (add-one n) ∙ sym (by n)
   where
@@ -120,7 +126,8 @@ module _ (b : List ℕ) (F : Capacity) where
     pub serving-room : (at : ℕ) → BlockAt F slot at → 8 * (at + 18) + 8 ≤ length b₁
     serving-room at q = omega (arith, q .ends, room F, p .inside .long)
 
-    pub serving-turn : (at : ℕ) (b₂ : List ℕ) → slot < F .servers → BlockAt F slot at → b₂ ≡ sets b₁ (8 * (at + 18)) (bytesOfNumber 8 1) → Serving b F b₂ (slot + 1)
+    pub serving-turn : (at : ℕ) (b₂ : List ℕ) → slot < F .servers → BlockAt F slot at → b₂ ≡ sets b₁ (8 * (at + 18)) (bytesOfNumber 8 1)
+        → Serving b F b₂ (slot + 1)
     serving-turn at b₂ k q e =
         let n : ℕ = bytesOf F in
         let Z : ℕ = blockWords F in
@@ -206,7 +213,8 @@ module _ (b : List ℕ) (F : Capacity) (g : Rng) (at : ℕ) where
         let here : clientsAt F + length (clientsWords (p .drawn)) ≡ at + c * 8 =
         omega (arith, length-clients-words (p .drawn), p .count, q .is) in
         let first : drawTargets S (F .clients - c) next .clients ≡ x ∷ drawTargets S left (d .next) .clients =
-        ap (λ (m : ℕ). drawTargets S m next .clients) more ∙ ap (λ (y : Drawn). newClient (y .value) ∷ drawTargets S left (y .next) .clients) (sym (ed .0)) in
+        ap (λ (m : ℕ). drawTargets S m next .clients) more
+        ∙ ap (λ (y : Drawn). newClient (y .value) ∷ drawTargets S left (y .next) .clients) (sym (ed .0)) in
         record {
           inside = inside-after b₁ b₂ F (p .inside) l;
           begins = q;
@@ -240,7 +248,8 @@ module _ (config : SimConfig) (limits : Limits) (seed : ℕ) where
   abbrev g : Rng
   g = streamRng seed Workload
 
-  filled-area : {b r : List ℕ} → Filled b r (bytesOf F) (wordsOf config limits seed) → stateFits (undrawn config limits seed) ≡ true → AreaOf b r F (undrawn config limits seed)
+  filled-area : {b r : List ℕ} → Filled b r (bytesOf F) (wordsOf config limits seed) → stateFits (undrawn config limits seed) ≡ true
+      → AreaOf b r F (undrawn config limits seed)
   unfolding undrawn unstarted
   filled-area {b} {r} h t =
       let n : ℕ = bytesOf F in
@@ -249,14 +258,18 @@ module _ (config : SimConfig) (limits : Limits) (seed : ℕ) where
       let s : State = undrawn config limits seed in
       let long : length ws ≡ w = length-words-of config limits seed in
       let is : b ≡ encode s ++ r =
-      h .is ∙ ap (λ (k : ℕ). bytes ws ++ (zeros (n - 8 * k) ++ r)) long ∙ sym (append-assoc (bytes ws) (zeros (n - 8 * w)) r) ∙ ap (λ (l : List ℕ). l ++ r) (sym (encode-undrawn config limits seed)) in
+      h .is ∙ ap (λ (k : ℕ). bytes ws ++ (zeros (n - 8 * k) ++ r)) long ∙ sym (append-assoc (bytes ws) (zeros (n - 8 * w)) r)
+      ∙ ap (λ (l : List ℕ). l ++ r) (sym (encode-undrawn config limits seed)) in
       let size : length (encode s) ≡ n =
-      ap length (encode-undrawn config limits seed) ∙ length-append (bytes ws) (zeros (n - 8 * w)) ∙ ap₂ (λ (j k : ℕ). j + k) (length-bytes ws ∙ ap (λ (k : ℕ). 8 * k) long) (length-replicate {A = ℕ} (n - 8 * w) 0)
+      ap length (encode-undrawn config limits seed) ∙ length-append (bytes ws) (zeros (n - 8 * w))
+      ∙ ap₂ (λ (j k : ℕ). j + k) (length-bytes ws ∙ ap (λ (k : ℕ). 8 * k) long) (length-replicate {A = ℕ} (n - 8 * w) 0)
       ∙ (let e : 8 * w + (n - 8 * w) ≡ n = omega (arith, room F) in e) in
       record { capacity = refl; area = subst (λ (l : List ℕ). Area l s) (sym is) (fits-area s t r); rest = ap (drop n) is ∙ drop-at (encode s) r n size }
 
-  laid : {b b₁ b₂ b₃ b₄ : List ℕ} → Clears b b₁ (bytesOf F) → Writes b₁ b₂ (bytesOf F) 0 (headerWords F config seed) → Writes b₂ b₃ (bytesOf F) 512 (newServerWords F (config .servers))
-      → Writes b₃ b₄ (bytesOf F) (clientsAt F) (clientsWords (drawTargets (config .servers) (config .clients) g .clients)) → stateFits (undrawn config limits seed) ≡ true
+  laid : {b b₁ b₂ b₃ b₄ : List ℕ} → Clears b b₁ (bytesOf F) → Writes b₁ b₂ (bytesOf F) 0 (headerWords F config seed)
+      → Writes b₂ b₃ (bytesOf F) 512 (newServerWords F (config .servers))
+      → Writes b₃ b₄ (bytesOf F) (clientsAt F) (clientsWords (drawTargets (config .servers) (config .clients) g .clients))
+      → stateFits (undrawn config limits seed) ≡ true
       → AreaOf b₄ (drop (bytesOf F) b) F (undrawn config limits seed)
   unfolding headerWords firstWords
   laid {b} {b₁} {b₂} {b₃} {b₄} c p₁ p₂ p₃ t =
@@ -271,20 +284,24 @@ module _ (config : SimConfig) (limits : Limits) (seed : ℕ) where
       writes-both p₁ (writes-both (writes-zeros b₂ n 42 470 (omega (arith, at-least F))) servers refl) refl in
       filled-area (all .to (drop n b) [] (c .filled) refl) t
 
-pub tables-laid : {b b₁ b₂ b₃ b₄ : List ℕ} (F : Capacity) (config : SimConfig) (seed : ℕ) {g r : Rng} → Clears b b₁ (bytesOf F) → Writes b₁ b₂ (bytesOf F) 0 (headerWords F config seed)
-    → Writes b₂ b₃ (bytesOf F) 512 (newServerWords F (F .servers)) → g ≡ streamRng seed Workload → Draws b₃ b₄ F g r → LaysUndrawn b b₄ F config seed r
+pub tables-laid : {b b₁ b₂ b₃ b₄ : List ℕ} (F : Capacity) (config : SimConfig) (seed : ℕ) {g r : Rng} → Clears b b₁ (bytesOf F)
+    → Writes b₁ b₂ (bytesOf F) 0 (headerWords F config seed)
+    → Writes b₂ b₃ (bytesOf F) 512 (newServerWords F (F .servers)) → g ≡ streamRng seed Workload → Draws b₃ b₄ F g r
+    → LaysUndrawn b b₄ F config seed r
 unfolding unstarted
 tables-laid {b} {b₁} {b₂} {b₃} {b₄} F config seed {g} {r} c p₁ p₂ eg d = record {
   to = λ e t.
       subst
       (λ (G : Capacity). Clears b b₁ (bytesOf G) → Writes b₁ b₂ (bytesOf G) 0 (headerWords G config seed) → Writes b₂ b₃ (bytesOf G) 512 (newServerWords G (G .servers))
-      → Writes b₃ b₄ (bytesOf G) (clientsAt G) (clientsWords (drawTargets (G .servers) (G .clients) (streamRng seed Workload) .clients)) → AreaOf b₄ (drop (bytesOf G) b) G (undrawn config (F .limits) seed))
+      → Writes b₃ b₄ (bytesOf G) (clientsAt G) (clientsWords (drawTargets (G .servers) (G .clients) (streamRng seed Workload) .clients))
+      → AreaOf b₄ (drop (bytesOf G) b) G (undrawn config (F .limits) seed))
       (sym e) (λ c′ q₁ q₂ q₃. laid config (F .limits) seed c′ q₁ q₂ q₃ t) c p₁ p₂
       (subst (λ (x : Rng). Writes b₃ b₄ (bytesOf F) (clientsAt F) (clientsWords (drawTargets (F .servers) (F .clients) x .clients))) eg (d .writes));
   next = λ e. d .next ∙ ap₂ (λ (G : Capacity) (x : Rng). drawTargets (G .servers) (G .clients) x .next) e eg;
 }
 
-pub content-laid : {b b₁ b₂ : List ℕ} {F : Capacity} {config : SimConfig} {seed : ℕ} {g : Rng} → LaysUndrawn b b₁ F config seed g → Changes b₁ b₂ F (workloadSet g) → Lays b b₂ F config seed
+pub content-laid : {b b₁ b₂ : List ℕ} {F : Capacity} {config : SimConfig} {seed : ℕ} {g : Rng} → LaysUndrawn b b₁ F config seed g
+    → Changes b₁ b₂ F (workloadSet g) → Lays b b₂ F config seed
 unfolding undrawn workloadSet unstarted
 content-laid {b} {b₁} {b₂} {F} {config} {seed} {g} h k = record {
   to = λ e t.

@@ -1,6 +1,6 @@
 -- Bytes that are filled with words from the first on: what the contracts of the writers cite. Assumes nothing.
 use mathlib.Core.Path.{_≡_}
-use mathlib.Core.List.{List, [], _∷_, _++_}
+use mathlib.Core.List.{List, [], _++_}
 use Prim.Native.Nat.{ℕ, _-_, _*_, _≤_}
 use lib.ListN.{length, drop}
 use Rattle.words.specs.Words.{bytes}

@@ -1,13 +1,13 @@
 -- Words written behind those that are there, and zeros that are there already. Assumes nothing.
-use mathlib.Core.Path.{_≡_, refl, sym, ap, ap₂, subst, _∙_}
-use mathlib.Core.List.{List, [], _∷_, _++_, append-assoc, append-nil}
-use Prim.Native.Nat.{ℕ, zero, suc, _+_, _-_, _*_, _≤_, _<_}
+use mathlib.Core.Path.{_≡_, sym, ap, ap₂, subst, _∙_}
+use mathlib.Core.List.{List, _∷_, _++_, append-assoc}
+use Prim.Native.Nat.{ℕ, zero, suc, _+_, _-_, _*_, _≤_}
 use native.Mathlib.Omega.{arith}
 use lib.ListN.{length, drop, length-append, length-replicate}
 use lib.Seq.{sets, sets-eq}
-use Rattle.words.specs.Words.{bytes, bytesOf as bytesOfNumber}
+use Rattle.words.specs.Words.{bytes}
 use Rattle.words.specs.Sets.{sets-at}
-use Rattle.words.specs.Lift.{bytes-append, bytes-zeros, bytes-one, length-bytes}
+use Rattle.words.specs.Lift.{bytes-append, bytes-zeros, length-bytes}
 use Rattle.layout.specs.Code.{zeros}
 use Rattle.sim_start.specs.Fill.{Filled, Clears, Writes}
 
@@ -24,7 +24,8 @@ zeros-then a b l = sym (append-assoc (zeros a) (zeros b) l) ∙ ap (λ (z : List
 
 module _ {b r : List ℕ} {n : ℕ} {ws : List ℕ} (h : Filled b r n ws) where
   -- words behind those that are there
-  pub filled-more : (vs : List ℕ) (b′ : List ℕ) → 8 * (length ws + length vs) ≤ n → b′ ≡ sets b (8 * length ws) (bytes vs) → Filled b′ r n (ws ++ vs)
+  pub filled-more : (vs : List ℕ) (b′ : List ℕ) → 8 * (length ws + length vs) ≤ n → b′ ≡ sets b (8 * length ws) (bytes vs)
+      → Filled b′ r n (ws ++ vs)
   filled-more vs b′ k e =
       let m : ℕ = n - 8 * (length ws + length vs) in
       let l : n - 8 * length ws ≡ 8 * length vs + m = omega arith in
@@ -72,7 +73,8 @@ cleared b b′ n k e = record {
 }
 
 -- several words stored
-pub stored-words : (b b′ : List ℕ) (n at : ℕ) (vs : List ℕ) → 8 * (at + length vs) ≤ n → b′ ≡ sets b (8 * at) (bytes vs) → Writes b b′ n at vs
+pub stored-words : (b b′ : List ℕ) (n at : ℕ) (vs : List ℕ) → 8 * (at + length vs) ≤ n → b′ ≡ sets b (8 * at) (bytes vs)
+    → Writes b b′ n at vs
 stored-words b b′ n at vs k e = record {
   to = λ r ws h l. filled-more h vs b′ (omega (arith, l)) (e ∙ ap (λ (j : ℕ). sets b (8 * j) (bytes vs)) (sym l));
 }
@@ -82,7 +84,8 @@ pub writes-zeros : (b : List ℕ) (n at k : ℕ) → 8 * (at + k) ≤ n → Writ
 writes-zeros b n at k q = record { to = λ r ws h l. filled-zeros h k (omega (arith, l)) }
 
 -- one after another
-pub writes-both : {b b₁ b₂ : List ℕ} {n at at′ : ℕ} {vs ws : List ℕ} → Writes b b₁ n at vs → Writes b₁ b₂ n at′ ws → at + length vs ≡ at′ → Writes b b₂ n at (vs ++ ws)
+pub writes-both : {b b₁ b₂ : List ℕ} {n at at′ : ℕ} {vs ws : List ℕ} → Writes b b₁ n at vs → Writes b₁ b₂ n at′ ws → at + length vs ≡ at′
+    → Writes b b₂ n at (vs ++ ws)
 writes-both {b} {b₁} {b₂} {n} {at} {at′} {vs} {ws} p q e = record {
   to = λ r us h l.
       subst (Filled b₂ r n) (append-assoc us vs ws) (q .to r (us ++ vs) (p .to r us h l) (length-append us vs ∙ ap (λ (j : ℕ). j + length vs) l ∙ e));

@@ -1,14 +1,14 @@
 -- Question 10 of a new state: accepted settings have one that fits. Assumes nothing.
-use mathlib.Core.Path.{_≡_, refl, sym, ap, ap₂, subst, _∙_}
-use mathlib.Core.Bool.{Bool, true, false}
-use mathlib.Core.List.{List, [], _∷_, _++_}
-use mathlib.Core.Option.{Option, none, some}
-use Prim.Native.Nat.{ℕ, zero, suc, _+_, _-_, _*_, _^_, _≤_, _<_}
+use mathlib.Core.Path.{_≡_, refl}
+use mathlib.Core.Bool.{true, false}
+use mathlib.Core.List.{[]}
+use mathlib.Core.Option.{Option, none}
+use Prim.Native.Nat.{ℕ, zero, suc, _+_, _-_, _^_, _≤_, _<_}
 use native.Mathlib.Omega.{arith}
-use lib.Dec.{eqb, leb, ltb}
+use lib.Dec.{eqb, leb}
 use lib.ListN.{length, replicate, drop, length-replicate}
 use borrow.Author.Tests.{eq-eqb, le-leb, lt-ltb, leb-true}
-use Rattle.laws.specs.Bools.{_and_, and-both, and-left, and-right, allb, every}
+use Rattle.laws.specs.Bools.{_and_, and-both, and-left, and-right, every}
 use Rattle.laws.specs.Order.{chain}
 use Rattle.layout.specs.Tables.{Table}
 use Rattle.rng.specs.Rng.{under, nextU64, moved}
@@ -20,10 +20,9 @@ use Rattle.seeds.specs.declared.Stream.{Stream}
 use Rattle.seeds.specs.declared.Stream.the-variants as stream
 use Rattle.config.specs.declared.SimConfig.{SimConfig}
 use Rattle.config.specs.declared.Limits.{Limits}
-use Rattle.config.specs.Limits.{judge, judgedNumber, InLimits, settingsFit, durationsFit, durationFits, within}
+use Rattle.config.specs.Limits.{judge, judgedNumber, InLimits, settingsFit, durationsFit, durationFits}
 use Rattle.config.specs.Laws.{AllYes, all-yes, in-limits}
-use Rattle.network.specs.Network.{noLinks, linksWithin, networkInRange}
-use Rattle.network.specs.Network as network
+use Rattle.network.specs.Network.{linksWithin, networkInRange}
 use Rattle.metrics.specs.Metrics.{metricsFit, countersFit, totalsFit, noneCounted, noMetrics}
 use Rattle.log.specs.Places.{place}
 use Rattle.layout.specs.Keys.{keys}
@@ -35,8 +34,7 @@ use Rattle.checks.specs.Leaders.{leaders}
 use Rattle.checks.specs.Entries.{seenIn}
 use Rattle.checks.specs.Violations.{violations}
 use Rattle.checks_durability.specs.Replies.{replies}
-use Rattle.clients.specs.Clients.{Client}
-use Rattle.model.specs.State.{State, newServer}
+use Rattle.model.specs.State.{newServer}
 use Rattle.model.specs.Simulation.{drawTargets, newServers, unstarted}
 use Rattle.model.specs.Fits.{stateFits, tableFits, serverFits, clientStateFits}
 use Rattle.state.specs.Fitting.{accepted-is}
@@ -90,7 +88,8 @@ targets-word S zero g h = h
 targets-word S (suc n) g h = targets-word S n (under g S .next) (under-word g S)
 
 module _ (config : SimConfig) (limits : Limits) where
-  targets-fit : 0 < config .servers → (n : ℕ) (g : Rng) → every (clientStateFits config limits) (drawTargets (config .servers) n g .clients) ≡ true
+  targets-fit : 0 < config .servers → (n : ℕ) (g : Rng)
+      → every (clientStateFits config limits) (drawTargets (config .servers) n g .clients) ≡ true
   unfolding drawTargets
   targets-fit h zero g = refl
   targets-fit h (suc n) g =

@@ -2,16 +2,15 @@
 use mathlib.Core.Path.{_≡_, refl, sym, ap, ap₂, subst, _∙_}
 use mathlib.Core.Bool.{Bool, true, false}
 use mathlib.Core.List.{List, [], _∷_, _++_}
-use Prim.Native.Nat.{ℕ, zero, suc, _+_, _-_, _*_, _^_, _≤_, _<_}
+use Prim.Native.Nat.{ℕ, zero, suc, _+_, _-_, _^_, _≤_, _<_}
 use native.Mathlib.Omega.{arith}
 use lib.Dec.{eqb, leb, ltb}
 use lib.ListN.{length, drop, getD}
 use borrow.Author.Tests.{eq-eqb, ne-eqb, le-leb, lt-leb, lt-ltb, le-ltb, eqb-true, leb-true}
 use mir.Syntax.{w64}
 use mir.Val.{Fits}
-use Rattle.laws.specs.Bools.{pick, cases, _and_, and-both, and-true, true-and, and-left, and-right}
+use Rattle.laws.specs.Bools.{pick, cases, _and_, and-both, and-right}
 use Rattle.laws.specs.Decides.{false-true}
-use Rattle.units.specs.declared.NodeId.{NodeId}
 use Rattle.rng.specs.declared.Rng.{Rng}
 use Rattle.seeds.specs.Seeds.{streamSeed, streamRng}
 use Rattle.seeds.specs.declared.Stream.the-variants as stream
@@ -20,15 +19,13 @@ use Rattle.config.specs.declared.Limits.{Limits}
 use Rattle.config.specs.declared.Judged.{Judged}
 use Rattle.config.specs.Limits.{judge, judgedNumber, areaLength, InLimits}
 use Rattle.queue.specs.Queue.{Scheduled}
-use Rattle.queue.specs.Range.{word}
-use Rattle.model.specs.State.{State, Phase, closed, writing, startInput, construction, newServer, idOf}
+use Rattle.model.specs.State.{State, Phase, closed, writing, startInput, construction, newServer}
 use Rattle.model.specs.Fields.{withPhase}
-use Rattle.model.specs.Simulation.{Opening, noInput, openStart, Moved, newServers, startServer, constructFrom, unstarted, begin, firstSends, spreadStarts}
-use Rattle.model.specs.Calls.{Out, refused, done, start}
+use Rattle.model.specs.Simulation.{noInput, openStart, Moved, newServers, startServer, constructFrom, unstarted, begin, firstSends, spreadStarts}
+use Rattle.model.specs.Calls.{start}
 use Rattle.model.specs.Fits.{stateFits}
 use Rattle.state.specs.declared.Capacity.{Capacity}
-use Rattle.state.specs.declared.OpenInput.{OpenInput}
-use Rattle.state.specs.Sizes.{bytesOf, Within}
+use Rattle.state.specs.Sizes.{bytesOf}
 use Rattle.state.specs.Area.{capacityOf}
 use Rattle.state.specs.Encode.{encode}
 use Rattle.state.specs.EncodeLaws.{at-least, area-is}
@@ -188,10 +185,12 @@ module _ (config : SimConfig) (limits : Limits) (seed : ℕ) where
       let clients : ℕ = length (s₀ .clients) in
       let same : (u : State) → withPhase u closed ≡ u → (es : List Scheduled) → withPhase (pushedAll es u) closed ≡ pushedAll es u = λ u q es. phase-pushed es u closed ∙ ap (pushedAll es) q in
       let first : withPhase s₁ closed ≡ s₁ =
-      ap (λ (u : State). withPhase u closed) (spread-starts-are (length (s₀ .servers)) spread 0 g s₀) ∙ same s₀ still starts ∙ sym (spread-starts-are (length (s₀ .servers)) spread 0 g s₀) in
+      ap (λ (u : State). withPhase u closed) (spread-starts-are (length (s₀ .servers)) spread 0 g s₀) ∙ same s₀ still starts
+      ∙ sym (spread-starts-are (length (s₀ .servers)) spread 0 g s₀) in
       let kept : length (s₁ .clients) ≡ clients = ap (λ (u : State). length (u .clients)) (spread-starts-are (length (s₀ .servers)) spread 0 g s₀) ∙ clients-pushed starts s₀ in
       let last : withPhase (firstSends s₁ 0 clients) closed ≡ firstSends s₁ 0 clients =
-      ap (λ (u : State). withPhase u closed) (first-sends-are clients 0 s₁) ∙ same s₁ first (sendEvents (s₁ .now) 0 clients) ∙ sym (first-sends-are clients 0 s₁) in
+      ap (λ (u : State). withPhase u closed) (first-sends-are clients 0 s₁) ∙ same s₁ first (sendEvents (s₁ .now) 0 clients)
+      ∙ sym (first-sends-are clients 0 s₁) in
       ap (λ (t : Bool). pick t (constructFrom s₀ 0) (record { opening = noInput; state = withPhase (firstSends s₁ 0 clients) closed })) (ne-eqb (config .«start_spread» .0) 0 n)
       ∙ ap (λ (u : State). record { opening = noInput; state = u }) (last ∙ ap (firstSends s₁ 0) (sym kept))
 
@@ -209,7 +208,8 @@ module _ (config : SimConfig) (limits : Limits) (seed : ℕ) where
       ∙ rooms S C (limits .events)
 
   -- question 10 of the state that has begun
-  fits-begin : judgedNumber (judge config limits) ≡ 0 → stateFits s₀ ≡ true → stateFits (begin config limits seed .state) ≡ startFits config limits
+  fits-begin : judgedNumber (judge config limits) ≡ 0 → stateFits s₀ ≡ true
+      → stateFits (begin config limits seed .state) ≡ startFits config limits
   unfolding startFits unstarted
   fits-begin h t =
       let i = accepted-limits config limits h in
@@ -222,7 +222,8 @@ module _ (config : SimConfig) (limits : Limits) (seed : ℕ) where
       ∙ sym (ap (λ (u : Bool). pick u true (last (config .servers + config .clients))) e))
       (λ e.
       let n : spread ≡ 0 → ⊥ = λ z. not-both (eqb spread 0) (eq-eqb spread 0 z) e in
-      ap (λ (m : Moved). stateFits (m .state)) (begin-spread n) ∙ spread-room spread (streamRng seed stream.Startup) (omega arith) (omega (arith, spread-fits config limits h)) t
+      ap (λ (m : Moved). stateFits (m .state)) (begin-spread n)
+      ∙ spread-room spread (streamRng seed stream.Startup) (omega arith) (omega (arith, spread-fits config limits h)) t
       ∙ sym (ap (λ (u : Bool). pick u true (last (config .servers + config .clients))) e))
 
 -- ---- what the beginning leaves
@@ -241,14 +242,16 @@ module _ (b : List ℕ) (F : Capacity) (config : SimConfig) (seed : ℕ) where
   }
 
   pub begun-spread : (g : Rng) (b₁ b₂ : List ℕ) (i : InputNumbers) → (config .«start_spread» .0 ≡ 0 → ⊥) → g ≡ streamRng seed stream.Startup
-      → Changes b b₁ F (spreadStarted (config .«start_spread» .0) g) → Changes b₁ b₂ F firstSent → i ≡ noInputNumbers → Begins b b₂ F config seed i
+      → Changes b b₁ F (spreadStarted (config .«start_spread» .0) g) → Changes b₁ b₂ F firstSent → i ≡ noInputNumbers
+      → Begins b b₂ F config seed i
   begun-spread g b₁ b₂ i n eg k₁ k₂ ei = record {
     input = λ l. ei ∙ sym (ap (λ (m : Moved). inputOf (m .opening)) (begin-spread config (F .limits) seed n));
     to = λ rest h t.
         let s₀ : State = unstarted config (F .limits) seed in
         let spread : ℕ = config .«start_spread» .0 in
         let is : begin config (F .limits) seed .state ≡ firstSent (spreadStarted spread g s₀) =
-        ap (λ (m : Moved). m .state) (begin-spread config (F .limits) seed n) ∙ ap (λ (x : Rng). firstSent (spreadStarted spread x s₀)) (sym eg) in
+        ap (λ (m : Moved). m .state) (begin-spread config (F .limits) seed n)
+        ∙ ap (λ (x : Rng). firstSent (spreadStarted spread x s₀)) (sym eg) in
         let u : stateFits (firstSent (spreadStarted spread g s₀)) ≡ true = ap stateFits (sym is) ∙ t in
         subst (AreaOf b₂ rest F) (sym is) (k₂ .to (spreadStarted spread g s₀) rest (k₁ .to s₀ rest h (and-right _ _ (sym (fits-first-sent (spreadStarted spread g s₀)) ∙ u))) u);
   }
@@ -268,7 +271,8 @@ limits-pushed (e ∷ es) u = limits-pushed es (pushed e u)
 capacity-pushed : (es : List Scheduled) (u : State) → capacityOf (pushedAll es u) ≡ capacityOf u
 capacity-pushed es u = ap₂ (λ (c : SimConfig) (l : Limits). record { servers = c .servers; clients = c .clients; limits = l }) (config-pushed es u) (limits-pushed es u)
 
-pub start-inside : (b : List ℕ) (config : SimConfig) (limits : Limits) (code : ℕ) → StartAsked (length b) config limits code → code ≤ 0 → Inside b (countsFor config limits)
+pub start-inside : (b : List ℕ) (config : SimConfig) (limits : Limits) (code : ℕ) → StartAsked (length b) config limits code → code ≤ 0
+    → Inside b (countsFor config limits)
 start-inside b config limits code q y =
     let z : code ≡ 0 = omega arith in
     record { within = q .within z; head = omega (arith, at-least (countsFor config limits), q .long z); long = q .long z }
@@ -304,7 +308,8 @@ module _ (config : SimConfig) (limits : Limits) (seed : ℕ) where
       (λ e.
       ap (λ (m : Moved). capacityOf (m .state)) (begin-spread config limits seed (λ z. not-both (eqb spread 0) (eq-eqb spread 0 z) e))
       ∙ ap capacityOf (first-sends-are (length (v .clients)) 0 v) ∙ capacity-pushed (sendEvents (v .now) 0 (length (v .clients))) v
-      ∙ ap capacityOf (spread-starts-are (length (u .servers)) spread 0 g u) ∙ capacity-pushed (startEvents spread 0 (length (u .servers)) g) u)
+      ∙ ap capacityOf (spread-starts-are (length (u .servers)) spread 0 g u)
+      ∙ capacity-pushed (startEvents spread 0 (length (u .servers)) g) u)
 
   module _ (w : Fits w64 seed) (v : Typed config) where
     new-fits : judgedNumber (judge config limits) ≡ 0 → stateFits (unstarted config limits seed) ≡ true
@@ -345,7 +350,8 @@ module _ (config : SimConfig) (limits : Limits) (seed : ℕ) where
               (λ e. rw e)
 
       pub start-yes : (b₁ b₂ : List ℕ) (i : InputNumbers) (r : OpenedAnswer) → code ≤ 0 → Lays b b₁ (countsFor config limits) config seed
-          → Begins b₁ b₂ (countsFor config limits) config seed i → r ≡ openedOf i → (r, b₂) ≡ starting openedNo openedYes b (start config limits seed)
+          → Begins b₁ b₂ (countsFor config limits) config seed i → r ≡ openedOf i
+          → (r, b₂) ≡ starting openedNo openedYes b (start config limits seed)
       start-yes b₁ b₂ i r l p k e =
           let a = answered (length b) config limits code q l in
           let h : judgedNumber (judge config limits) ≡ 0 = eqb-true (judgedNumber (judge config limits)) 0 (a .0) in
@@ -353,6 +359,7 @@ module _ (config : SimConfig) (limits : Limits) (seed : ℕ) where
           let area : AreaOf b₂ (drop (bytesOf (countsFor config limits)) b) (countsFor config limits) s₁ =
           k .to (drop (bytesOf (countsFor config limits)) b) (p .to refl (new-fits h)) fit in
           let is : b₂ ≡ encode s₁ ++ drop (bytesOf (countsFor config limits)) b =
-          area-is (area .area) ∙ ap (λ (x : List ℕ). encode s₁ ++ x) (ap (λ (G : Capacity). drop (bytesOf G) b₂) (sym (area .capacity)) ∙ area .rest) in
+          area-is (area .area)
+          ∙ ap (λ (x : List ℕ). encode s₁ ++ x) (ap (λ (G : Capacity). drop (bytesOf G) b₂) (sym (area .capacity)) ∙ area .rest) in
           ap₂ (λ (x : OpenedAnswer) (y : List ℕ). (x, y)) (e ∙ ap openedOf (k .input (omega (arith, accepted-limits config limits h .servers-low)))) is
           ∙ sym (start-by b ∙ rw (a .0, a .1, a .2))

@@ -22,7 +22,7 @@ use Rattle.state.specs.declared.Capacity.{Capacity}
 use Rattle.state.specs.Sizes.{blockWords, queueAt, seenAt, leadersAt, repliesAt, confirmationsAt, appliedAt, clientsAt, wholeWords, bytesOf, Within}
 use Rattle.state.specs.Parts.{capacityWords, settingsWords}
 use Rattle.state.specs.Server.{serverCode}
-use Rattle.state.specs.Changes.{Inside, AreaOf, Changes}
+use Rattle.state.specs.Changes.{AreaOf}
 use Rattle.answers.specs.declared.InputNumbers.{InputNumbers}
 use Rattle.answers.specs.Answers.{inputOf}
 use Rattle.sim_start.specs.Fill.{Writes}

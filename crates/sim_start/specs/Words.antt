@@ -1,13 +1,11 @@
 -- The content of a new state is its words and zeros. Assumes nothing.
-use mathlib.Core.Path.{_≡_, refl, sym, ap, ap₂, subst, _∙_}
-use mathlib.Core.Bool.{Bool, true}
+use mathlib.Core.Path.{_≡_, refl, sym, ap, ap₂, _∙_}
 use mathlib.Core.List.{List, [], _∷_, _++_, map, append-assoc, append-nil}
-use mathlib.Core.Option.{Option, none, some}
-use Prim.Native.Nat.{ℕ, zero, suc, _+_, _-_, _*_, _≤_, _<_}
+use mathlib.Core.Option.{none}
+use Prim.Native.Nat.{ℕ, zero, suc, _+_, _-_, _*_}
 use native.Mathlib.Nat.{zero-mul, suc-mul}
 use native.Mathlib.Omega.{arith}
 use lib.ListN.{length, set, replicate, length-append, length-replicate}
-use Rattle.units.specs.Types.{Entry}
 use Rattle.words.specs.Words.{bytes}
 use Rattle.words.specs.Lift.{bytes-append, bytes-zeros}
 use Rattle.layout.specs.Code.{Code, zeros, flat, lay}
@@ -37,10 +35,9 @@ use Rattle.model.specs.State.{State, newServer}
 use Rattle.model.specs.Simulation.{drawTargets, newServers, unstarted}
 use Rattle.model.specs.Fits.{phaseFits}
 use Rattle.state.specs.declared.Capacity.{Capacity}
-use Rattle.state.specs.Sizes.{logWords, waitingWords, pendingWords, blockWords, queueWords, seenWords, appliedWords, queueAt, clientsAt, wholeWords, bytesOf}
-use Rattle.state.specs.SizeLaws.{room}
+use Rattle.state.specs.Sizes.{logWords, waitingWords, pendingWords, blockWords, queueWords, seenWords, appliedWords, wholeWords, bytesOf}
 use Rattle.state.specs.Parts.{capacityCode, settingsCode, runCode, countsCode, phaseCode}
-use Rattle.state.specs.Area.{capacityOf, runOf, countsOf, serversCode, queueCode, seenCode, leadersCode, repliesCode, confirmationsCode, appliedCode, clientsCode, violationsCode}
+use Rattle.state.specs.Area.{runOf, countsOf, serversCode, queueCode, seenCode, leadersCode, repliesCode, confirmationsCode, appliedCode, clientsCode, violationsCode}
 use Rattle.state.specs.Encode.{encode, contents}
 use Rattle.state.specs.Server.{serverCode}
 use Rattle.sim_start.specs.Start.{countsFor, undrawn, firstWords, headerWords, newServerWords, clientsWords}
@@ -108,7 +105,8 @@ length-new-words F (suc n) =
     ap length (new-server-words F) ∙ length-append (zeros 18) ((1 ∷ []) ++ zeros (blockWords F - 19))
     ∙ ap (λ (k : ℕ). 18 + suc k) (length-replicate {A = ℕ} (blockWords F - 19) 0)
     ∙ (let e : 18 + suc (blockWords F - 19) ≡ blockWords F = omega arith in e) in
-    length-append (serverCode F .enc (newServer (F .limits .«log_indexes»))) (newServerWords F n) ∙ ap₂ (λ (j k : ℕ). j + k) one (length-new-words F n)
+    length-append (serverCode F .enc (newServer (F .limits .«log_indexes»))) (newServerWords F n)
+    ∙ ap₂ (λ (j k : ℕ). j + k) one (length-new-words F n)
     ∙ (let e : blockWords F + n * blockWords F ≡ suc n * blockWords F = omega (arith, suc-mul n (blockWords F)) in e)
 
 pub length-clients-words : (cs : List Client) → length (clientsWords cs) ≡ length cs * 8
@@ -125,7 +123,8 @@ joined-bytes : (parts : List (List ℕ)) (t : List ℕ) → joined (map bytes pa
 unfolding bytes
 joined-bytes [] t = append-nil t
 joined-bytes (a ∷ parts) t =
-    ap (λ (l : List ℕ). bytes a ++ l) (joined-bytes parts t) ∙ sym (append-assoc (bytes a) (bytes (joined parts)) t) ∙ ap (λ (l : List ℕ). l ++ t) (sym (bytes-append a (joined parts)))
+    ap (λ (l : List ℕ). bytes a ++ l) (joined-bytes parts t) ∙ sym (append-assoc (bytes a) (bytes (joined parts)) t)
+    ∙ ap (λ (l : List ℕ). l ++ t) (sym (bytes-append a (joined parts)))
 
 -- The words of the regions.
 abbrev regionWords : (cap set first v sv q s l r c a cl : List ℕ) → List ℕ

@@ -114,7 +114,7 @@ pub struct PlanOptions {
     /// A list of chaos, crashes, contests, calls; or all; or none [default: all]
     #[arg(long, value_name = "LIST", value_parser = faults)]
     pub faults: Option<Faults>,
-    /// L: places of a log, 1 to 1024 [default: 512]
+    /// L: places of a log, 1 to 1024 [default: 384]
     #[arg(long, value_name = "L", value_parser = number("a log's places are", 1, 1_024))]
     pub log: Option<u64>,
     /// P: bytes of a payload, 12 to 256 [default: 16]

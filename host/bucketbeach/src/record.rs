@@ -170,7 +170,7 @@ macro_rules! setup {
             pub faults: Vec<String>,
             /// The simulated time, in nanoseconds.
             pub time: u64,
-            /// The events within which every server must have caught up.
+            /// The time after that within which every server must have caught up.
             pub patience: u64,
             /// The events with which a run ends in any case.
             pub most_events: u64,

@@ -65,7 +65,7 @@ fn each_mistake_is_caught() {
         "applies-early",
         "truncates-too-far",
     ] {
-        let done = call(&folder, &format!("judge --node {node} --seeds 1..60"));
+        let done = call(&folder, &format!("judge --node {node} --seeds 1..24"));
         assert_eq!(done.status.code(), Some(1), "{node}: {}", out(&done));
         assert!(out(&done).contains("its story: bucketbeach run "), "{node}");
     }

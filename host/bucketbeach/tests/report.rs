@@ -192,14 +192,14 @@ fn looks_right(name: &str, options: &str) {
 
 #[test]
 fn a_failing_campaign() {
-    looks_right("failing", "--node vote-not-saved --seeds 1..60");
+    looks_right("failing", "--node vote-not-saved --seeds 1..24");
 }
 
 #[test]
 fn a_long_run_with_many_failing_seeds() {
     looks_right(
         "long",
-        "--node applies-early --seeds 1..120 --time 6s --log 1024",
+        "--node applies-early --seeds 1..40 --time 6s",
     );
 }
 

@@ -5,7 +5,7 @@
 
 pub mod campaign;
 mod hostile;
-mod plan;
+pub mod plan;
 mod raft;
 pub mod reference;
 

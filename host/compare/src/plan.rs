@@ -4,36 +4,38 @@ use consensus::{NodeId, Rng};
 use sim::{Stream, stream_rng};
 
 /// A millisecond in nanoseconds.
-pub(crate) const MS: u64 = 1_000_000;
+pub const MS: u64 = 1_000_000;
 
 /// The choices of one run's plan.
-pub(crate) struct Plan {
+pub struct Plan {
     rng: Rng,
 }
 
 impl Plan {
     /// The choices of a run with this seed: the reference's stream for procedures.
-    pub(crate) fn new(seed: u64) -> Self {
+    pub fn new(seed: u64) -> Self {
         Plan {
             rng: stream_rng(seed, Stream::Scenario),
         }
     }
 
-    pub(crate) fn below(&mut self, bound: u64) -> u64 {
+    /// A number below the bound.
+    pub fn below(&mut self, bound: u64) -> u64 {
         self.rng.below(bound)
     }
 
     /// True once in `n` draws.
-    pub(crate) fn one_in(&mut self, n: u64) -> bool {
+    pub fn one_in(&mut self, n: u64) -> bool {
         self.below(n) == 0
     }
 
     /// Any 64 bits.
-    pub(crate) fn any(&mut self) -> u64 {
+    pub fn any(&mut self) -> u64 {
         self.rng.next_u64()
     }
 
-    pub(crate) fn pick<T: Copy>(&mut self, choices: &[T]) -> T {
+    /// One of the choices.
+    pub fn pick<T: Copy>(&mut self, choices: &[T]) -> T {
         choices[self.below(choices.len() as u64) as usize]
     }
 

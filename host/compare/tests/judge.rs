@@ -55,19 +55,19 @@ fn plans() -> Vec<Plan> {
     plans
 }
 
-fn every_verdict_is_the_references<P: Port + Default>() {
+fn every_verdict_is_the_references<P: Port + Default>(seeds: u64) {
     for plan in plans() {
-        as_the_reference::<Correct, P>(&plan, 4);
-        as_the_reference::<TermNotSaved, P>(&plan, 2);
-        as_the_reference::<VoteNotSaved, P>(&plan, 2);
-        as_the_reference::<AppliesEarly, P>(&plan, 2);
-        as_the_reference::<TruncatesTooFar, P>(&plan, 2);
+        as_the_reference::<Correct, P>(&plan, 2 * seeds);
+        as_the_reference::<TermNotSaved, P>(&plan, seeds);
+        as_the_reference::<VoteNotSaved, P>(&plan, seeds);
+        as_the_reference::<AppliesEarly, P>(&plan, seeds);
+        as_the_reference::<TruncatesTooFar, P>(&plan, seeds);
     }
 }
 
 #[test]
 fn verdicts_are_the_references() {
-    every_verdict_is_the_references::<Stepwise>();
+    every_verdict_is_the_references::<Stepwise>(2);
 }
 
 fn passes<P: Port + Default>(seeds: u64) {
@@ -119,14 +119,14 @@ fn every_mistake_is_caught() {
 }
 
 /// A run whose tables are too small is made again, and ends with the same verdict.
-fn is_raised<P: Port + Default>() {
+fn is_raised<P: Port + Default>(seeds: u64) {
     let usual = Plan::default();
     let mut tiny = usual.clone();
     tiny.limits.events = 1;
     tiny.limits.writes = 1;
     tiny.limits.history = 1;
     let mut full = Vec::new();
-    for seed in 0..6 {
+    for seed in 0..seeds {
         let expected = verdict::<Raft<Correct>, P>(&usual, seed);
         let judged = verdict::<Raft<Correct>, P>(&tiny, seed);
         same(&judged, &expected);
@@ -141,7 +141,7 @@ fn is_raised<P: Port + Default>() {
 
 #[test]
 fn a_full_table_is_raised() {
-    is_raised::<Stepwise>();
+    is_raised::<Stepwise>(6);
 }
 
 #[test]
@@ -225,7 +225,7 @@ impl<const HOW: u64> Consensus for Breaks<HOW> {
             granted: false,
         };
         match HOW {
-            PUTS_OUTSIDE => storage.put(LogIndex(513), entry(16)),
+            PUTS_OUTSIDE => storage.put(LogIndex(385), entry(16)),
             PUTS_AT_ZERO => storage.put(LogIndex(0), entry(16)),
             LONG_PAYLOAD => storage.put(LogIndex(1), entry(17)),
             PANICS => panic!("a node's own mistake"),
@@ -236,7 +236,7 @@ impl<const HOW: u64> Consensus for Breaks<HOW> {
             LONG_MESSAGE => Output::Send { to, message },
             SENDS_TO_NOBODY => Output::Send { to, message: vote },
             APPLIES_OUTSIDE => Output::Apply {
-                index: LogIndex(513),
+                index: LogIndex(385),
                 payload: Payload::Noop,
             },
             _ => Output::SetTimer {
@@ -400,7 +400,7 @@ mod linked {
 
     #[test]
     fn verdicts_are_the_references() {
-        every_verdict_is_the_references::<Library>();
+        every_verdict_is_the_references::<Library>(1);
     }
 
     #[test]
@@ -415,7 +415,7 @@ mod linked {
 
     #[test]
     fn a_full_table_is_raised() {
-        is_raised::<Library>();
+        is_raised::<Library>(2);
     }
 
     #[test]

@@ -61,14 +61,15 @@ pub struct Plan {
     pub faults: Faults,
     /// The simulated time, in nanoseconds: faults in the first three fifths, then quiet.
     pub time: u64,
-    /// The events after that within which every server must have applied what was acknowledged.
+    /// The time after that within which every server must have applied what was acknowledged.
     pub patience: u64,
     /// The events with which a run ends in any case.
     pub events: u64,
 }
 
 impl Default for Plan {
-    /// Three servers, three clients, every fault, five seconds.
+    /// Three servers, three clients, every fault, five seconds. The tables are as large as nearly all
+    /// runs need: each call looks at the whole area, so that larger ones cost time.
     fn default() -> Self {
         Plan {
             settings: Settings {
@@ -88,7 +89,7 @@ impl Default for Plan {
                 start_spread: 0,
             },
             limits: Limits {
-                log: 512,
+                log: 384,
                 payload: 16,
                 message: 256,
                 events: 256,
@@ -97,7 +98,7 @@ impl Default for Plan {
             },
             faults: Faults::ALL,
             time: 5_000 * MS,
-            patience: 3_000,
+            patience: 5_000 * MS,
             events: 1_000_000,
         }
     }
@@ -109,9 +110,9 @@ impl Plan {
         self.time / 5 * 3
     }
 
-    /// When the run is checked at the latest.
+    /// When the run is checked at the latest, unless many clients keep it busy.
     fn latest(&self) -> u64 {
-        self.time.saturating_mul(8).min(1 << 62)
+        self.time.saturating_add(self.patience)
     }
 
     /// The log index at which a run is brought to its end, since the log has L places: each client
@@ -402,16 +403,21 @@ impl<D: Driver> Driven<'_, D> {
             return self.settle();
         }
         let before = self.driver.acknowledged();
-        for _ in 0..self.plan.patience {
-            if self.caught_up() {
-                return Ok(End::CaughtUp);
-            }
+        while !self.caught_up() {
             if self.long_log() {
                 return self.settle();
             }
-            self.step(self.plan.latest())?;
+            if !self.step(self.plan.latest())? {
+                return self.out_of_patience(before);
+            }
         }
-        if self.driver.applied_by_all() < before {
+        Ok(End::CaughtUp)
+    }
+
+    /// A server that has not applied what was acknowledged before all this is stuck.
+    fn out_of_patience(&mut self, before: u64) -> Result<End, D::Stop> {
+        let enough = self.events > self.plan.events;
+        if !enough && self.driver.applied_by_all() < before {
             return Ok(End::Stuck);
         }
         self.settle()

@@ -194,7 +194,7 @@ impl Answer {
     }
 
     /// How many bytes of the lent buffer or list the numbers say that the call wrote.
-    pub(crate) fn written(&self) -> usize {
+    pub fn written(&self) -> usize {
         let written = match self.numbers {
             Numbers::Stepped(Stepped {
                 input:

@@ -1,4 +1,4 @@
--- Made by tools/uniform from proofs.txt, not by hand: 272e5b3bdacd9126
+-- Made by tools/uniform from proofs.txt, not by hand: 6e3559a96f0381f3
 use Prim.Native.Nat.{_-_}
 use Rattle.sim_seal_sync.specs.Syncs.{Checking}
 use Rattle.sim_seal_sync.specs.Laws.{checking-start, checking-turn, checking-done}
@@ -19,7 +19,7 @@ check-writes-spec =
     Inv-loop
     μ-loop
     (λ c κs. search (checking-start, checking-turn, checking-done, needs))  -- write-count-requires
-    (λ c. search (checking-start, checking-turn, checking-done, needs))  -- loop-holds
+    (λ c. checking-start _ _ _ _ (c .before .before .before .pre .0) (c .write-count .ensures))  -- loop-holds
     (λ c κs. search (checking-start, checking-turn, checking-done, needs))  -- check-write-requires
     (λ c. search (checking-start, checking-turn, checking-done, needs))  -- add-i
     (λ c. search (checking-start, checking-turn, checking-done, needs))  -- loop-less

@@ -1,0 +1,4 @@
+pub mod Moves
+pub mod Kept
+pub mod Laws
+pub mod Fits
