@@ -197,10 +197,7 @@ fn a_failing_campaign() {
 
 #[test]
 fn a_long_run_with_many_failing_seeds() {
-    looks_right(
-        "long",
-        "--node applies-early --seeds 1..40 --time 6s",
-    );
+    looks_right("long", "--node applies-early --seeds 1..40 --time 6s");
 }
 
 #[test]
