@@ -25,7 +25,7 @@ cargo_tests() {
         good=$((good + BASH_REMATCH[1])) bad=$((bad + BASH_REMATCH[2]))
     done < <(grep '^test result:' "$log")
     [ "$status" -eq 0 ] || [ "$bad" -gt 0 ] || bad=1
-    if [ "$bad" -eq 0 ]; then grep '^test ' "$log" | grep -v '^test result:'; else cat "$log"; fi
+    if [ "$bad" -eq 0 ]; then grep -E '^(test|SKIPPED:) ' "$log" | grep -v '^test result:'; else cat "$log"; fi
     rm -f "$log"
     passed=$((passed + good)) failed=$((failed + bad))
 }

@@ -3,14 +3,16 @@
 #       unready, why nothing can be built, empty where all is there.
 
 registry=/usr/share/cargo/registry
-packages="librust-serde-dev librust-serde-derive-dev"
+packages="librust-serde-dev librust-serde-derive-dev librust-serde-json-dev librust-clap-dev librust-clap-derive-dev librust-indicatif-dev"
 
-debian_has_serde() {
-    compgen -G "$registry/serde-1.*/Cargo.toml" >/dev/null &&
-        compgen -G "$registry/serde_derive-1.*/Cargo.toml" >/dev/null
+debian_has_crates() {
+    local crate
+    for crate in serde-1 serde_derive-1 serde_json-1 clap-4 clap_derive-4 indicatif-0.17; do
+        compgen -G "$registry/$crate.*/Cargo.toml" >/dev/null || return 1
+    done
 }
 
-install_serde() {
+install_crates() {
     [ "$(id -u)" -eq 0 ] && command -v apt-get >/dev/null || return 1
     echo "installing $packages"
     export DEBIAN_FRONTEND=noninteractive
@@ -19,11 +21,11 @@ install_serde() {
         { apt-get update -qq && apt-get install -qq -y --no-install-recommends $packages; } >/dev/null 2>&1
 }
 
-# Cargo takes serde from Debian's packages where they are, else from the usual registry.
+# Cargo takes the crates from Debian's packages where they are, else from the usual registry.
 use_registry() {
     mkdir -p .cargo
     local wanted=""
-    debian_has_serde && wanted="[source.crates-io]
+    debian_has_crates && wanted="[source.crates-io]
 replace-with = \"debian\"
 
 [source.debian]
@@ -32,7 +34,7 @@ directory = \"$registry\""
         printf '%s\n' "$wanted" >.cargo/config.toml
         rm -f Cargo.lock
     fi
-    debian_has_serde || cargo fetch --quiet 2>/dev/null
+    debian_has_crates || cargo fetch --quiet 2>/dev/null
 }
 
 find_reference() {
@@ -50,8 +52,8 @@ unready=
 if ! command -v cargo >/dev/null; then
     unready="no cargo"
 else
-    debian_has_serde || install_serde
-    use_registry || unready="no serde: neither $packages nor the usual registry can be had"
+    debian_has_crates || install_crates
+    use_registry || unready="no serde, clap or indicatif: neither $packages nor the usual registry can be had"
     export CARGO_NET_OFFLINE=true
 fi
 find_reference
