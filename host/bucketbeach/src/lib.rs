@@ -1,4 +1,4 @@
-//! The command: campaigns, runs told as stories, and the report page.
+//! The command: campaigns, runs told as stories, the report page, and comparisons with the reference.
 //!
 //! The binary of this package judges the embedded Raft. A user's own node gets the same command with
 //!
@@ -9,15 +9,21 @@
 //! ```
 
 mod campaign;
+#[cfg(feature = "reference")]
+mod compare;
+mod difference;
 mod files;
 mod merge;
 mod nodes;
 mod options;
 mod progress;
 mod record;
+mod replay;
 mod report;
 mod story;
 mod summary;
+#[cfg(feature = "reference")]
+mod tally;
 mod usage;
 mod words;
 
@@ -34,7 +40,7 @@ use port::Port;
 
 pub use node;
 pub use nodes::Choice;
-use options::{Options, Task};
+use options::{CompareOptions, Options, Task};
 
 /// Calls that nodes can be judged with.
 pub trait Judging: Port + Default + 'static {
@@ -96,7 +102,23 @@ fn obey(choice: &Choice, options: &Options) -> Result<u8, String> {
         Task::Judge(options) => campaign::judge(choice, options),
         Task::Run(options) => story::run(choice, options),
         Task::Merge(options) => merge::merge(choice, options),
+        Task::Compare(options) => compare(choice, options),
+        Task::Replay(options) => replay::replay(choice, options),
     }
+}
+
+#[cfg(feature = "reference")]
+fn compare(choice: &Choice, options: &CompareOptions) -> Result<u8, String> {
+    compare::compare(choice, options)
+}
+
+#[cfg(not(feature = "reference"))]
+fn compare(_: &Choice, _: &CompareOptions) -> Result<u8, String> {
+    Err(
+        "compare needs the reference, and this command was built without it: \
+         tools/judge builds it in where its source is, beside the repository or where BUCKETBEACH_REFERENCE says"
+            .to_owned(),
+    )
 }
 
 /// A node's panic is told as its fault; where it was is said once, not for every seed.
