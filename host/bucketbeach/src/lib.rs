@@ -28,7 +28,7 @@ mod usage;
 mod words;
 
 use std::env;
-use std::io::{Write as _, stdout};
+use std::io::{Write as _, stderr, stdout};
 use std::panic;
 use std::path::PathBuf;
 use std::process::ExitCode;
@@ -90,7 +90,7 @@ pub fn command(choice: &Choice) -> ExitCode {
     };
     done.map_or_else(
         |line| {
-            eprintln!("bucketbeach: {line}");
+            let _ = writeln!(stderr(), "bucketbeach: {line}");
             ExitCode::from(2)
         },
         ExitCode::from,

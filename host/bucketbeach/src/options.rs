@@ -126,7 +126,7 @@ pub struct ReplayOptions {
 #[derive(Debug, Args)]
 pub struct ToldOptions {
     /// Calls that are told before the first difference
-    #[arg(long, value_name = "N", default_value = "12", value_parser = number("they are", 0, 1 << 32))]
+    #[arg(long, value_name = "N", default_value = "12", value_parser = number("calls are", 0, 1 << 32))]
     pub before: u64,
 }
 
@@ -283,7 +283,8 @@ fn seeds(text: &str) -> Result<Seeds, String> {
         let (first, last) = (first.parse().ok()?, last.parse().ok()?);
         (first <= last && last < 1 << 63).then_some(Seeds { first, last })
     });
-    ends.ok_or_else(|| "seeds are FIRST..LAST, both included, e.g. 1..500".to_owned())
+    let wrong = "seeds are FIRST..LAST, FIRST not after LAST, both included, e.g. 1..500";
+    ends.ok_or_else(|| wrong.to_owned())
 }
 
 /// One seed, or seeds.
@@ -293,9 +294,8 @@ fn seed_or_seeds(text: &str) -> Result<Seeds, String> {
         first: seed,
         last: seed,
     });
-    let wrong = "a seed is a number, e.g. 7; seeds are FIRST..LAST, both included, e.g. 1..20";
-    one.or_else(|| seeds(text).ok())
-        .ok_or_else(|| wrong.to_owned())
+    let or = |wrong| format!("a seed is a number, e.g. 7; {wrong}");
+    one.map_or_else(|| seeds(text).map_err(or), Ok)
 }
 
 fn tables(text: &str) -> Result<Tables, String> {

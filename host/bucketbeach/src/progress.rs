@@ -1,6 +1,6 @@
 //! How far a campaign is: a bar at a terminal, else a line now and then.
 
-use std::io::{IsTerminal as _, stderr};
+use std::io::{IsTerminal as _, Write as _, stderr};
 use std::sync::Mutex;
 use std::time::{Duration, Instant};
 
@@ -72,7 +72,8 @@ impl Progress {
         } else if counts.told.elapsed() >= NOW_AND_THEN {
             counts.told = Instant::now();
             let (done, runs) = (counts.done, self.runs);
-            eprintln!("{done} of {runs} {}, {line}", self.things.runs);
+            // A reader that has gone away needs no more.
+            let _ = writeln!(stderr(), "{done} of {runs} {}, {line}", self.things.runs);
         }
     }
 

@@ -165,7 +165,7 @@ fn a_file_that_is_no_trace_gets_one_line() {
     }
     let vast = file("vast.bin", &trace.to_bytes());
     wrong(&format!("replay {}", vast.display()), "lends more memory");
-    wrong("replay a.bin --before many", "they are 0 to");
+    wrong("replay a.bin --before many", "calls are 0 to");
 }
 
 #[cfg(not(feature = "reference"))]
@@ -199,7 +199,7 @@ mod reference {
 
     #[test]
     fn a_campaign_compares_every_kind_of_call() {
-        let done = call("compare all 1..3");
+        let done = call("compare all 1..2");
         assert_eq!(done.status.code(), Some(0), "{}{}", out(&done), err(&done));
         let told = out(&done);
         let line = |start: &str| {
@@ -215,7 +215,7 @@ mod reference {
             "vote-not-saved",
             "truncates-too-far",
         ] {
-            assert_eq!(numbers(&line(mode))[0], 3, "{told}");
+            assert_eq!(numbers(&line(mode))[0], 2, "{told}");
         }
         let calls = numbers(&line("all"))[2];
         assert!(calls > 300_000, "{told}");
