@@ -35,7 +35,6 @@ use std::process::ExitCode;
 use std::sync::Once;
 
 use clap::Parser as _;
-use node::Consensus;
 use port::Port;
 
 pub use node;
@@ -71,7 +70,7 @@ pub type Linked = stepwise::Stepwise;
 
 /// The whole command with a user's node as the default one. Returns the exit status.
 #[cfg(feature = "runs")]
-pub fn main<N: Consensus>() -> ExitCode {
+pub fn main<N: node::Consensus>() -> ExitCode {
     command(&Choice::own::<N, Linked>())
 }
 
