@@ -100,7 +100,7 @@ pub struct CompareOptions {
     #[arg(value_name = "SEED", value_parser = seed_or_seeds)]
     pub seeds: Seeds,
     /// The sizes of the tables: smallest (each is full once), doubled, largest (half a gigabyte; a
-    /// run's first 200 calls)
+    /// run's first 200 calls, with fewer reads)
     #[arg(long, value_name = "SIZE", default_value = "smallest", value_parser = tables)]
     pub limits: Tables,
     /// Only the first calls of a run

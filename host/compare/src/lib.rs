@@ -88,13 +88,21 @@ pub fn record(mode: Mode, seed: u64) -> Recording {
 /// Refused calls that are put into a compared run, about.
 const REFUSALS: usize = 300;
 
+/// With the largest tables a call takes long: of those that change nothing one in so many is made.
+const STILL: usize = 8;
+
 /// The run of a mode and a seed as it is compared: under these tables, with refused calls in
-/// between, and of it the first `calls` calls.
+/// between, and of it the first `calls` calls. With the largest tables it has fewer of the calls
+/// that change nothing.
 pub fn compared(mode: Mode, seed: u64, tables: Tables, calls: Option<usize>) -> Trace {
-    let mut trace = record(mode, seed).trace.under(tables);
+    let still = if tables == Tables::Largest { STILL } else { 1 };
     let calls = calls.unwrap_or(usize::MAX);
-    trace.exchanges.truncate(calls);
-    let mut trace = refused_between(trace);
+    let mut trace = record(mode, seed).trace.under(tables);
+    // The settings never change: they are read behind the start, where no cut takes the reading away.
+    let settings = trace.exchanges.pop();
+    trace.exchanges.truncate(calls.saturating_mul(still));
+    let mut trace = refused_between(trace).thinned(still);
+    trace.exchanges.splice(1..1, settings);
     trace.exchanges.truncate(calls);
     trace
 }
