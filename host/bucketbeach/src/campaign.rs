@@ -3,10 +3,17 @@
 use crate::files::{Lines, create};
 use crate::nodes::Choice;
 use crate::options::JudgeOptions;
-use crate::progress::Progress;
+use crate::progress::{Progress, Things};
 use crate::record::{Setup, Shared};
 use crate::summary::Summary;
 use crate::{print, report};
+
+/// What its progress tells.
+const THINGS: Things = Things {
+    runs: "seeds",
+    work: "events",
+    found: "violation",
+};
 
 /// Runs a campaign, writes its files and tells its verdict. Returns the exit status.
 ///
@@ -27,12 +34,12 @@ pub fn judge(choice: &Choice, options: &JudgeOptions) -> Result<u8, String> {
         campaign: (options.seeds.first, options.seeds.last),
         settings: Setup::from(&plan),
     };
-    let progress = Progress::of(seeds.end - seeds.start);
+    let progress = Progress::of(seeds.end - seeds.start, THINGS);
     let verdicts = node.campaign(&plan, seeds, &|verdict| {
         if let Some(lines) = &lines {
             lines.put(&shared.record(verdict));
         }
-        progress.told(verdict);
+        progress.told(verdict.events, verdict.reported);
     });
     let took = progress.done();
     let verdicts = verdicts.map_err(|refused| refused.to_string())?;

@@ -1,4 +1,4 @@
-//! The command: campaigns, runs told as stories, and the report page.
+//! The command: campaigns, runs told as stories, the report page, and comparisons with the reference.
 //!
 //! The binary of this package judges the embedded Raft. A user's own node gets the same command with
 //!
@@ -9,32 +9,37 @@
 //! ```
 
 mod campaign;
+#[cfg(feature = "reference")]
+mod compare;
+mod difference;
 mod files;
 mod merge;
 mod nodes;
 mod options;
 mod progress;
 mod record;
+mod replay;
 mod report;
 mod story;
 mod summary;
+#[cfg(feature = "reference")]
+mod tally;
 mod usage;
 mod words;
 
 use std::env;
-use std::io::{Write as _, stdout};
+use std::io::{Write as _, stderr, stdout};
 use std::panic;
 use std::path::PathBuf;
 use std::process::ExitCode;
 use std::sync::Once;
 
 use clap::Parser as _;
-use node::Consensus;
 use port::Port;
 
 pub use node;
 pub use nodes::Choice;
-use options::{Options, Task};
+use options::{CompareOptions, Options, Task};
 
 /// Calls that nodes can be judged with.
 pub trait Judging: Port + Default + 'static {
@@ -65,7 +70,7 @@ pub type Linked = stepwise::Stepwise;
 
 /// The whole command with a user's node as the default one. Returns the exit status.
 #[cfg(feature = "runs")]
-pub fn main<N: Consensus>() -> ExitCode {
+pub fn main<N: node::Consensus>() -> ExitCode {
     command(&Choice::own::<N, Linked>())
 }
 
@@ -84,7 +89,7 @@ pub fn command(choice: &Choice) -> ExitCode {
     };
     done.map_or_else(
         |line| {
-            eprintln!("bucketbeach: {line}");
+            let _ = writeln!(stderr(), "bucketbeach: {line}");
             ExitCode::from(2)
         },
         ExitCode::from,
@@ -96,7 +101,23 @@ fn obey(choice: &Choice, options: &Options) -> Result<u8, String> {
         Task::Judge(options) => campaign::judge(choice, options),
         Task::Run(options) => story::run(choice, options),
         Task::Merge(options) => merge::merge(choice, options),
+        Task::Compare(options) => compare(choice, options),
+        Task::Replay(options) => replay::replay(choice, options),
     }
+}
+
+#[cfg(feature = "reference")]
+fn compare(choice: &Choice, options: &CompareOptions) -> Result<u8, String> {
+    compare::compare(choice, options)
+}
+
+#[cfg(not(feature = "reference"))]
+fn compare(_: &Choice, _: &CompareOptions) -> Result<u8, String> {
+    Err(
+        "compare needs the reference, and this command was built without it: \
+         tools/judge builds it in where its source is, beside the repository or where BUCKETBEACH_REFERENCE says"
+            .to_owned(),
+    )
 }
 
 /// A node's panic is told as its fault; where it was is said once, not for every seed.

@@ -5,6 +5,7 @@ use std::ops::Range;
 
 use judge::{Happening, Plan, Raised, Refused, Verdict, Watch};
 use node::{AppliesEarly, Consensus, Correct, Raft, TermNotSaved, TruncatesTooFar, VoteNotSaved};
+use trace::{Difference, Options, Trace, replay};
 
 use crate::Judging;
 
@@ -38,6 +39,9 @@ type Campaign = fn(&Plan, Range<u64>, &Tell<'_>) -> Result<Vec<Verdict>, Refused
 
 /// Makes one run of a node, told to a listener.
 type Telling = fn(&Plan, u64, &mut dyn Listen) -> Result<Verdict, Refused>;
+
+/// Makes the calls of a trace and compares their answers. Returns how many were made.
+type Replay = fn(&Trace) -> Result<usize, Box<Difference>>;
 
 /// A node by its name.
 #[derive(Clone, Copy)]
@@ -88,6 +92,8 @@ pub struct Choice {
     pub nodes: Vec<Judged>,
     /// The calls, by name.
     pub calls: &'static str,
+    /// Makes calls that were recorded.
+    pub replay: Replay,
 }
 
 impl Choice {
@@ -102,6 +108,7 @@ impl Choice {
                 Judged::new::<Raft<TruncatesTooFar>, P>("truncates-too-far"),
             ],
             calls: P::NAME,
+            replay: |trace| replay(trace, &mut P::default(), Options::default()),
         }
     }
 

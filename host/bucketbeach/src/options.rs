@@ -5,12 +5,13 @@ use std::path::PathBuf;
 
 use clap::{Args, Parser, Subcommand};
 use judge::{Faults, Plan};
+use trace::Tables;
 
 use crate::record::{Setup, fault_names, faults_of};
 
 /// Judges consensus nodes under a proved crash simulator.
 ///
-/// Exit status: 0 no violation, 1 violations, 2 wrong usage or a node's fault.
+/// Exit status: 0 no violation or difference, 1 some, 2 wrong usage or a node's fault.
 #[derive(Debug, Parser)]
 #[command(name = "bucketbeach", version, disable_help_subcommand = true)]
 pub struct Options {
@@ -28,6 +29,10 @@ pub enum Task {
     Run(RunOptions),
     /// Join the JSON lines of a campaign that was split with --shard
     Merge(MergeOptions),
+    /// Make runs of the reference again at the calls, and compare every answer
+    Compare(CompareOptions),
+    /// Make the calls of a file, and compare every answer with the file's
+    Replay(ReplayOptions),
 }
 
 /// Of `judge`.
@@ -82,6 +87,47 @@ pub struct MergeOptions {
     /// Write the lines of all, in order of their seeds
     #[arg(long, value_name = "FILE")]
     pub json: Option<PathBuf>,
+}
+
+/// Of `compare`.
+#[derive(Debug, Args)]
+pub struct CompareOptions {
+    /// The node: raft, hostile, wide, vote-not-saved, term-not-saved, applies-early,
+    /// truncates-too-far; or all
+    #[arg(value_name = "MODE")]
+    pub mode: String,
+    /// The seed of the run; or seeds, both ends included: 1..20
+    #[arg(value_name = "SEED", value_parser = seed_or_seeds)]
+    pub seeds: Seeds,
+    /// The sizes of the tables: smallest (each is full once), doubled, largest (half a gigabyte; a
+    /// run's first 200 calls, with fewer reads)
+    #[arg(long, value_name = "SIZE", default_value = "smallest", value_parser = tables)]
+    pub limits: Tables,
+    /// Only the first calls of a run
+    #[arg(long, value_name = "N", value_parser = number("calls are", 1, u64::MAX))]
+    pub calls: Option<u64>,
+    /// What is told of a difference.
+    #[command(flatten)]
+    pub told: ToldOptions,
+}
+
+/// Of `replay`.
+#[derive(Debug, Args)]
+pub struct ReplayOptions {
+    /// A file that `write_trace` wrote
+    #[arg(value_name = "FILE")]
+    pub file: PathBuf,
+    /// What is told of a difference.
+    #[command(flatten)]
+    pub told: ToldOptions,
+}
+
+/// What is told of a difference.
+#[derive(Debug, Args)]
+pub struct ToldOptions {
+    /// Calls that are told before the first difference
+    #[arg(long, value_name = "N", default_value = "12", value_parser = number("calls are", 0, 1 << 32))]
+    pub before: u64,
 }
 
 /// What is written.
@@ -237,7 +283,25 @@ fn seeds(text: &str) -> Result<Seeds, String> {
         let (first, last) = (first.parse().ok()?, last.parse().ok()?);
         (first <= last && last < 1 << 63).then_some(Seeds { first, last })
     });
-    ends.ok_or_else(|| "seeds are FIRST..LAST, both included, e.g. 1..500".to_owned())
+    let wrong = "seeds are FIRST..LAST, FIRST not after LAST, both included, e.g. 1..500";
+    ends.ok_or_else(|| wrong.to_owned())
+}
+
+/// One seed, or seeds.
+fn seed_or_seeds(text: &str) -> Result<Seeds, String> {
+    let one = text.parse().ok().filter(|seed| *seed < 1 << 63);
+    let one = one.map(|seed| Seeds {
+        first: seed,
+        last: seed,
+    });
+    let or = |wrong| format!("a seed is a number, e.g. 7; {wrong}");
+    one.map_or_else(|| seeds(text).map_err(or), Ok)
+}
+
+fn tables(text: &str) -> Result<Tables, String> {
+    let names = Tables::ALL.map(Tables::name).join(", ");
+    let known = Tables::ALL.into_iter().find(|size| size.name() == text);
+    known.ok_or_else(|| format!("the sizes are {names}"))
 }
 
 fn shard(text: &str) -> Result<Shard, String> {

@@ -21,6 +21,11 @@ pub fn run(choice: &Choice, options: &RunOptions) -> Result<u8, String> {
     if let Some(server) = options.server.filter(|server| *server > servers) {
         return Err(format!("--server {server}: the servers are 1 to {servers}"));
     }
+    if let (Some(from), Some(until)) = (options.from, options.until)
+        && from > until
+    {
+        return Err("--from is after --until: nothing would be told".to_owned());
+    }
     let mut story = Story::of(options);
     let told = node.told(&plan, options.seed, &mut story);
     let verdict = told.map_err(|refused| refused.to_string())?;

@@ -17,11 +17,12 @@ pub fn told(error: &clap::Error, arguments: &[String]) -> Result<String, String>
     Err(match error.kind() {
         ErrorKind::DisplayHelp | ErrorKind::DisplayVersion => return Ok(error.to_string()),
         ErrorKind::DisplayHelpOnMissingArgumentOrSubcommand | ErrorKind::MissingSubcommand => {
-            format!("a command is missing: {}", tasks(&whole))
+            format!("a command is missing: {}; or --help", tasks(&whole))
         }
         ErrorKind::InvalidSubcommand => {
             let name = context(error, ContextKind::InvalidSubcommand);
-            format!("no command is called '{name}'; there are {}", tasks(&whole))
+            let tasks = tasks(&whole);
+            format!("no command is called '{name}'; there are {tasks}; or --help")
         }
         ErrorKind::UnknownArgument if task.is_none() => {
             format!("'{wrong}' is no command; there are {}", tasks(&whole))
@@ -75,7 +76,10 @@ fn accepted(task: Option<&Command>) -> String {
     let arguments = task.into_iter().flat_map(Command::get_arguments);
     let names = arguments.map(|argument| match argument.get_long() {
         Some(long) => format!("--{long}"),
-        None => argument.get_id().to_string().to_uppercase(),
+        None => match argument.get_value_names() {
+            Some([name, ..]) => name.to_string(),
+            _ => argument.get_id().to_string(),
+        },
     });
     names.collect::<Vec<_>>().join(", ")
 }
@@ -111,7 +115,8 @@ mod tests {
             ("b judge --shard 5/4", "I from 1 to N"),
             ("b run", "missing: <SEED>"),
             ("b run x", "a seed is a number"),
-            ("b run 1 2", "'2' is not accepted here"),
+            ("b run 1 2", "'2' is not accepted here; accepted are SEED, "),
+            ("b judge --seeds 5..1", "FIRST not after LAST"),
             ("b merge", "missing: <FILES>"),
         ];
         for (line, part) in cases {

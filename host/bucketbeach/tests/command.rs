@@ -200,6 +200,9 @@ fn wrong_input_gets_one_line() {
         ("judge --servers 0", "there are 1 to 8"),
         ("judge --seeds 1..3 --shard 2/9", "N is 1 to 3"),
         ("run 1 --server 7", "the servers are 1 to 3"),
+        ("run 1 --from 3s --until 1s", "--from is after --until"),
+        ("judge --seeds 5..1", "FIRST not after LAST"),
+        ("help", "or --help"),
         ("merge nothing.json", "nothing.json cannot be read"),
         ("judge --seeds 1..1 --json no/where", "cannot be written"),
     ];
@@ -210,6 +213,18 @@ fn wrong_input_gets_one_line() {
         assert_eq!(err(&done).lines().count(), 1, "{line}: {}", err(&done));
         assert_eq!(out(&done), "", "{line}");
     }
+}
+
+/// `bucketbeach judge 2>&1 | head -1` is no failure of the command.
+#[test]
+fn a_reader_may_go_away() {
+    let folder = folder("reader");
+    let program = env!("CARGO_BIN_EXE_bucketbeach");
+    let gone = format!("{program} run 3 2>&1 | true; echo ${{PIPESTATUS[0]}}");
+    let mut bash = Command::new("bash");
+    let bash = bash.args(["-c", &gone]).current_dir(folder);
+    let done = bash.output().expect("the shell runs");
+    assert_eq!(out(&done), "0\n", "{}", err(&done));
 }
 
 #[test]

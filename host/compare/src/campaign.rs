@@ -9,12 +9,9 @@ use std::thread;
 
 use observe::{Coverage, Recording};
 use stepwise::Stepwise;
-use trace::{Options, Trace, replay, with_refusals};
+use trace::{Options, Trace, replay};
 
-use crate::{Mode, record};
-
-/// Refused calls that are put into a trace, at most.
-const REFUSALS: usize = 300;
+use crate::{Mode, record, refused_between};
 
 /// What one or more seeds have shown.
 #[derive(Debug, Clone, Default)]
@@ -75,8 +72,7 @@ pub fn compare(mode: Mode, seed: u64) -> Outcome {
         let text = format!("{} {seed}: two runs differ", mode.name());
         outcome.differences.push(text);
     }
-    let every = (recording.trace.exchanges.len() / REFUSALS).max(3);
-    let trace = with_refusals(recording.trace, every);
+    let trace = refused_between(recording.trace);
     match replay(&trace, &mut Stepwise::default(), Options::default()) {
         Ok(made) => outcome.calls = made as u64,
         Err(difference) => {

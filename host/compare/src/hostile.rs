@@ -25,7 +25,18 @@ const LAST_STEPS: u64 = 40;
 pub(crate) fn record(seed: u64) -> Recording {
     let mut plan = Plan::new(seed);
     let settings = settings(&mut plan);
-    let mut run = Run::<Hostile>::start(&settings, seed);
+    run(&settings, plan, seed)
+}
+
+/// The same with settings from all of their ranges.
+pub(crate) fn record_wide(seed: u64) -> Recording {
+    let mut plan = Plan::new(seed);
+    let settings = wide_settings(&mut plan);
+    run(&settings, plan, seed)
+}
+
+fn run(settings: &Settings, mut plan: Plan, seed: u64) -> Recording {
+    let mut run = Run::<Hostile>::start(settings, seed);
     // Early, while the violations are still kept in full.
     let checked = plan.below(40);
     for made in 0..plan.pick(&[40, 150, 400]) {
@@ -64,6 +75,42 @@ fn settings(plan: &mut Plan) -> Settings {
         count_bytes: plan.below(2),
         raft_checks: plan.below(2),
         start_spread: plan.pick(&[0, 0, 50 * MS, LONGEST]),
+    }
+}
+
+/// Every number of servers and clients, every length, and durations of every size.
+fn wide_settings(plan: &mut Plan) -> Settings {
+    let message = 1 + wide(plan, 4_096);
+    let log = 1 + wide(plan, 1_023);
+    let heartbeat_interval = 1 + wide(plan, LONGEST - 2);
+    let election_timeout_min =
+        heartbeat_interval + 1 + wide(plan, LONGEST - 1 - heartbeat_interval);
+    Settings {
+        servers: 1 + plan.below(8),
+        heartbeat_interval,
+        election_timeout_min,
+        election_timeout_max: election_timeout_min + wide(plan, LONGEST - election_timeout_min),
+        max_entries_per_message: message,
+        max_entries_in_flight: message + log - 1,
+        one_way_delay: wide(plan, LONGEST),
+        clients: plan.below(65),
+        command_bytes: plan.below(257),
+        client_timeout: wide(plan, LONGEST),
+        client_backoff: wide(plan, LONGEST),
+        count_bytes: plan.below(2),
+        raft_checks: plan.below(2),
+        start_spread: wide(plan, LONGEST),
+    }
+}
+
+/// A number up to `most`, of every size: its bits are drawn first. Sometimes one of the ends.
+fn wide(plan: &mut Plan, most: u64) -> u64 {
+    let bits = plan.below(u64::from(most.max(1).ilog2()) + 2);
+    let drawn = plan.below(1 << bits).min(most);
+    match plan.below(16) {
+        0 => 0,
+        1 => most,
+        _ => drawn,
     }
 }
 

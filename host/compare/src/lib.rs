@@ -1,7 +1,8 @@
 //! Campaigns: many seeds, compared call by call.
 //!
 //! [`Mode`] is which node runs; [`record`] makes the run of a mode and a seed at the reference;
-//! [`campaign`] does it for many seeds and compares. [`reference`] judges by the judge's plan.
+//! [`compared`] is that run as calls to be made at a port; [`campaign`] does it for many seeds and
+//! compares. [`reference`] judges by the judge's plan.
 
 pub mod campaign;
 mod hostile;
@@ -11,7 +12,7 @@ pub mod reference;
 
 use nodes::{AppliesEarly, Correct, TermNotSaved, TruncatesTooFar, VoteNotSaved};
 use observe::Recording;
-use trace::{Trace, with_refusals};
+use trace::{Tables, Trace, with_refusals};
 
 /// Which node runs.
 #[derive(Debug, Clone, Copy, PartialEq, Eq)]
@@ -20,6 +21,8 @@ pub enum Mode {
     Raft,
     /// The node that keeps to no rule.
     Hostile,
+    /// The same node in clusters of every size, with settings from all of their ranges.
+    Wide,
     /// A Raft whose votes are not persisted.
     VoteNotSaved,
     /// A Raft whose term goes back.
@@ -32,9 +35,10 @@ pub enum Mode {
 
 impl Mode {
     /// Every mode.
-    pub const ALL: [Mode; 6] = [
+    pub const ALL: [Mode; 7] = [
         Mode::Raft,
         Mode::Hostile,
+        Mode::Wide,
         Mode::VoteNotSaved,
         Mode::TermNotSaved,
         Mode::AppliesEarly,
@@ -59,6 +63,7 @@ impl Mode {
         match self {
             Mode::Raft => "raft",
             Mode::Hostile => "hostile",
+            Mode::Wide => "wide",
             Mode::VoteNotSaved => "vote-not-saved",
             Mode::TermNotSaved => "term-not-saved",
             Mode::AppliesEarly => "applies-early",
@@ -72,11 +77,40 @@ pub fn record(mode: Mode, seed: u64) -> Recording {
     match mode {
         Mode::Raft => raft::record::<Correct>(seed),
         Mode::Hostile => hostile::record(seed),
+        Mode::Wide => hostile::record_wide(seed),
         Mode::VoteNotSaved => raft::record::<VoteNotSaved>(seed),
         Mode::TermNotSaved => raft::record::<TermNotSaved>(seed),
         Mode::AppliesEarly => raft::record::<AppliesEarly>(seed),
         Mode::TruncatesTooFar => raft::record::<TruncatesTooFar>(seed),
     }
+}
+
+/// Refused calls that are put into a compared run, about.
+const REFUSALS: usize = 300;
+
+/// With the largest tables a call takes long: of those that change nothing one in so many is made.
+const STILL: usize = 8;
+
+/// The run of a mode and a seed as it is compared: under these tables, with refused calls in
+/// between, and of it the first `calls` calls. With the largest tables it has fewer of the calls
+/// that change nothing.
+pub fn compared(mode: Mode, seed: u64, tables: Tables, calls: Option<usize>) -> Trace {
+    let still = if tables == Tables::Largest { STILL } else { 1 };
+    let calls = calls.unwrap_or(usize::MAX);
+    let mut trace = record(mode, seed).trace.under(tables);
+    // The settings never change: they are read behind the start, where no cut takes the reading away.
+    let settings = trace.exchanges.pop();
+    trace.exchanges.truncate(calls.saturating_mul(still));
+    let mut trace = refused_between(trace).thinned(still);
+    trace.exchanges.splice(1..1, settings);
+    trace.exchanges.truncate(calls);
+    trace
+}
+
+/// The trace with refused calls in it, about as many in a long one as in a short one.
+fn refused_between(trace: Trace) -> Trace {
+    let every = (trace.exchanges.len() / REFUSALS).max(3);
+    with_refusals(trace, every)
 }
 
 /// The beginning of the run of a mode and a seed as a module of antt, on which the definitions are

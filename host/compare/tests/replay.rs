@@ -2,9 +2,10 @@
 
 use std::collections::BTreeSet;
 
-use compare::{Mode, record};
+use compare::{Mode, compared, record};
+use port::kinds::refusal;
 use stepwise::Stepwise;
-use trace::{Call, Options, Trace, What, replay, with_refusals};
+use trace::{Call, Exchange, Numbers, Options, Tables, Trace, What, replay, with_refusals};
 
 fn short_trace() -> Trace {
     let traces = (0..40).map(|seed| record(Mode::Hostile, seed).trace);
@@ -97,4 +98,69 @@ fn reads_may_be_left_out() {
         replay(&trace, &mut Stepwise::default(), options).expect("the trace agrees")
     };
     assert!(made(16) < made(1) / 2);
+}
+
+/// The calls of a trace that are refused with this number, by their numbers.
+fn refused_with(trace: &Trace, refusal: u64) -> BTreeSet<u64> {
+    let exchanges = trace.exchanges.iter();
+    let refused = exchanges.filter(|exchange| exchange.answer.numbers.refusal() == refusal);
+    refused.map(|exchange| exchange.call.number()).collect()
+}
+
+#[test]
+fn larger_tables_refuse_what_document_01_says() {
+    let schedule = BTreeSet::from([33]);
+    for (tables, full, too_short) in [
+        (Tables::Smallest, true, true),
+        (Tables::Doubled, false, true),
+        (Tables::Largest, false, false),
+    ] {
+        let trace = compared(Mode::Wide, 5, tables, None);
+        let no_room = refused_with(&trace, refusal::ROOM);
+        assert_eq!(no_room != schedule, full, "{tables:?}: {no_room:?}");
+        let areas = refused_with(&trace, refusal::AREA);
+        assert_eq!(areas == BTreeSet::from([1]), too_short, "{tables:?}");
+        let Call::Start { limits, .. } = &trace.exchanges[0].call else {
+            panic!("a run begins with a start");
+        };
+        let told = trace.exchanges.iter().find_map(capacities);
+        assert_eq!(told, Some((limits.events, limits.history)), "{tables:?}");
+    }
+}
+
+/// Q and H as the settings are read.
+fn capacities(exchange: &Exchange) -> Option<(u64, u64)> {
+    match exchange.answer.numbers {
+        Numbers::Capacities(told) => Some((told.events, told.history)),
+        _ => None,
+    }
+}
+
+#[test]
+fn the_same_run_agrees_under_larger_tables() {
+    for (mode, seed) in [(Mode::Wide, 3), (Mode::Hostile, 31), (Mode::Raft, 4)] {
+        let doubled = compared(mode, seed, Tables::Doubled, None);
+        let made = replay(&doubled, &mut Stepwise::default(), Options::default());
+        assert_eq!(made, Ok(doubled.exchanges.len()));
+    }
+    let first = compared(Mode::Wide, 3, Tables::Smallest, Some(50));
+    assert_eq!(first.exchanges.len(), 50);
+    let whole = compared(Mode::Wide, 3, Tables::Smallest, None);
+    assert!(whole.exchanges.len() > 50);
+}
+
+/// A seed's settings are drawn from all of their ranges.
+#[test]
+fn wide_runs_have_every_size() {
+    let mut servers = BTreeSet::new();
+    let mut clients = BTreeSet::new();
+    for seed in 0..200 {
+        let trace = compared(Mode::Wide, seed, Tables::Smallest, Some(1));
+        if let Call::Start { settings, .. } = &trace.exchanges[0].call {
+            servers.insert(settings.servers);
+            clients.insert(settings.clients);
+        }
+    }
+    assert_eq!(servers, (1..=8).collect());
+    assert!(clients.len() > 50 && clients.contains(&0) && clients.contains(&64));
 }

@@ -1,5 +1,7 @@
 //! The calls as values, and their answers.
 
+use crate::shown::Shown as _;
+
 use port::{
     Applied, AppliedEntry, Capacities, Chaos, Confirmation, Done, Drawn, ENTRY, Entry, HardState,
     Input, Leader, Limits, Log, Metrics, Opened, Port, Refused, Reply, Run, Sealed, SentBy,
@@ -19,7 +21,17 @@ macro_rules! calls {
             )*
         }
 
+        /// The calls' numbers and names, in order.
+        pub(crate) const NAMES: &[(u64, &str)] = &[$(($number, stringify!($name))),*];
+
         impl Call {
+            /// The arguments by name, for people.
+            pub(crate) fn arguments(&self) -> Vec<(&'static str, String)> {
+                match self {
+                    $(Call::$name { $($field),* } => vec![$((stringify!($field), $field.shown())),*],)*
+                }
+            }
+
             /// The call's number in the file form.
             pub fn number(&self) -> u64 {
                 match self {

@@ -2,19 +2,23 @@
 //!
 //! A [`Trace`] is a list of [`Exchange`]s: a [`Call`] and its [`Answer`]. [`replay`] makes the
 //! calls at a port and compares; [`Trace::to_words`] is the form in which a trace is kept in a
-//! file.
+//! file; [`Trace::under`] is the same run with other limits.
 
 mod antt;
 mod call;
 mod form;
 mod refusals;
 mod replay;
+mod shown;
+mod tables;
 mod thinned;
 
 pub use call::{Answer, Call, Numbers};
 pub use form::BadForm;
 pub use refusals::with_refusals;
 pub use replay::{Difference, Options, What, replay};
+pub use shown::call_name;
+pub use tables::Tables;
 
 /// A call and what it must answer.
 #[derive(Debug, Clone, PartialEq, Eq, Hash)]

@@ -5,8 +5,9 @@
 //! it had not been made.
 
 use port::kinds::{self, fault, refusal};
-use port::{Chaos, Input, Limits, Opened, Sealed, Settings, Stepped};
+use port::{Chaos, Input, Limits, Opened, Sealed, Settings, Stepped, area_length};
 
+use crate::replay::PAST;
 use crate::{Call, Exchange, Numbers, Trace};
 
 /// Calls that a full table refuses, at most in one trace.
@@ -189,7 +190,7 @@ impl Place {
 
     fn starts(&self) -> Vec<(Call, u64)> {
         let long = (1 << 40) + 1;
-        vec![
+        let mut starts = vec![
             self.start(|s, _| s.servers = 0, refusal::SERVERS),
             self.start(
                 |s, _| (s.servers, s.heartbeat_interval) = (9, 0),
@@ -212,11 +213,19 @@ impl Place {
             self.start(|_, l| l.events = 65_537, refusal::SETTINGS),
             self.start(|_, l| l.writes = 0, refusal::SETTINGS),
             self.start(|_, l| l.history = u64::MAX, refusal::SETTINGS),
-            self.start(
-                |_, l| (l.events, l.message) = (65_536, 4_096),
-                refusal::AREA,
-            ),
-        ]
+        ];
+        // Where the limits are the largest, no start is too long for the area.
+        let (events, message) = (65_536, 4_096);
+        let longest = Limits {
+            events,
+            message,
+            ..self.limits
+        };
+        let lent = area_length(&self.settings, &self.limits) + PAST as u64;
+        if area_length(&self.settings, &longest) > lent {
+            starts.push(self.start(|_, l| *l = longest, refusal::AREA));
+        }
+        starts
     }
 
     fn reads(&self) -> Vec<(Call, u64)> {

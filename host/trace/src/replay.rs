@@ -51,9 +51,9 @@ pub enum What {
 
 impl fmt::Display for Difference {
     fn fmt(&self, f: &mut fmt::Formatter<'_>) -> fmt::Result {
-        write!(f, "call {} {:?}: ", self.place, self.call)?;
+        write!(f, "call {} {}: ", self.place, self.call)?;
         match &self.what {
-            What::Answer { expected, found } => write!(f, "expected {expected:?}, found {found:?}"),
+            What::Answer { expected, found } => write!(f, "expected {expected}, found {found}"),
             What::Buffer => write!(f, "the buffer was changed past the answer's bytes"),
             What::PastArea => write!(f, "the area was changed past its length"),
             What::Refused => write!(f, "the area was changed by a refused call"),
@@ -64,7 +64,7 @@ impl fmt::Display for Difference {
 impl std::error::Error for Difference {}
 
 /// Bytes lent past the area's length.
-const PAST: usize = 64;
+pub(crate) const PAST: usize = 64;
 
 /// What lent memory holds before anything writes it.
 const OLD: u8 = 0xA5;
@@ -144,7 +144,8 @@ impl Lent {
             });
         }
         let changed = |bytes: &[u8]| bytes.iter().any(|byte| *byte != OLD);
-        if changed(&self.buffer[expected.written()..]) {
+        let behind = self.buffer.get(expected.written()..);
+        if changed(behind.unwrap_or_default()) {
             return Some(What::Buffer);
         }
         if changed(&self.area[self.length..]) {
