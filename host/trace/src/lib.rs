@@ -11,6 +11,7 @@ mod refusals;
 mod replay;
 mod thinned;
 
+pub use antt::runs_to_antt;
 pub use call::{Answer, Call, Numbers};
 pub use form::BadForm;
 pub use refusals::with_refusals;
