@@ -107,7 +107,7 @@ healed =
     ∷ exchange (read readRun) (0 ∷ 5 ∷ 8 ∷ 1 ∷ 0 ∷ 0 ∷ 0 ∷ 0 ∷ 0 ∷ 0 ∷ 0 ∷ []) []
     ∷ []
 
--- 14 exchanges in order.
+-- 15 exchanges in order.
 unfoldable pub lateStart : List Exchange
 lateStart =
     exchange (start (record { servers = 2; consensus = record { «heartbeat_interval» = record { 0 = 1 }; «election_timeout_min» = record { 0 = 2 }; «election_timeout_max» = record { 0 = 2 }; «max_entries_per_message» = 1; «max_entries_in_flight» = 1 }; «one_way_delay» = record { 0 = 10 }; clients = 0; «command_bytes» = 12; «client_timeout» = record { 0 = 60 }; «client_backoff» = record { 0 = 55 }; «count_bytes» = 1; «raft_checks» = 1; «start_spread» = record { 0 = 1000 } }) (record { «log_indexes» = 1; payload = 12; message = 0; events = 3; writes = 1; history = 1 }) 1) (0 ∷ 0 ∷ 0 ∷ 0 ∷ 0 ∷ 0 ∷ []) []
@@ -122,6 +122,7 @@ lateStart =
     ∷ exchange (schedule (record { 0 = 0 }) 0 2 0 []) (0 ∷ []) []
     ∷ exchange (step (record { 0 = 1125899906842624 }) 12) (0 ∷ 1 ∷ 0 ∷ 0 ∷ 0 ∷ 0 ∷ 0 ∷ []) []
     ∷ exchange (step (record { 0 = 1125899906842624 }) 12) (0 ∷ 1 ∷ 0 ∷ 0 ∷ 0 ∷ 0 ∷ 0 ∷ []) []
+    ∷ exchange (read readRun) (0 ∷ 14 ∷ 4 ∷ 1 ∷ 0 ∷ 0 ∷ 0 ∷ 1 ∷ 0 ∷ 0 ∷ 0 ∷ []) []
     ∷ exchange (step (record { 0 = 1125899906842624 }) 12) (0 ∷ 1 ∷ 0 ∷ 0 ∷ 0 ∷ 0 ∷ 0 ∷ []) []
     ∷ exchange (read readRun) (0 ∷ 793 ∷ 5 ∷ 1 ∷ 0 ∷ 0 ∷ 0 ∷ 0 ∷ 0 ∷ 0 ∷ 0 ∷ []) []
     ∷ []

@@ -199,8 +199,10 @@ fn late_start() -> Trace {
     play.fault(Fault::Restart(NodeId(1)), [act()]);
     play.fault(Fault::Restart(NodeId(2)), [act()]);
     play.fault(Fault::Crash(NodeId(2)), []);
-    play.steps(2);
-    play.look(the_run);
+    for _ in 0..2 {
+        play.step([]);
+        play.look(the_run);
+    }
     play.trace()
 }
 
