@@ -1,6 +1,4 @@
 pub mod Trace
 pub mod Unfolded
-pub mod Hostile
-pub mod Raft
-pub mod VoteNotSaved
+pub mod Short
 pub mod Theorem

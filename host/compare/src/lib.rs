@@ -9,6 +9,8 @@ mod hostile;
 pub mod plan;
 mod raft;
 pub mod reference;
+mod scripted;
+pub mod short;
 
 use nodes::{AppliesEarly, Correct, TermNotSaved, TruncatesTooFar, VoteNotSaved};
 use observe::Recording;

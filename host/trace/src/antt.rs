@@ -13,18 +13,24 @@ use Rattle.model.specs.Outcome.{hardState, put, truncate, send, setTimer, cance
 use Rattle.runs.specs.Trace.{Exchange, exchange}
 ";
 
-const DECLARED: &str = "
--- The exchanges in order.
-unfoldable pub exchanges : List Exchange
-exchanges =
-";
+/// The declaration of a list of exchanges.
+fn declared(name: &str, about: &str) -> String {
+    format!("\n-- {about}\nunfoldable pub {name} : List Exchange\n{name} =\n")
+}
 
 impl Trace {
     /// The first `most` exchanges as a module that begins with the line `about`.
+    pub fn to_antt(&self, about: &str, most: usize) -> String {
+        let exchanges = self.to_list(most);
+        let declared = declared("exchanges", "The exchanges in order.");
+        format!("-- {about}\n{NAMES}{declared}    {exchanges}[]\n")
+    }
+
+    /// The first `most` exchanges, each with the sign behind it.
     ///
     /// Left out are calls that the definitions do not have: a schedule, which takes no area, and
     /// a start that is refused for its area's length.
-    pub fn to_antt(&self, about: &str, most: usize) -> String {
+    fn to_list(&self, most: usize) -> String {
         let mut buffer = 0;
         let mut lines = Vec::new();
         for Exchange { call, answer } in &self.exchanges {
@@ -41,9 +47,20 @@ impl Trace {
             lines.push(format!("exchange ({call}) {numbers} {bytes}\n    ∷ "));
         }
         lines.truncate(most);
-        let exchanges = lines.concat();
-        format!("-- {about}\n{NAMES}{DECLARED}    {exchanges}[]\n")
+        lines.concat()
     }
+}
+
+/// Several runs as a module that begins with the line `about`, each under its name.
+pub fn runs_to_antt<'r>(about: &str, runs: impl IntoIterator<Item = (&'r str, Trace)>) -> String {
+    let mut module = format!("-- {about}\n{NAMES}");
+    for (name, trace) in runs {
+        let exchanges = trace.to_list(usize::MAX);
+        let count = trace.exchanges.len();
+        let declared = declared(name, &format!("{count} exchanges in order."));
+        module += &format!("{declared}    {exchanges}[]\n");
+    }
+    module
 }
 
 /// The numbers of an answer as the definitions have them: of a refused call its number alone.

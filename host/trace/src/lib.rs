@@ -13,6 +13,7 @@ mod shown;
 mod tables;
 mod thinned;
 
+pub use antt::runs_to_antt;
 pub use call::{Answer, Call, Numbers};
 pub use form::BadForm;
 pub use refusals::with_refusals;
