@@ -11,6 +11,7 @@ use protocol::Status;
 use state::Capacity;
 use state::ServerState;
 use state_records::ViolationOption;
+use storage::HardState;
 use units::LogIndex;
 use units::NodeId;
 use units::NodeOption;
@@ -269,6 +270,16 @@ fn durability(area: &mut [u8], f: Capacity, time: u64) -> u64
     answer.refusal
 }
 
+// Log matching checked at a time.
+fn matching(area: &mut [u8], f: Capacity, time: u64) -> u64
+    requires { ⌜ Inside (now area) f ⌝ }
+{
+    state_header::set_now(area, f, SimTime(time));
+    let g = state_gate::gate(area);
+    let answer = sim_checks::matching::check_log_matching_in(area, g);
+    answer.refusal
+}
+
 // ---- a row
 
 // A row's operation that asks nothing: a server stops or loses its writes, or the total is set.
@@ -284,6 +295,28 @@ fn plain(area: &mut [u8], f: Capacity, kind: u64, number: u64) -> u64
         _ => {}
     }
     0
+}
+
+// The hard state of a term without a vote.
+fn state_of(term: u64) -> HardState {
+    HardState {
+        term: Term(term),
+        voted_for: NodeOption::None,
+    }
+}
+
+// A row's operation of another kind.
+fn further(area: &mut [u8], f: Capacity, kind: u64, first: u64, second: u64) -> u64
+    requires { ⌜ Inside (now area) f ⌝ }
+    requires { ⌜ 3 ≤ f .servers ⌝ }
+{
+    let k = slot_of(first);
+    match kind {
+        11 => state_disk::write_truncate(area, f, k, LogIndex(second)),
+        12 => state_disk::write_hard_state(area, f, k, state_of(second)),
+        13 => matching(area, f, first),
+        _ => plain(area, f, kind, first),
+    }
 }
 
 // A row's operation.
@@ -305,7 +338,7 @@ fn operate(area: &mut [u8], f: Capacity, row: &[u8]) -> u64
         4 => status_row(area, f, row),
         6 => reply(area, f, first, second, third),
         7 => durability(area, f, first),
-        _ => plain(area, f, kind, first),
+        _ => further(area, f, kind, first, second),
     }
 }
 

@@ -1,4 +1,4 @@
-//! Every check but log matching, on one checker.
+//! Every check, on one checker.
 //!
 //! The reference keeps what its checker remembers to itself, but the checker can be asked: another
 //! payload or leader is reported exactly where one is remembered. A question may change what it
@@ -6,7 +6,9 @@
 
 use std::collections::BTreeSet;
 
-use consensus::{Entry, LogIndex, MemStorage, NodeId, Payload, Rng, Status, Storage, Term};
+use consensus::{
+    Entry, HardState, LogIndex, MemStorage, NodeId, Payload, Rng, Status, Storage, Term,
+};
 use port::kinds::{payload, refusal, role};
 use sim::SimTime;
 use sim::leaves::{self, Checker, TrackedStorage};
@@ -37,6 +39,9 @@ mod kind {
     pub const LOSE: u64 = 8;
     pub const TOTAL: u64 = 9;
     pub const NONE: u64 = 10;
+    pub const TRUNCATE: u64 = 11;
+    pub const HARD_STATE: u64 = 12;
+    pub const LOG_MATCHING: u64 = 13;
 }
 
 /// An operation: its kind and its numbers. A payload is three: its mark, 1 for a noop, else 2 and
@@ -49,7 +54,8 @@ type Operation = [u64; 8];
 /// payload puts an entry; 2, time, server checks that server's writes and syncs them; 3, time,
 /// server, index, payload applies; 4, time, server, role, term is a status; 5, server stops it; 6,
 /// index, client, sequence acknowledges a command; 7, time checks durability; 8, server loses its
-/// writes; 9, total sets the total; 10 does nothing. Zeros up to eight words; then the place of a
+/// writes; 9, total sets the total; 10 does nothing; 11, server, from truncates; 12, server, term
+/// sets the hard state; 13, time checks log matching. Zeros up to eight words; then the place of a
 /// violation that is told, the refusal, 0 or 10, the total, how many violations are kept, payloads
 /// applied, entries seen, leaders; 1 where there is a violation at the place, its time, check,
 /// count of numbers, five numbers; the entries seen (index, term, payload), the leaders (term,
@@ -60,8 +66,7 @@ pub(crate) fn checks() -> File {
     for _ in 0..24 {
         operations.extend(drawn(&mut rng));
     }
-    // One leader of a term more than there is room for.
-    operations.extend((3..9).map(|term| status(term, 1, role::LEADER, term)));
+    operations.extend(full_tables());
     operations.extend(last_totals());
     let mut rows = run(true, &operations);
     let mut operations = every_branch();
@@ -77,6 +82,10 @@ pub(crate) fn checks() -> File {
 fn put(server: u64, index: u64, term: u64, payload: [u64; 3]) -> Operation {
     let [mark, low, high] = payload;
     [kind::PUT, server, index, term, mark, low, high, 0]
+}
+
+fn truncate(server: u64, from: u64) -> Operation {
+    [kind::TRUNCATE, server, from, 0, 0, 0, 0, 0]
 }
 
 fn writes(time: u64, server: u64) -> Operation {
@@ -150,6 +159,13 @@ fn written_and_acknowledged() -> Vec<Operation> {
         put(1, 2, 1, one),
         put(1, 1, 1, two),
         writes(16, 1),
+        // An index that holds no entry any more; no index.
+        put(2, 3, 1, short),
+        truncate(2, 2),
+        [kind::HARD_STATE, 2, 6, 0, 0, 0, 0, 0],
+        writes(17, 2),
+        // Logs that differ before an entry that both hold.
+        plain(kind::LOG_MATCHING, 17),
         // Writes that are lost; none.
         put(2, 1, 5, two),
         plain(kind::LOSE, 2),
@@ -174,14 +190,17 @@ fn drawn(rng: &mut Rng) -> Vec<Operation> {
     let time = rng.next_u64() >> rng.below(64);
     let server = 1 + rng.below(SERVERS as u64);
     let index = 1 + rng.below(INDEXES as u64);
-    match rng.below(8) {
+    match rng.below(9) {
         0 | 1 => {
-            let entries = 1 + rng.below(3);
+            let entries = 1 + rng.below(2);
             let puts = (0..entries).map(|_| {
                 let index = 1 + rng.below(INDEXES as u64);
                 put(server, index, 1 + rng.below(2), some_payload(rng))
             });
             let mut operations: Vec<Operation> = puts.collect();
+            if rng.below(3) == 0 {
+                operations.push(truncate(server, index));
+            }
             operations.extend([writes(time, server), plain(kind::LOSE, server)]);
             operations
         }
@@ -191,8 +210,23 @@ fn drawn(rng: &mut Rng) -> Vec<Operation> {
         }
         4 | 5 => vec![status(time, server, role::LEADER, index + rng.below(4))],
         6 => vec![status(time, server, rng.below(3), index)],
+        7 => vec![plain(kind::LOG_MATCHING, time)],
         _ => vec![plain(kind::STOP, server)],
     }
+}
+
+/// More leaders and entries than there is room for; then logs that differ, with writes that wait.
+fn full_tables() -> Vec<Operation> {
+    let [noop, _, _, short] = payloads();
+    let leaders = (3..9).map(|term| status(term, 1, role::LEADER, term));
+    let mut operations: Vec<Operation> = leaders.collect();
+    for term in 3..9 {
+        operations.extend([put(3, 1, term, short), writes(term, 3)]);
+        operations.push(plain(kind::LOSE, 3));
+    }
+    operations.extend([put(1, 1, 9, noop), put(1, 2, 9, noop)]);
+    operations.extend([put(2, 1, 9, short), put(2, 2, 9, noop)]);
+    operations
 }
 
 /// The total at the end of 64 bits: two reports, one, and none.
@@ -210,10 +244,13 @@ fn last_totals() -> Vec<Operation> {
         status(6, 2, role::LEADER, 1),
         status(7, 2, role::LEADER, u64::MAX),
         status(8, 2, role::FOLLOWER, 1),
-        put(2, 1, 1, other),
-        writes(9, 2),
+        plain(kind::LOG_MATCHING, 9),
         plain(kind::LOSE, 2),
-        plain(kind::DURABILITY, 10),
+        plain(kind::LOG_MATCHING, 10),
+        put(2, 1, 1, other),
+        writes(11, 2),
+        plain(kind::LOSE, 2),
+        plain(kind::DURABILITY, 12),
     ]
 }
 
@@ -308,6 +345,9 @@ impl Checked {
             }
             kind::DURABILITY => self.check_durability(time),
             kind::LOSE => self.disks[slot(first)].crash(),
+            kind::TRUNCATE => self.disks[slot(first)].truncate(LogIndex(second)),
+            kind::HARD_STATE => self.disks[slot(first)].set_hard_state(state_of(second)),
+            kind::LOG_MATCHING => self.check_log_matching(time),
             kind::TOTAL => self.above = first - self.checker.total(),
             _ => {}
         }
@@ -321,11 +361,24 @@ impl Checked {
         disk.sync();
     }
 
+    fn check_log_matching(&mut self, time: SimTime) {
+        let logs = self.disks.iter().map(TrackedStorage::mem);
+        let logs: Vec<_> = (1..).map(NodeId).zip(logs).collect();
+        self.checker.check_log_matching(time, &logs);
+    }
+
     fn check_durability(&mut self, time: SimTime) {
         let applied = self.next_apply.map(|next| next - 1);
         let applied: Vec<_> = (1..).map(NodeId).zip(applied).collect();
         let acknowledged = &self.acknowledged;
         self.checker.check_durability(time, acknowledged, &applied);
+    }
+}
+
+fn state_of(term: u64) -> HardState {
+    HardState {
+        term: Term(term),
+        voted_for: None,
     }
 }
 
@@ -527,8 +580,8 @@ mod tests {
     #[test]
     fn every_check_is_reported() {
         let rows = checks().rows;
-        // Liveness is never reported, log matching has a file of its own.
-        for check in [0, 1, 2, 3, 4, 7] {
+        // Liveness is never reported.
+        for check in [0, 1, 2, 3, 4, 6, 7] {
             let found = rows.iter().any(|row| row[15] == 1 && row[17] == check);
             assert!(found, "no violation of check {check}");
         }
@@ -537,7 +590,13 @@ mod tests {
     #[test]
     fn every_table_is_full_and_more_than_is_kept_is_reported() {
         let rows = checks().rows;
-        for refused in [kind::WRITES, kind::APPLY, kind::STATUS, kind::DURABILITY] {
+        for refused in [
+            kind::WRITES,
+            kind::APPLY,
+            kind::STATUS,
+            kind::DURABILITY,
+            kind::LOG_MATCHING,
+        ] {
             let found = rows
                 .iter()
                 .any(|row| row[0] == refused && row[9] == refusal::ROOM);
