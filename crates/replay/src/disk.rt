@@ -2,7 +2,7 @@
 // writes, 1,024 bytes: 1,408 bytes; a command has up to 7 bytes. A payload is a word: its lowest byte is 1 for a noop, else 2 and the
 // length of the command, whose bytes follow.
 ghost use mathlib.Core.Path.{_≡_};
-ghost use Prim.Native.Nat.{_≤_, _<_};
+ghost use Prim.Native.Nat.{_≤_};
 ghost use lib.ListN.{length};
 use crate::Tally;
 use log::Place;
