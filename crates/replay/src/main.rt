@@ -5,10 +5,11 @@ ghost use Rattle.network.specs.Network.{DelaysFit};
 ghost use Rattle.record.specs.Postcard.{commandLength};
 
 mod links; // operations on a network's links
-mod events; // the order of a queue's events
+mod events; // a queue's events and their order
 mod disk; // operations on a disk
 mod matching; // log matching of two logs
 mod schedules; // random fault schedules
+mod settings; // settings and limits
 
 use client::Decoded;
 use config::Config;
@@ -38,6 +39,7 @@ enum File {
     Records,
     Routes,
     LogMatching,
+    Settings,
 }
 
 // The words of a row.
@@ -54,6 +56,7 @@ fn width(file: File) -> usize
         File::Records => 6,
         File::Routes => 12,
         File::LogMatching => 20,
+        File::Settings => 22,
     }
 }
 
@@ -173,6 +176,22 @@ fn node_of(present: u64, id: u64) -> NodeOption {
         NodeOption::None
     } else {
         NodeOption::Some(NodeId(id))
+    }
+}
+
+// 1 where there is a server.
+fn present(node: NodeOption) -> u64 {
+    match node {
+        NodeOption::None => 0,
+        NodeOption::Some(_) => 1,
+    }
+}
+
+// A server's id, 0 where there is none.
+fn id(node: NodeOption) -> u64 {
+    match node {
+        NodeOption::None => 0,
+        NodeOption::Some(id) => id.0,
     }
 }
 
@@ -333,13 +352,15 @@ fn agrees(file: File, row: &[u8]) -> bool {
         File::Records => record_agrees(row),
         File::Routes => route_agrees(row),
         File::LogMatching => matching::agrees(row),
+        File::Settings => settings::agrees(row),
     }
 }
 
-// How many rows were compared, and how many of them differ.
+// How many rows were compared, how many of them differ, and the first that does, counted from 1, or 0.
 struct Tally {
     rows: u64,
     differ: u64,
+    first: u64,
 }
 
 // One more row that differs, unless it agrees.
@@ -350,11 +371,25 @@ fn counted(differ: u64, agrees: bool) -> u64
     if agrees { differ } else { differ + 1 }
 }
 
+// The first row that differs, where n rows were compared and the next may be it.
+fn first_of(first: u64, n: u64, agrees: bool) -> u64
+    requires { ⌜ n < 2 ^ 63 ⌝ }
+{
+    if agrees {
+        return first;
+    }
+    if first == 0 { n + 1 } else { first }
+}
+
 // A tally of no rows.
 fn none() -> Tally
     ensures { λ r. ⌜ (r .rows ≤ 0) × (r .differ ≤ 0) ⌝ }
 {
-    Tally { rows: 0, differ: 0 }
+    Tally {
+        rows: 0,
+        differ: 0,
+        first: 0,
+    }
 }
 
 // A tally of one more row.
@@ -365,6 +400,7 @@ fn tallied(t: Tally, agrees: bool) -> Tally
     Tally {
         rows: t.rows + 1,
         differ: counted(t.differ, agrees),
+        first: first_of(t.first, t.rows, agrees),
     }
 }
 
@@ -387,7 +423,12 @@ fn report(name: &[u8], t: Tally) {
     io::print_decimal(STDOUT_FILENO, t.rows);
     io::write_all(STDOUT_FILENO, b" rows, ");
     io::print_decimal(STDOUT_FILENO, t.differ);
-    io::write_all(STDOUT_FILENO, b" differ\n");
+    io::write_all(STDOUT_FILENO, b" differ");
+    if t.differ != 0 {
+        io::write_all(STDOUT_FILENO, b", the first is row ");
+        io::print_decimal(STDOUT_FILENO, t.first);
+    }
+    io::write_all(STDOUT_FILENO, b"\n");
 }
 
 // Reads a file to the front of a buffer; nothing where it cannot be opened.
@@ -417,13 +458,13 @@ fn replay_links(buffer: &mut [u8]) {
 
 fn replay_queue(buffer: &mut [u8]) {
     let n = read(b"queue.bin", buffer);
-    let mut area = [0u8; 7168];
+    let mut area = [0u8; 11264];
     report(b"queue", events::compared(&buffer[..n], &mut area));
 }
 
 fn replay_disk(buffer: &mut [u8]) {
     let n = read(b"disk.bin", buffer);
-    let mut disk = [0u8; 1280];
+    let mut disk = [0u8; 1408];
     report(b"disk", disk::compared(&buffer[..n], &mut disk));
 }
 
@@ -451,6 +492,7 @@ fn main() {
         &mut buffer,
     );
     replay(b"config", b"config.bin", File::Config, &mut buffer);
+    replay(b"settings", b"settings.bin", File::Settings, &mut buffer);
     replay(b"records", b"records.bin", File::Records, &mut buffer);
     replay(b"routes", b"routes.bin", File::Routes, &mut buffer);
     replay_links(&mut buffer);

@@ -3,10 +3,13 @@
 //! Each file is a sequence of rows of 64-bit words, little-endian, all of one width. README.md of
 //! the host says what the words of each row are.
 
+mod checker;
 mod checks;
 mod client;
 mod config;
 mod faults;
+mod leader;
+mod metrics;
 mod network;
 mod queue;
 mod rng;
@@ -16,6 +19,8 @@ mod storage;
 /// A file of recorded answers.
 #[derive(Debug, Clone, PartialEq, Eq)]
 pub struct File {
+    /// The crate that replays it, in whose folder `data` it lies.
+    pub owner: &'static str,
     /// The name, without a folder.
     pub name: &'static str,
     /// Words in a row.
@@ -30,9 +35,18 @@ impl File {
         rows: impl IntoIterator<Item = [u64; WIDTH]>,
     ) -> Self {
         File {
+            owner: "replay",
             name,
             width: WIDTH,
             rows: rows.into_iter().map(|row| row.to_vec()).collect(),
+        }
+    }
+
+    /// The file as one of the crate `replay_checks`.
+    fn of_checks(self) -> Self {
+        File {
+            owner: "replay_checks",
+            ..self
         }
     }
 
@@ -52,6 +66,7 @@ pub fn all() -> Vec<File> {
         client::encode(),
         client::decode(),
         config::validate(),
+        config::settings(),
         storage::record_lengths(),
         storage::disk(),
         network::links(),
@@ -59,6 +74,9 @@ pub fn all() -> Vec<File> {
         faults::schedules(),
         queue::order(),
         checks::log_matching(),
+        leader::leaders().of_checks(),
+        metrics::counters().of_checks(),
+        checker::checks().of_checks(),
     ]
 }
 
@@ -93,7 +111,7 @@ mod tests {
     #[test]
     fn the_files_are_small() {
         let bytes: usize = all().iter().map(|file| file.bytes().len()).sum();
-        assert!(bytes < 100_000, "{bytes} bytes");
+        assert!(bytes < 400_000, "{bytes} bytes");
     }
 
     #[test]

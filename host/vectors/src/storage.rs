@@ -55,46 +55,96 @@ fn hard_state(term: u64, voted: u64, vote: u64) -> HardState {
     }
 }
 
-/// Operations on one disk of 16 places, each with what it leaves.
+/// Places of each log of a disk.
+const PLACES: usize = 8;
+
+/// Operations on one disk, each with what it leaves.
 ///
-/// The operation: 0, term, 1 where voted, vote, 0 sets the hard state; 1, index, term, payload
-/// kind, the eight bytes of the command puts; 2, from, 0, 0, 0 truncates; 3 syncs; 4 crashes.
-/// Then: 1 where a sync wrote something, the bytes that it wrote, term, 1 where voted, vote,
-/// entries, last index, gaps, discarded.
+/// The operation: 0, term, 1 where voted, vote sets the hard state; 1, index, term, payload puts;
+/// 2, from, 0, 0 truncates; 3 syncs; 4 crashes. Then: 1 where a sync wrote something, the bytes
+/// that it wrote; term, 1 where voted, vote; entries, last index, gaps, discarded; the durable
+/// term, 1 where voted, vote; of each place of the log its payload and term; the same of each
+/// place of the durable log.
 pub(crate) fn disk() -> File {
     let mut rng = Rng::new(4);
     let mut disk = TrackedStorage::default();
-    let rows = (0..120).map(|_| {
-        let operation = match rng.below(12) {
-            0 | 1 => [0, rng.below(5), rng.below(2), 1 + rng.below(3), 0],
-            2 => [2, rng.below(19), 0, 0, 0],
-            3 => [2, rng.next_u64(), 0, 0, 0],
-            4 | 5 => [3, 0, 0, 0, 0],
-            6 => [4, 0, 0, 0, 0],
-            _ => [
-                1,
-                1 + rng.below(16),
-                rng.below(3),
-                rng.below(2),
-                rng.below(3),
-            ],
+    let rows = (0..150).map(|_| {
+        let operation = match rng.below(14) {
+            0 | 1 => [0, number(&mut rng), rng.below(2), number(&mut rng)],
+            2 => [2, rng.below(PLACES as u64 + 3), 0, 0],
+            3 => [2, rng.next_u64(), 0, 0],
+            4 | 5 => [3, 0, 0, 0],
+            6 => [4, 0, 0, 0],
+            _ => {
+                let index = 1 + rng.below(PLACES as u64);
+                [1, index, number(&mut rng), payload_word(&mut rng)]
+            }
         };
         operate(&mut disk, operation)
     });
     File::new("disk.bin", rows)
 }
 
-fn operate(disk: &mut TrackedStorage, operation: [u64; 5]) -> [u64; 14] {
-    let [kind, first, second, third, fourth] = operation;
+/// A number of any size, small ones often.
+fn number(rng: &mut Rng) -> u64 {
+    match rng.below(2) {
+        0 => rng.below(4),
+        _ => rng.next_u64() >> rng.below(64),
+    }
+}
+
+/// A noop or a command of up to seven bytes, as a word; some are drawn often.
+fn payload_word(rng: &mut Rng) -> u64 {
+    let length = rng.below(8) as usize;
+    let payload = match rng.below(5) {
+        0 => Payload::Noop,
+        1 => Payload::Command(Command(vec![0; length])),
+        2 => Payload::Command(Command(vec![7])),
+        _ => {
+            let bytes = (0..length).map(|_| rng.next_u64() as u8);
+            Payload::Command(Command(bytes.collect()))
+        }
+    };
+    packed(&payload)
+}
+
+/// A payload as a word: the lowest byte is 1 for a noop, else 2 and the length of the command,
+/// whose bytes follow.
+fn packed(payload: &Payload) -> u64 {
+    let mut bytes = [0; 8];
+    match payload {
+        Payload::Noop => bytes[0] = 1,
+        Payload::Command(Command(command)) => {
+            bytes[0] = 2 + command.len() as u8;
+            bytes[1..=command.len()].copy_from_slice(command);
+        }
+    }
+    u64::from_le_bytes(bytes)
+}
+
+fn unpacked(word: u64) -> Payload {
+    let bytes = word.to_le_bytes();
+    match bytes[0] {
+        1 => Payload::Noop,
+        mark => Payload::Command(Command(bytes[1..usize::from(mark) - 1].to_vec())),
+    }
+}
+
+/// What each place of a log holds: payload and term, zeros where there is no entry.
+fn places(storage: &impl Storage) -> impl Iterator<Item = u64> {
+    (1..=PLACES as u64).flat_map(move |index| {
+        let entry = storage.entry(LogIndex(index));
+        entry.map_or([0, 0], |entry| [packed(&entry.payload), entry.term.0])
+    })
+}
+
+fn operate(disk: &mut TrackedStorage, operation: [u64; 4]) -> [u64; 16 + 4 * PLACES] {
+    let [kind, first, second, third] = operation;
     let mut synced = false;
     match kind {
         0 => disk.set_hard_state(hard_state(first, second, third)),
         1 => {
-            let payload = match third {
-                0 => Payload::Noop,
-                _ => Payload::Command(Command(fourth.to_le_bytes().to_vec())),
-            };
-            let term = Term(second);
+            let (term, payload) = (Term(second), unpacked(third));
             disk.put(LogIndex(first), Entry { term, payload });
         }
         2 => disk.truncate(LogIndex(first)),
@@ -103,12 +153,11 @@ fn operate(disk: &mut TrackedStorage, operation: [u64; 5]) -> [u64; 14] {
     }
     let state = numbers::hard_state(disk.hard_state());
     let log = numbers::log(disk.mem());
-    [
-        kind,
-        first,
-        second,
-        third,
-        fourth,
+    // What a crash leaves is what is durable.
+    let mut durable = disk.clone();
+    durable.crash();
+    let kept = numbers::hard_state(durable.hard_state());
+    let answers = [
         synced.into(),
         disk.take_synced_bytes(),
         state.term,
@@ -118,7 +167,14 @@ fn operate(disk: &mut TrackedStorage, operation: [u64; 5]) -> [u64; 14] {
         log.last,
         disk.gaps(),
         disk.discarded(),
-    ]
+        kept.term,
+        kept.voted,
+        kept.vote,
+    ];
+    let told = operation.into_iter().chain(answers);
+    let told = told.chain(places(disk)).chain(places(&durable));
+    let words: Vec<u64> = told.collect();
+    words.try_into().expect("as many words as a row has")
 }
 
 #[cfg(test)]
@@ -130,5 +186,39 @@ mod tests {
         assert_eq!(record([0, 0, 0, 0, 0])[5], 7);
         assert_eq!(record([1, 1, 1, 1, 12])[5], 21);
         assert_eq!(record([2, 128, 0, 0, 0])[5], 7);
+    }
+
+    #[test]
+    fn payloads_go_there_and_back() {
+        let command = |bytes: &[u8]| Payload::Command(Command(bytes.to_vec()));
+        for payload in [Payload::Noop, command(&[]), command(&[0; 7]), command(&[9])] {
+            assert_eq!(unpacked(packed(&payload)), payload);
+        }
+    }
+
+    #[test]
+    fn both_logs_hold_entries_that_the_other_does_not() {
+        let rows = disk().rows;
+        let (current, durable) = (16..16 + 2 * PLACES, 16 + 2 * PLACES..16 + 4 * PLACES);
+        assert!(
+            rows.iter()
+                .any(|row| row[current.clone()] != row[durable.clone()])
+        );
+        for kind in 0..5 {
+            assert!(rows.iter().any(|row| row[0] == kind), "no operation {kind}");
+        }
+        for row in rows.iter().filter(|row| row[0] == 4) {
+            assert_eq!(row[current.clone()], row[durable.clone()]);
+        }
+        let lost = rows.windows(2).filter(|pair| pair[1][0] == 4);
+        assert!(
+            lost.clone()
+                .any(|pair| pair[0][current.clone()] != pair[1][current.clone()])
+        );
+        let kept = rows.windows(2).filter(|pair| pair[1][0] == 3);
+        assert!(
+            kept.clone()
+                .any(|pair| pair[0][durable.clone()] != pair[1][durable.clone()])
+        );
     }
 }

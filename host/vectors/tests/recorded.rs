@@ -5,8 +5,9 @@ use std::path::Path;
 
 #[test]
 fn the_recorded_answers_are_the_references() {
-    let folder = Path::new(env!("CARGO_MANIFEST_DIR")).join("../../crates/replay/data");
+    let crates = Path::new(env!("CARGO_MANIFEST_DIR")).join("../../crates");
     for file in vectors::all() {
+        let folder = crates.join(file.owner).join("data");
         let held = fs::read(folder.join(file.name)).unwrap_or_default();
         assert!(held == file.bytes(), "{}: host/record", file.name);
     }

@@ -1,4 +1,5 @@
-//! Writes the recorded answers into a folder.
+//! Writes the recorded answers into the folder `crates/replay/data` that is named, and those that another crate replays
+//! into that crate's folder beside it.
 
 use std::path::Path;
 use std::process::ExitCode;
@@ -19,8 +20,12 @@ fn main() -> ExitCode {
 }
 
 fn write(folder: &Path) -> io::Result<()> {
-    fs::create_dir_all(folder)?;
     for file in vectors::all() {
+        let folder = match file.owner {
+            "replay" => folder.to_path_buf(),
+            owner => folder.join("../..").join(owner).join("data"),
+        };
+        fs::create_dir_all(&folder)?;
         fs::write(folder.join(file.name), file.bytes())?;
         let (rows, width) = (file.rows.len(), file.width);
         println!("{:20} {rows:4} rows of {width:2} words", file.name);

@@ -1,4 +1,4 @@
--- Made by tools/uniform from proofs.txt, not by hand: e41d20b51c3b4cbf
+-- Made by tools/uniform from proofs.txt, not by hand: 747aaf6b90d34d77
 use Prim.Native.Nat.{_-_, _^_, _≤_, _<_}
 use mathlib.Core.Path.{_≡_}
 use lib.ListN.{length}
@@ -7,7 +7,7 @@ use Rattle.replay.proofs.disk.compared.Statement.{statement}
 use Rattle.replay.proofs.disk.compared.Tie as tie
 
 abbrev Inv-loop : tie.InvT-loop
-Inv-loop s disk₀ v₀ tally₀ at₀ disk v tally at = (at ≤ length s) × (length s < 2 ^ 63) × (tally .rows ≤ at) × (tally .differ ≤ at) × (length disk ≡ 1280)
+Inv-loop s disk₀ v₀ tally₀ at₀ disk v tally at = (at ≤ length s) × (length s < 2 ^ 63) × (tally .rows ≤ at) × (tally .differ ≤ at) × (length disk ≡ 1408)
 
 abbrev μ-loop : tie.MeasureT-loop
 μ-loop s disk₀ v₀ tally₀ at₀ disk v tally at = length s - at

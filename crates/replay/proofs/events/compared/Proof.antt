@@ -1,4 +1,4 @@
--- Made by tools/uniform from proofs.txt, not by hand: b7d017d88f6ed67d
+-- Made by tools/uniform from proofs.txt, not by hand: 7efff4e08d13dec7
 use Prim.Native.Nat.{_-_, _≤_}
 use mathlib.Core.Path.{_≡_}
 use lib.ListN.{length}
@@ -7,7 +7,7 @@ use Rattle.replay.proofs.events.compared.Statement.{statement}
 use Rattle.replay.proofs.events.compared.Tie as tie
 
 abbrev Inv-loop : tie.InvT-loop
-Inv-loop s area₀ n₀ tally₀ at₀ area n tally at = (at ≤ length s) × (tally .rows ≤ at) × (tally .differ ≤ at) × (length area ≡ 7168)
+Inv-loop s area₀ n₀ tally₀ at₀ area n tally at = (at ≤ length s) × (tally .rows ≤ at) × (tally .differ ≤ at) × (length area ≡ 11264)
 
 abbrev μ-loop : tie.MeasureT-loop
 μ-loop s area₀ n₀ tally₀ at₀ area n tally at = length s - at
