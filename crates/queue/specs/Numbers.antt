@@ -23,11 +23,12 @@ use Rattle.queue.specs.declared.numbers.EventWords.{EventWords}
 use Rattle.queue.specs.declared.numbers.EventOption.{EventOption}
 use Rattle.queue.specs.declared.numbers.EventOption.the-variants.{None, Some}
 
--- Whether a server is named, as a number, and the server's number, 0 where none is named.
+-- Whether a server is named, as a number.
 abbrev pub presentOf : NodeOption → ℕ
 presentOf NoNode = 0
 presentOf (SomeNode id) = 1
 
+-- The server's number, 0 where none is named.
 abbrev pub namedOf : NodeOption → ℕ
 namedOf NoNode = 0
 namedOf (SomeNode id) = id .0
@@ -45,11 +46,12 @@ wordsOf (event.ClientRetry client attempt) = record { kind = 7; a = client; b = 
 wordsOf (event.ClientReply client seq index) = record { kind = 8; a = client; b = seq; c = index .0; d = 0 }
 wordsOf (event.ClientTimeout client attempt) = record { kind = 9; a = client; b = attempt; c = 0; d = 0 }
 
--- A timer that is there, or any; a fault that is there, or any.
+-- A timer that is there, or any.
 abbrev pub timerOr : TimerOption → Timer
 timerOr NoTimer = Election
 timerOr (SomeTimer timer) = timer
 
+-- A fault that is there, or any.
 abbrev pub faultOr : FaultOption → Fault
 faultOr NoFault = HealAll
 faultOr (SomeFault fault) = fault
