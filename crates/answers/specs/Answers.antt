@@ -5,9 +5,9 @@ use mathlib.Core.Option.{Option, none, some}
 use Prim.Native.Nat.{ℕ, _+_, _-_}
 use lib.ListN.{length, getD}
 use Rattle.units.specs.Types.{Payload, noop, command, Entry}
+pub use Rattle.units.specs.Types.{nodeFlag as nodePresent, nodeNumber as nodeId}
+pub use Rattle.layout.specs.Payload.{bodyOf as commandBytes}
 use Rattle.units.specs.declared.NodeId.{NodeId}
-use Rattle.units.specs.declared.NodeOption.{NodeOption}
-use Rattle.units.specs.declared.NodeOption.the-variants as node
 use Rattle.units.specs.declared.LogIndex.{LogIndex}
 use Rattle.protocol.specs.Numbers.{timerNumber, roleNumber}
 use Rattle.protocol.specs.declared.Status.{Status}
@@ -22,6 +22,7 @@ use Rattle.model.specs.Simulation.{Opening, noInput, openStart, openMessage, op
 use Rattle.model.specs.Calls.{Asked, Stepped, Sealed, sealingNumber}
 use Rattle.model.specs.Calls as calls
 use Rattle.model.specs.Reads.{LogRead, MetricsRead, RunRead, SettingsRead}
+pub use Rattle.state.specs.Parts.{boolNumber as flag, phaseKind as phaseNumber}
 use Rattle.answers.specs.declared.DoneAnswer.{DoneAnswer}
 use Rattle.answers.specs.declared.InputNumbers.{InputNumbers}
 use Rattle.answers.specs.declared.OpenedAnswer.{OpenedAnswer}
@@ -44,30 +45,10 @@ use Rattle.answers.specs.declared.SettingsAnswer.{SettingsAnswer}
 
 -- ---- small values
 
--- A flag.
-abbrev pub flag : Bool → ℕ
-flag false = 0
-flag true = 1
-
--- Whether a server is there, as a number.
-abbrev pub nodePresent : NodeOption → ℕ
-nodePresent node.None = 0
-nodePresent (node.Some id) = 1
-
--- The server's id, 0 where none is there.
-abbrev pub nodeId : NodeOption → ℕ
-nodeId node.None = 0
-nodeId (node.Some id) = id .0
-
 -- A payload's kind.
 abbrev pub payloadKind : Payload → ℕ
 payloadKind noop = 0
 payloadKind (command bytes) = 1
-
--- The bytes of a command.
-abbrev pub commandBytes : Payload → List ℕ
-commandBytes noop = []
-commandBytes (command bytes) = bytes
 
 -- ---- calls that act
 
@@ -298,12 +279,6 @@ violationYes (some v) =
       count = length d;
       numbers = getD d 0 0 ∷ getD d 1 0 ∷ getD d 2 0 ∷ getD d 3 0 ∷ getD d 4 0 ∷ [];
     }
-
--- The number of a phase.
-abbrev pub phaseNumber : Phase → ℕ
-phaseNumber closed = 0
-phaseNumber (writing slot input owed) = 1
-phaseNumber (sending slot input verdict owed) = 2
 
 -- The server whose input is open, or 0.
 abbrev pub openServer : Phase → ℕ

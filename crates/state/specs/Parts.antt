@@ -11,6 +11,8 @@ use borrow.Author.Tests.{eqb-true, eq-eqb}
 use Rattle.laws.specs.Bools.{pick, _and_, and-left, and-right, and-both, allb, every}
 use Rattle.layout.specs.Code.{Code}
 use Rattle.layout.specs.UpTo.{is64}
+pub use Rattle.units.specs.Types.{nodeFlag, nodeNumber}
+unfoldable pub use Rattle.units.specs.Types.{nodeIn}
 use Rattle.units.specs.declared.NodeOption.{NodeOption}
 use Rattle.units.specs.declared.NodeOption.the-variants.{None, Some}
 use Rattle.units.specs.declared.TermOption.{TermOption}
@@ -196,20 +198,6 @@ abbrev pub countsCode : Code TableCounts
 countsCode = struct 8 countsWords countsIn (λ c. every is64 (countsWords c)) (λ ws. true) counts-struct
 
 -- ---- a server's hard states and counts: 8 words
-
--- Whether a server is there, as a number.
-abbrev pub nodeFlag : NodeOption → ℕ
-nodeFlag None = 0
-nodeFlag (Some id) = 1
-
--- The server's id, 0 where none is there.
-abbrev pub nodeNumber : NodeOption → ℕ
-nodeNumber None = 0
-nodeNumber (Some id) = id .0
-
--- The server that may be absent, from the two numbers.
-unfoldable pub nodeIn : ℕ → ℕ → NodeOption
-nodeIn flag id = pick (eqb flag 0) None (Some (record { 0 = id }))
 
 pub node-back : (o : NodeOption) → nodeIn (nodeFlag o) (nodeNumber o) ≡ o
 unfolding nodeIn

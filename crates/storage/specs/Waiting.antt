@@ -9,6 +9,7 @@ use lib.ListN.{length, getD}
 use borrow.Author.Tests.{eqb-true}
 use Rattle.laws.specs.Bools.{and-right, _and_, pick}
 use Rattle.units.specs.Types.{Payload, noop, command}
+pub use Rattle.units.specs.Types.{nodeNumber as voteNumber}
 use Rattle.units.specs.declared.Term.{Term}
 use Rattle.units.specs.declared.LogIndex.{LogIndex}
 use Rattle.units.specs.declared.NodeOption.{NodeOption}
@@ -118,11 +119,6 @@ writeFrom (putCommand bs) a b = writePut (record { 0 = a }) (record { term = rec
 abbrev pub voteKind : NodeOption → Kind
 voteKind None = hardState
 voteKind (Some id) = vote
-
--- The number of a vote, 0 where there is none.
-abbrev pub voteNumber : NodeOption → ℕ
-voteNumber None = 0
-voteNumber (Some id) = id .0
 
 -- The kind of a put, by its payload.
 abbrev pub payloadKind : Payload → Kind
