@@ -123,11 +123,12 @@ inputBytes (openTimer server timer) = []
 inputBytes (openProposal server client seq) = []
 inputBytes (openConfirmation server request) = []
 
--- The bytes of an entry's command, and of an applied one.
+-- The bytes of an entry's command.
 abbrev pub entryBytes : Option Entry → List ℕ
 entryBytes none = []
 entryBytes (some e) = commandBytes (e .payload)
 
+-- The bytes of an applied command.
 abbrev pub appliedBytes : Option Payload → List ℕ
 appliedBytes none = []
 appliedBytes (some p) = commandBytes p

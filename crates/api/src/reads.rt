@@ -3,8 +3,7 @@ ghost use mathlib.Core.Path.{_≡_};
 ghost use Rattle.model.specs.Reads.{readStatus, readHardState, readLog, readLeader, readApplied, readMetrics, readSentBy, readReply, readConfirmation, readViolation, readRun, readSettings};
 ghost use Rattle.state.specs.Call.{reading};
 ghost use Rattle.answers.specs.Answers.{statusNo, statusYes, hardStateNo, hardStateYes, logNo, logYes, leaderNo, leaderYes, appliedNo, appliedYes, metricsNo, metricsYes, sentByNo, sentByYes, replyNo, replyYes, confirmationNo, confirmationYes, violationNo, violationYes, runNo, runYes, settingsNo, settingsYes};
-ghost use Rattle.sim_reads.specs.Servers.{EntryRead};
-ghost use Rattle.sim_reads_report.specs.Report.{AppliedRead};
+ghost use Rattle.api.specs.Called.{EntryCalled, AppliedCalled};
 use answers::AppliedAnswer;
 use answers::AppliedEntryAnswer;
 use answers::ConfirmationAnswer;
@@ -55,7 +54,7 @@ pub extern "C" fn sim_read_entry(
     index: u64,
     buffer: &mut [u8],
 ) -> EntryAnswer
-    ensures { λ r. ⌜ EntryRead (now (area .entry)) server index (now (buffer .entry)) (now (buffer .exit)) r ⌝ }
+    ensures { λ r. ⌜ EntryCalled (now (area .entry)) server index (now (buffer .entry)) (now (buffer .exit)) r ⌝ }
 {
     let g = state_gate::gate(area);
     sim_reads::read_entry_in(area, g, server, index, buffer)
@@ -86,7 +85,7 @@ pub extern "C" fn sim_read_applied_entry(
     index: u64,
     buffer: &mut [u8],
 ) -> AppliedEntryAnswer
-    ensures { λ r. ⌜ AppliedRead (now (area .entry)) index (now (buffer .entry)) (now (buffer .exit)) r ⌝ }
+    ensures { λ r. ⌜ AppliedCalled (now (area .entry)) index (now (buffer .entry)) (now (buffer .exit)) r ⌝ }
 {
     let g = state_gate::gate(area);
     sim_reads_report::read_applied_entry_in(area, g, index, buffer)

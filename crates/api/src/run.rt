@@ -3,7 +3,7 @@ ghost use mathlib.Core.Path.{_≡_};
 ghost use Rattle.model.specs.Calls.{start, seal, end};
 ghost use Rattle.state.specs.Call.{call, starting};
 ghost use Rattle.answers.specs.Answers.{openedNo, openedYes, sealedNo, sealedYes};
-ghost use Rattle.sim_step.specs.Steps.{StepMade};
+ghost use Rattle.api.specs.Called.{StepCalled};
 ghost use Rattle.api.specs.Given.{settingsGiven, limitsGiven};
 use crate::settings;
 use crate::settings::LimitsNumbers;
@@ -30,7 +30,7 @@ pub extern "C" fn sim_start(
 // The first event at or before the deadline happens; where there is none, the time rises to the deadline. The bytes of a message go to the buffer.
 #[no_mangle]
 pub extern "C" fn sim_step(area: &mut [u8], deadline: u64, buffer: &mut [u8]) -> SteppedAnswer
-    ensures { λ r. ⌜ StepMade (now (area .entry)) (now (area .exit)) deadline (now (buffer .entry)) (now (buffer .exit)) r ⌝ }
+    ensures { λ r. ⌜ StepCalled (now (area .entry)) (now (area .exit)) deadline (now (buffer .entry)) (now (buffer .exit)) r ⌝ }
 {
     let g = state_gate::gate(area);
     sim_step::step_in(area, g, deadline, buffer)

@@ -117,6 +117,7 @@ abbrev pub openInput : Book → NodeId → Book
 openInput b server =
     record { lastIndex = b .lastIndex; finished = b .finished; waiting = b .waiting; input = unsealed; server = server; given = b .given }
 
+-- The book after an input has ended: none is open.
 abbrev pub noneOpen : Book → Book
 noneOpen b = record { lastIndex = b .lastIndex; finished = b .finished; waiting = b .waiting; input = notOpen; server = b .server; given = b .given }
 

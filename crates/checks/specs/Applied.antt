@@ -21,13 +21,14 @@ use Rattle.checks.specs.declared.applied.AppliedSeen.the-variants.{Same,
 use Rattle.checks.specs.Checks.{Checker, reportIf}
 use Rattle.checks.specs.Asked.{appendIf}
 
--- Whether an answer is that another payload was applied there, and that the place is the next free one.
+-- Whether an answer is that another payload was applied there.
 abbrev pub isOther : AppliedSeen → Bool
 isOther Same = false
 isOther Other = true
 isOther Next = false
 isOther Further = false
 
+-- Whether an answer is that the place is the next free one.
 abbrev pub isNext : AppliedSeen → Bool
 isNext Same = false
 isNext Other = false

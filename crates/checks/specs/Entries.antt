@@ -27,9 +27,11 @@ use Rattle.checks.specs.Asked.{insertSeenIf, seenOf}
 abbrev pub seenParts : ℕ → Code ((ℕ × ℕ) × Payload)
 seenParts p = pair (pair word word) (payload p)
 
+-- The entry seen of a row's parts.
 abbrev pub fromParts : (ℕ × ℕ) × Payload → Seen
 fromParts x = record { index = record { 0 = x .0 .0 }; term = record { 0 = x .0 .1 }; payload = x .1 }
 
+-- A row's parts of an entry seen.
 abbrev pub toParts : Seen → (ℕ × ℕ) × Payload
 toParts s = ((s .index .0, s .term .0), s .payload)
 
@@ -51,12 +53,13 @@ seenIn L p = suchTable (seen p) (indexWithin L)
 
 -- ---- answers
 
--- Whether an answer is that another payload was seen there, and that none was.
+-- Whether an answer is that another payload was seen there.
 abbrev pub isOther : EntrySeen → Bool
 isOther Same = false
 isOther Other = true
 isOther New = false
 
+-- Whether an answer is that none was seen there.
 abbrev pub isNew : EntrySeen → Bool
 isNew Same = false
 isNew Other = false

@@ -34,17 +34,19 @@ leaders S = record {
 
 -- ---- answers
 
--- Whether an answer is that another server led the term first, and which; and whether it is that none did.
+-- Whether an answer is that another server led the term first.
 abbrev pub isOther : LeaderSeen → Bool
 isOther Same = false
 isOther (Other first) = true
 isOther New = false
 
+-- The server that led the term first, 0 where no other did.
 abbrev pub firstOf : LeaderSeen → ℕ
 firstOf Same = 0
 firstOf (Other first) = first .0
 firstOf New = 0
 
+-- Whether an answer is that none led the term before.
 abbrev pub isNew : LeaderSeen → Bool
 isNew Same = false
 isNew (Other first) = false

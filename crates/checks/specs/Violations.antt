@@ -66,9 +66,11 @@ number-of n h = get-number checks n ∙ ap (λ (l : List ℕ). getD l n 0) numbe
 abbrev pub triple : Code (ℕ × (ℕ × List ℕ))
 triple = pair word (pair (such word (λ n. ltb n 8)) (upTo 5 (omega arith)))
 
+-- The violation of a row's numbers.
 abbrev pub fromTriple : ℕ × (ℕ × List ℕ) → Violation
 fromTriple x = record { time = record { 0 = x .0 }; check = checkOf (x .1 .0); detail = x .1 .1 }
 
+-- A row's numbers of a violation.
 abbrev pub toTriple : Violation → ℕ × (ℕ × List ℕ)
 toTriple v = (v .time .0, (checkNumber (v .check), v .detail))
 
@@ -78,6 +80,7 @@ to-from v = ap (λ (c : Check). record { time = v .time; check = c; detail = v .
 pub from-to : (x : ℕ × (ℕ × List ℕ)) → triple .good x ≡ true → toTriple (fromTriple x) ≡ x
 from-to x h = ap (λ (n : ℕ). (x .0, (n, x .1 .1))) (number-of (x .1 .0) (ltb-true _ 8 (and-right _ _ (and-left _ _ (and-right _ _ h)))))
 
+-- A violation in 8 words.
 abbrev pub violationRow : Code Violation
 violationRow = iso triple fromTriple toTriple to-from from-to
 

@@ -17,10 +17,10 @@ direct = 2 ^ 32 - 1
 abbrev pub keyOf : ClientKey → ℕ × ℕ
 keyOf k = (k .client, k .seq)
 
--- The client in 4 bytes, the sequence number in 8, and zeros up to the size.
+-- The client in 4 bytes, the sequence number in 8, and zeros up to the size (encode).
 unfoldable pub encode : ℕ → ℕ → ℕ → List ℕ
 encode client seq size = bytesOf 4 client ++ (bytesOf 8 seq ++ replicate (size - 12) 0)
 
--- The client and sequence number that a command of at least 12 bytes begins with.
+-- The client and sequence number that a command of at least 12 bytes begins with (decode).
 unfoldable pub decode : List ℕ → Decoded
 decode command = pick (ltb (length command) 12) None (Key (record { client = leAt 4 command 0; seq = leAt 8 command 4 }))

@@ -20,10 +20,11 @@ within low high n = leb low n and leb n high
 unfoldable pub serversFit : ℕ → Bool
 serversFit servers = within 1 8 servers
 
--- Durations in settings, at most 2^40 ns.
+-- A duration in settings: at most 2^40 ns.
 unfoldable pub durationFits : Duration → Bool
 durationFits d = leb (d .0) (2 ^ 40)
 
+-- All durations of the settings.
 unfoldable pub durationsFit : SimConfig → Bool
 durationsFit c =
     every durationFits (

@@ -35,6 +35,7 @@ use Rattle.answers.specs.Numbers.{filled, readingBytes, entryBytes, appliedByte
 use Rattle.book.specs.Book.{Book, note, toldOf, Right}
 use Rattle.book.specs.Theorem.{demand3, theorem-area}
 use Rattle.demands.specs.Heard.{heardDone, heardOpened, heardAsked, heardStepped, heardSealed, heardHardState, heardLog, heardEntry, heardApplied, heardAppliedEntry, heardReply, heardConfirmation}
+use Rattle.demands.specs.WrittenLaws.{step-filled, entry-filled, applied-filled}
 use Rattle.demands.specs.Returned.{unless-no, Directly, done-heard, opened-heard, asked-heard, stepped-heard, sealed-heard, hard-state-heard, log-heard, entry-heard, applied-heard, applied-entry-heard, reply-heard, confirmation-heard}
 use Rattle.demands.specs.Clean.{Clean, refuses, gives, Any, Quiet, Room, clean-start, clean-step, clean-propose, clean-fire-timer, clean-confirm-leadership, clean-schedule, clean-write-hard-state, clean-write-put, clean-write-truncate, clean-seal, clean-output-send, clean-output-set-timer, clean-output-cancel-timer, clean-output-apply, clean-output-confirmed, clean-output-lost, clean-end, clean-check-log-matching, clean-check-durability, clean-read-hard-state, clean-read-log, clean-read-entry, clean-read-applied, clean-read-applied-entry, clean-read-reply, clean-read-confirmation}
 use Rattle.demands.specs.Exported.{Made, madeStart, madeStep, madePropose, madeFireTimer, madeConfirmLeadership, madeSchedule, madeWriteHardState, madeWritePut, madeWriteTruncate, madeSeal, madeOutputSend, madeOutputSetTimer, madeOutputCancelTimer, madeOutputApply, madeOutputConfirmed, madeOutputLost, madeEnd, madeCheckLogMatching, madeCheckDurability, madeReadHardState, madeReadLog, madeReadEntry, madeReadApplied, madeReadAppliedEntry, madeReadReply, madeReadConfirmation, madeOtherRead}
@@ -149,7 +150,7 @@ unfolding onArea outcome writeOutcome outputOutcome readOutcome
 made-is {b} {z} {b′} {z′} y (madeStart {config = config} {limits = limits} {seed = seed} e) =
     ap (λ (p : _ × List ℕ). (heardOpened (p .0), p .1)) e ∙ hear-start hears-opened b (model.start config limits seed) (clean-start config limits seed)
 made-is {b} {z} y (madeStep {deadline = deadline} {r = r} e ez) =
-    ap₂ (λ (p : _ × List ℕ) (u : List ℕ). (heardStepped (p .0) u, p .1)) e ez ∙ hear-call (hears-stepped z) b (model.step deadline (length z)) y (λ s t. clean-step s deadline (length z) t)
+    ap₂ (λ (p : _ × List ℕ) (u : List ℕ). (heardStepped (p .0) u, p .1)) e (ez ∙ sym (step-filled b z deadline)) ∙ hear-call (hears-stepped z) b (model.step deadline (length z)) y (λ s t. clean-step s deadline (length z) t)
 made-is {b} {z} {b′} y (madePropose {server = server} {r = r} e) = acts hears-asked b b′ (model.propose server) r y (λ s. clean-propose s server) e
 made-is {b} {z} {b′} y (madeFireTimer {server = server} {timer = timer} {r = r} e) = acts hears-opened b b′ (model.fireTimer server timer) r y (λ s. clean-fire-timer s server timer) e
 made-is {b} {z} {b′} y (madeConfirmLeadership {server = server} {request = q} {r = r} e) =
@@ -180,10 +181,10 @@ made-is {b} {z} {b′} y (madeCheckDurability {r = r} e) = acts hears-done b b�
 made-is {b} y (madeReadHardState {server = server} {r = r} e) = tells hears-hard-state b (reads.readHardState server) r y (λ s. clean-read-hard-state s server) e
 made-is {b} y (madeReadLog {server = server} {r = r} e) = tells hears-log b (reads.readLog server) r y (λ s. clean-read-log s server) e
 made-is {b} {z} y (madeReadEntry {server = server} {index = index} {r = r} e ez) =
-    ap (λ (a : Answer). (a, b)) (ap₂ heardEntry e ez ∙ hear-read (hears-entry z) b (reads.readEntry server index (length z)) y (λ s t. clean-read-entry s server index (length z) t))
+    ap (λ (a : Answer). (a, b)) (ap₂ heardEntry e (ez ∙ sym (entry-filled b z server index)) ∙ hear-read (hears-entry z) b (reads.readEntry server index (length z)) y (λ s t. clean-read-entry s server index (length z) t))
 made-is {b} y (madeReadApplied {server = server} {r = r} e) = tells hears-applied b (reads.readApplied server) r y (λ s. clean-read-applied s server) e
 made-is {b} {z} y (madeReadAppliedEntry {index = index} {r = r} e ez) =
-    ap (λ (a : Answer). (a, b)) (ap₂ heardAppliedEntry e ez ∙ hear-read (hears-applied-entry z) b (reads.readAppliedEntry index (length z)) y (λ s t. clean-read-applied-entry s index (length z) t))
+    ap (λ (a : Answer). (a, b)) (ap₂ heardAppliedEntry e (ez ∙ sym (applied-filled b z index)) ∙ hear-read (hears-applied-entry z) b (reads.readAppliedEntry index (length z)) y (λ s t. clean-read-applied-entry s index (length z) t))
 made-is {b} y (madeReadReply {place = place} {r = r} e) = tells hears-reply b (reads.readReply place) r y (λ s. clean-read-reply s place) e
 made-is {b} y (madeReadConfirmation {place = place} {r = r} e) = tells hears-confirmation b (reads.readConfirmation place) r y (λ s. clean-read-confirmation s place) e
 made-is y (madeOtherRead r) = refl
@@ -243,9 +244,9 @@ nothing-filled z (got x) e = absurd (false-true (sym e))
 -- the lent buffer after a call that is refused
 buffer-kept : {b z b′ z′ : List ℕ} {c : Call} {a : Answer} → Made b z b′ z′ c a → accepted (onArea b c .0) ≡ false → z′ ≡ z
 unfolding onArea
-buffer-kept {z = z} (madeStep e ez) k = ez ∙ nothing-filled z _ k
-buffer-kept {z = z} (madeReadEntry e ez) k = ez ∙ nothing-filled z _ k
-buffer-kept {z = z} (madeReadAppliedEntry e ez) k = ez ∙ nothing-filled z _ k
+buffer-kept {b} {z} (madeStep {deadline = deadline} e ez) k = ez ∙ sym (step-filled b z deadline) ∙ nothing-filled z _ k
+buffer-kept {b} {z} (madeReadEntry {server = server} {index = index} e ez) k = ez ∙ sym (entry-filled b z server index) ∙ nothing-filled z _ k
+buffer-kept {b} {z} (madeReadAppliedEntry {index = index} e ez) k = ez ∙ sym (applied-filled b z index) ∙ nothing-filled z _ k
 buffer-kept (madeStart e) k = refl
 buffer-kept (madePropose e) k = refl
 buffer-kept (madeFireTimer e) k = refl

@@ -3,6 +3,7 @@ use mathlib.Core.Path.{_≡_}
 use mathlib.Core.List.{List}
 use Prim.Native.Nat.{ℕ}
 use lib.ListN.{length}
+use lib.Seq.{sets}
 use Rattle.units.specs.declared.SimTime.{SimTime}
 use Rattle.units.specs.declared.Term.{Term}
 use Rattle.units.specs.declared.LogIndex.{LogIndex}
@@ -27,7 +28,8 @@ use Rattle.answers.specs.declared.AppliedEntryAnswer.{AppliedEntryAnswer}
 use Rattle.answers.specs.declared.ReplyAnswer.{ReplyAnswer}
 use Rattle.answers.specs.declared.ConfirmationAnswer.{ConfirmationAnswer}
 use Rattle.answers.specs.Answers.{doneNo, doneYes, openedNo, openedYes, askedYes, steppedNo, steppedYes, sealedNo, sealedYes, hardStateNo, hardStateYes, logNo, logYes, entryNo, entryYes, appliedNo, appliedYes, appliedEntryNo, appliedEntryYes, replyNo, replyYes, confirmationNo, confirmationYes}
-use Rattle.answers.specs.Numbers.{filled}
+use Rattle.answers.specs.Numbers.{entryBytes, appliedBytes}
+use Rattle.demands.specs.Written.{noBytes, steppedBytes}
 use Rattle.demands.specs.Heard.{heardDone, heardOpened, heardAsked, heardStepped, heardSealed, heardHardState, heardLog, heardEntry, heardApplied, heardAppliedEntry, heardReply, heardConfirmation}
 
 -- A call that was lent the area b and the buffer z, which are b′ and z′ after it, and what is heard of it. A call without a buffer leaves any other memory; a read leaves
@@ -36,7 +38,8 @@ pub data Made : (b z b′ z′ : List ℕ) → Call → Answer → Type 0 where
   madeStart : {b z b′ : List ℕ} {config : SimConfig} {limits : Limits} {seed : ℕ} {r : OpenedAnswer}
       → (r, b′) ≡ starting openedNo openedYes b (model.start config limits seed) → Made b z b′ z (start config limits seed) (heardOpened r)
   madeStep : {b z b′ z′ : List ℕ} {deadline : SimTime} {r : SteppedAnswer}
-      → (r, b′) ≡ call steppedNo steppedYes b (model.step deadline (length z)) → z′ ≡ filled z (call no same b (outcome (step deadline (length z))) .0)
+      → (r, b′) ≡ call steppedNo steppedYes b (model.step deadline (length z))
+      → z′ ≡ sets z 0 (call noBytes steppedBytes b (model.step deadline (length z)) .0)
       → Made b z b′ z′ (step deadline (length z)) (heardStepped r z′)
   madePropose : {b z b′ : List ℕ} {server : ℕ} {r : OpenedAnswer}
       → (r, b′) ≡ call openedNo askedYes b (model.propose server) → Made b z b′ z (propose server) (heardAsked r)
@@ -77,12 +80,14 @@ pub data Made : (b z b′ z′ : List ℕ) → Call → Answer → Type 0 where
   madeReadLog : {b z : List ℕ} {server : ℕ} {r : LogAnswer}
       → r ≡ reading logNo logYes b (reads.readLog server) → Made b z b z (read (readLog server)) (heardLog r)
   madeReadEntry : {b z z′ : List ℕ} {server index : ℕ} {r : EntryAnswer}
-      → r ≡ reading entryNo entryYes b (reads.readEntry server index (length z)) → z′ ≡ filled z (reading no same b (outcome (read (readEntry server index (length z)))))
+      → r ≡ reading entryNo entryYes b (reads.readEntry server index (length z))
+      → z′ ≡ sets z 0 (reading noBytes entryBytes b (reads.readEntry server index (length z)))
       → Made b z b z′ (read (readEntry server index (length z))) (heardEntry r z′)
   madeReadApplied : {b z : List ℕ} {server : ℕ} {r : AppliedAnswer}
       → r ≡ reading appliedNo appliedYes b (reads.readApplied server) → Made b z b z (read (readApplied server)) (heardApplied r)
   madeReadAppliedEntry : {b z z′ : List ℕ} {index : ℕ} {r : AppliedEntryAnswer}
-      → r ≡ reading appliedEntryNo appliedEntryYes b (reads.readAppliedEntry index (length z)) → z′ ≡ filled z (reading no same b (outcome (read (readAppliedEntry index (length z)))))
+      → r ≡ reading appliedEntryNo appliedEntryYes b (reads.readAppliedEntry index (length z))
+      → z′ ≡ sets z 0 (reading noBytes appliedBytes b (reads.readAppliedEntry index (length z)))
       → Made b z b z′ (read (readAppliedEntry index (length z))) (heardAppliedEntry r z′)
   madeReadReply : {b z : List ℕ} {place : ℕ} {r : ReplyAnswer}
       → r ≡ reading replyNo replyYes b (reads.readReply place) → Made b z b z (read (readReply place)) (heardReply r)

@@ -33,8 +33,8 @@ lt-total a b h k = omega (arith, ltb-false a b h, ltb-false b a k)
 abbrev pub numbers : Order ℕ
 numbers = record { before = ltb; irreflexive = lt-irreflexive; transitive = lt-transitive; total = lt-total }
 
--- By the first parts; where neither is before the other, by the second.
 module _ {K L : Type 0} (O : Order K) (P : Order L) where
+  -- Whether a pair stands before another: by the first parts; where neither is before the other, by the second.
   abbrev pub lexBefore : K × L → K × L → Bool
   lexBefore x y = pick (O .before (x .0) (y .0)) true (pick (O .before (y .0) (x .0)) false (P .before (x .1) (y .1)))
 
@@ -76,6 +76,7 @@ module _ {K L : Type 0} (O : Order K) (P : Order L) where
           let y : a .1 ≡ b .1 = P .total (a .1) (b .1) h k in
           λ i. (x i, y i)
 
+  -- Pairs in that order.
   abbrev pub lexical : Order (K × L)
   lexical = record { before = lexBefore; irreflexive = lex-irreflexive; transitive = lex-transitive; total = lex-total }
 
@@ -83,28 +84,31 @@ module _ {K L : Type 0} (O : Order K) (P : Order L) where
 abbrev pub pairs : Order (ℕ × ℕ)
 pairs = lexical numbers numbers
 
--- b is above a; b is not below a. Shut, so that a law that is cited finds O and a.
+-- Whether b is above a. Shut, so that a law that is cited finds O and a.
 unfoldable pub below : {K : Type 0} → Order K → K → K → Bool
 below O a b = O .before a b
 
+-- Whether b is not below a.
 unfoldable pub notBelow : {K : Type 0} → Order K → K → K → Bool
 notBelow O a b = not (O .before b a)
 
 -- ---- lists in order
 
--- Each element and the one after it are related.
+-- Whether an element is related to the first of a list, where there is one.
 abbrev pub next : {K : Type 0} → (K → K → Bool) → K → List K → Bool
 next r a [] = true
 next r a (b ∷ ks) = r a b
 
+-- Whether each element is related to the one after it.
 unfoldable pub chain : {K : Type 0} → (K → K → Bool) → List K → Bool
 chain r [] = true
 chain r (a ∷ ks) = next r a ks and chain r ks
 
--- Each key is above the one before it; is not below the one before it.
+-- Whether each key is above the one before it.
 abbrev pub rising : {K : Type 0} → Order K → List K → Bool
 rising O ks = chain (below O) ks
 
+-- Whether each key is not below the one before it.
 abbrev pub sorted : {K : Type 0} → Order K → List K → Bool
 sorted O ks = chain (notBelow O) ks
 

@@ -17,6 +17,7 @@ use Rattle.words.specs.Words.{Fit, allz}
 use Rattle.words.specs.Numbers.{each-append, each-drop, each-zeros}
 use Rattle.words.specs.Zero.{allz-zeros, zeros-allz}
 
+-- How values of a type lie in words: each that has a content has one only, and each list of words that passes the test begins with one.
 pub record Code (T : Type 0) : Type 1 where
   -- how many words a content takes, and the content of a value
   pub size : ℕ
@@ -43,6 +44,7 @@ pub word-back : (ws : List ℕ) → 1 ≤ length ws → (getD ws 0 0 ∷ []) ++ 
 word-back [] h = absurd (omega arith)
 word-back (w ∷ ws) h = refl
 
+-- One word: any number of 64 bits.
 abbrev pub word : Code ℕ
 word =
     record {
@@ -61,6 +63,7 @@ word =
 
 -- ---- n zeros
 
+-- n zeros.
 abbrev pub zeros : ℕ → List ℕ
 zeros n = replicate n 0
 
@@ -72,6 +75,7 @@ zeros-back n ws h k =
 pub zeros-ok : (n : ℕ) (r : List ℕ) → allz (take n (zeros n ++ r)) ≡ true
 zeros-ok n r = ap allz (take-at (zeros n) r n (length-replicate n zero)) ∙ allz-zeros n
 
+-- n words that say nothing: zeros.
 abbrev pub blank : ℕ → Code (Unit {0})
 blank n =
     record {
@@ -91,6 +95,7 @@ blank n =
 -- ---- one after the other
 
 module _ {A B : Type 0} (a : Code A) (b : Code B) where
+  -- Two contents, one after the other.
   abbrev pub pair : Code (A × B)
   pair =
       record {
@@ -117,6 +122,7 @@ module _ {A B : Type 0} (a : Code A) (b : Code B) where
 -- ---- another type with the same content: `from` need be undone by `to` only at values that have a content
 
 module _ {A B : Type 0} (a : Code A) (to : A → B) (from : B → A) (to-from : (x : B) → to (from x) ≡ x) (from-to : (x : A) → a .good x ≡ true → from (to x) ≡ x) where
+  -- Values of another type, told by a value of this one.
   abbrev pub iso : Code B
   iso =
       record {
@@ -136,6 +142,7 @@ module _ {A B : Type 0} (a : Code A) (to : A → B) (from : B → A) (to-from : 
 -- ---- a code with one more test of its values
 
 module _ {A : Type 0} (a : Code A) (p : A → Bool) where
+  -- The values that pass one more test.
   abbrev pub such : Code A
   such =
       record {
@@ -155,6 +162,7 @@ module _ {A : Type 0} (a : Code A) (p : A → Bool) where
 -- ---- the same code, its size written another way: so that offsets are the program's own expressions
 
 module _ {A : Type 0} (a : Code A) (n : ℕ) (e : a .size ≡ n) where
+  -- The same code, its size written as n.
   abbrev pub sized : Code A
   sized =
       record {
@@ -193,17 +201,21 @@ module _ {A : Type 0} (a : Code A) (ok′ : List ℕ → Bool) (parse′ : List 
 -- ---- a place that may be empty: zeros, or a content, none of which begins with a zero
 
 module _ {A : Type 0} (a : Code A) where
+  -- The words of a place: zeros where it is empty.
   abbrev pub encO : Option A → List ℕ
   encO none = zeros (a .size)
   encO (some x) = a .enc x
 
+  -- The places that have a content.
   abbrev pub goodO : Option A → Bool
   goodO none = true
   goodO (some x) = a .good x
 
+  -- Whether words begin with a place: a first word of 0 says that it is empty.
   abbrev pub okO : List ℕ → Bool
   okO ws = pick (eqb (getD ws 0 0) 0) (allz (take (a .size) ws)) (a .ok ws)
 
+  -- The place that words begin with.
   abbrev pub parseO : List ℕ → Option A
   parseO ws = pick (eqb (getD ws 0 0) 0) none (some (a .parse ws))
 
@@ -246,6 +258,7 @@ module _ {A : Type 0} (a : Code A) where
         by true k = refl
         by false k = a .good-parse ws f h k
 
+    -- A place that may be empty.
     abbrev pub optional : Code (Option A)
     optional =
         record {
@@ -264,15 +277,18 @@ module _ {A : Type 0} (a : Code A) where
 
 -- ---- n of them side by side; and n of them, then zeros up to N words
 
+-- The words of each, one after the other.
 abbrev pub flat : {A : Type 0} → (A → List ℕ) → List A → List ℕ
 flat f [] = []
 flat f (x ∷ xs) = f x ++ flat f xs
 
 module _ {A : Type 0} (a : Code A) where
+  -- Whether words begin with n contents.
   abbrev pub okN : ℕ → List ℕ → Bool
   okN zero ws = true
   okN (suc n) ws = a .ok ws and okN n (drop (a .size) ws)
 
+  -- The n values that words begin with.
   abbrev pub parseN : ℕ → List ℕ → List A
   parseN zero ws = []
   parseN (suc n) ws = a .parse ws ∷ parseN n (drop (a .size) ws)
@@ -317,6 +333,7 @@ module _ {A : Type 0} (a : Code A) where
       let l : a .size + n * a .size ≤ length ws = rw (more n) at h in
       and-both _ _ (a .good-parse ws f (omega arith) (and-left _ _ k)) (good-parseN n (drop (a .size) ws) (each-drop (a .size) ws f) (rw length-drop (omega arith)) (and-right _ _ k))
 
+  -- n contents side by side.
   abbrev pub rep : ℕ → Code (List A)
   rep n =
       record {
@@ -341,6 +358,7 @@ module _ {A : Type 0} (a : Code A) where
   abbrev pub okR : ℕ → ℕ → List ℕ → Bool
   okR N n ws = leb (n * a .size) N and (okN n ws and allz (take (N - n * a .size) (drop (n * a .size) ws)))
 
+  -- n rows that have a content, and there is room for them.
   abbrev pub goodR : ℕ → ℕ → List A → Bool
   goodR N n xs = leb (n * a .size) N and (eqb (length xs) n and every (a .good) xs)
 
@@ -391,6 +409,7 @@ module _ {A : Type 0} (a : Code A) where
         let l : n * a .size ≤ N = leb-true _ N (and-left _ _ k) in
         fitted N n (parseN n ws) (record { room = l; count = length-parseN n ws; each = good-parseN n ws f (omega arith) (and-left _ _ (and-right _ _ k)) })
 
+    -- n rows, and then zeros up to N words.
     abbrev pub rows : Code (List A)
     rows =
         record {

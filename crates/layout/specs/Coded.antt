@@ -15,6 +15,7 @@ pub record Telling {A B : Type 0} (a : Code A) (from : B → A) (to : A → B) (
   pub from-to : (y : A) → test y ≡ true → from (to y) ≡ y
 
 module _ {A B : Type 0} (a : Code A) (from : B → A) (to : A → B) (fits : B → Bool) (test : A → Bool) (t : Telling a from to fits test) where
+  -- Values told by numbers that pass a test.
   abbrev pub coded : Code B
   coded =
       record {

@@ -19,6 +19,7 @@ module _ {A B : Type 0} (a : Code A) (b : A → Code B) (n : ℕ) (e : (x : A) �
   pub first : (x : A) (y : B) (r : List ℕ) → a .good x ≡ true → a .parse ((a .enc x ++ b x .enc y) ++ r) ≡ x
   first x y r h = ap (a .parse) (append-assoc (a .enc x) (b x .enc y) r) ∙ a .parse-enc x (b x .enc y ++ r) h
 
+  -- Two contents, one after the other; how the second lies depends on the first value.
   abbrev pub dep : Code (A × B)
   dep =
       record {
@@ -55,6 +56,7 @@ pub record Stating {A B : Type 0} (a : Code A) (from : B → A) (to : A → B) (
   pub again : (y : A) → a .good y ≡ true → from (to y) ≡ y
 
 module _ {A B : Type 0} (a : Code A) (from : B → A) (to : A → B) (fits : B → Bool) (t : Stating a from to fits) where
+  -- Values told by their parts.
   abbrev pub stated : Code B
   stated =
       record {

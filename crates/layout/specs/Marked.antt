@@ -41,6 +41,7 @@ paddedTo p bs = bs ++ zeros (8 * wordsFor p - length bs)
 unfoldable pub bodyIn : ℕ → List ℕ → List ℕ
 bodyIn p ws = bytes (take (wordsFor p) (drop 1 ws))
 
+-- Whether a number is a byte.
 abbrev pub isByte : ℕ → Bool
 isByte b = ltb b 256
 
@@ -81,15 +82,19 @@ module _ (p : ℕ) (bs : List ℕ) (l : length bs ≤ p) where
 -- ---- the code, for values of up to p bytes
 
 module _ {X : Type 0} (M : Marking X) (p : ℕ) where
+  -- The words of a value: its number, and its bytes padded with zeros to whole words.
   abbrev pub encM : X → List ℕ
   encM x = M .mark x ∷ W (paddedTo p (M .body x))
 
+  -- The values that have a content: at most p bytes.
   abbrev pub goodM : X → Bool
   goodM x = ltb (M .mark x) (2 ^ 64) and (leb (length (M .body x)) p and every isByte (M .body x))
 
+  -- Whether words begin with a content: a number that there is, and zeros behind the bytes that it counts.
   abbrev pub okM : List ℕ → Bool
   okM ws = M .valid (getD ws 0 0) and (leb (M .count (getD ws 0 0)) p and allz (drop (M .count (getD ws 0 0)) (bodyIn p ws)))
 
+  -- The value that words begin with.
   abbrev pub parseM : List ℕ → X
   parseM ws = M .make (getD ws 0 0) (take (M .count (getD ws 0 0)) (bodyIn p ws))
 
@@ -182,6 +187,7 @@ module _ {X : Type 0} (M : Marking X) (p : ℕ) where
           each = λ j. rw body-is (each-take n c c-each j);
         })
 
+  -- A value of a number and up to p bytes, in one word and those for p bytes.
   abbrev pub marked : Code X
   marked =
       record {

@@ -55,6 +55,7 @@ body-make k d v l = by (eqb k 1) refl
     by true e = sym (drop-of-length-le d {i = 0} (omega (arith, eqb-true k 1 e)))
     by false e = refl
 
+-- A payload as a number and bytes: 1 for a noop, 2 and the length for a command.
 abbrev pub payloadMarking : Marking Payload
 payloadMarking =
     record {

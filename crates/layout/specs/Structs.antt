@@ -38,6 +38,7 @@ pub record Struct {T : Type 0} (n : ℕ) (from : T → List ℕ) (to : List ℕ 
   pub fitting : (ws : List ℕ) → Fit ws → test ws ≡ true → fits (to ws) ≡ true
 
 module _ {T : Type 0} (n : ℕ) (from : T → List ℕ) (to : List ℕ → T) (fits : T → Bool) (test : List ℕ → Bool) (s : Struct n from to fits test) where
+  -- A struct in n words.
   abbrev pub struct : Code T
   struct =
       record {
@@ -57,9 +58,11 @@ module _ {T : Type 0} (n : ℕ) (from : T → List ℕ) (to : List ℕ → T) (f
 -- ---- a struct told by its numbers: words are tested by reading them and writing what was read
 
 module _ {T : Type 0} (n : ℕ) (from : T → List ℕ) (to : List ℕ → T) (rule : T → Bool) where
+  -- The structs that have a content: words of 64 bits, and the rule.
   abbrev pub fitting : T → Bool
   fitting x = every is64 (from x) and rule x
 
+  -- Whether words begin with a struct: writing what was read gives them again, and the rule.
   abbrev pub tells : List ℕ → Bool
   tells ws = sameList (from (to ws)) (firsts n (λ i. getD ws i 0)) and rule (to ws)
 

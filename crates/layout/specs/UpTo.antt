@@ -16,6 +16,7 @@ use Rattle.words.specs.Numbers.{each-append, each-take, each-drop, each-zeros}
 use Rattle.words.specs.Zero.{allz-zeros, zeros-allz}
 use Rattle.layout.specs.Code.{Code, zeros, word-back}
 
+-- Whether a number has 64 bits.
 abbrev pub is64 : ℕ → Bool
 is64 n = ltb n (2 ^ 64)
 
@@ -32,15 +33,19 @@ fit-each [] h = refl
 fit-each (n ∷ d) h = and-both _ _ (lt-ltb n (2 ^ 64) (h 0 .fits)) (fit-each d (λ k. h (suc k)))
 
 module _ (k : ℕ) (small : k < 2 ^ 64) where
+  -- The words of a list: how many, the numbers, zeros.
   abbrev pub encU : List ℕ → List ℕ
   encU d = length d ∷ (d ++ zeros (k - length d))
 
+  -- The lists that have a content: up to k numbers of 64 bits.
   abbrev pub goodU : List ℕ → Bool
   goodU d = leb (length d) k and every is64 d
 
+  -- Whether words begin with a list: a count up to k, and zeros behind the numbers.
   abbrev pub okU : List ℕ → Bool
   okU ws = leb (getD ws 0 0) k and allz (drop (getD ws 0 0) (take k (drop 1 ws)))
 
+  -- The list that words begin with.
   abbrev pub parseU : List ℕ → List ℕ
   parseU ws = take (getD ws 0 0) (drop 1 ws)
 
@@ -96,6 +101,7 @@ module _ (k : ℕ) (small : k < 2 ^ 64) where
     pub good-parseU : goodU (parseU ws) ≡ true
     good-parseU = and-both _ _ (le-leb _ k (omega (arith, count, most))) (fit-each (take n v) (each-take n v (each-drop 1 ws f)))
 
+  -- A list of up to k numbers, in 1 + k words.
   abbrev pub upTo : Code (List ℕ)
   upTo =
       record {

@@ -25,6 +25,7 @@ use Rattle.log.specs.Log.{Log, emptyLog, entryAt, putAt, truncateAt, rem
 abbrev pub entryOf : Payload × ℕ → Entry
 entryOf x = record { term = record { 0 = x .1 }; payload = x .0 }
 
+-- The payload and the term of an entry.
 abbrev pub partsOf : Entry → Payload × ℕ
 partsOf e = (e .payload, e .term .0)
 
@@ -123,6 +124,7 @@ abbrev pub isPayload : Option Entry → Payload → Bool
 isPayload none x = false
 isPayload (some e) x = samePayload (e .payload) x
 
+-- Whether a log has an entry with this payload at an index.
 unfoldable pub holdsAt : ℕ → Payload → Log → Bool
 holdsAt i x log = isPayload (entryAt log i) x
 

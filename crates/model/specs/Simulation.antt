@@ -213,7 +213,7 @@ pub record Target : Type 0 where
   pub slot : ℕ
   pub state : State
 
--- One draw below the number of servers.
+-- One draw below the number of servers (random_server).
 abbrev pub randomServer : State → Target
 randomServer s =
     let d = under (s .workload) (length (s .servers)) in
@@ -449,7 +449,7 @@ pushRouted s from to entries message (Delivered delay second) =
     let copied = pushCopy s from to entries message second in
     withQueue copied (push (copied .queue) (later (s .now) delay) (event.Deliver from to entries) message)
 
--- A message sent by the server at a place.
+-- A message sent by the server at a place (send).
 unfoldable pub send : State → ℕ → NodeId → List ℕ → ℕ → State
 send s slot to message entries =
     let from = idOf slot in

@@ -5,8 +5,8 @@ use Prim.Native.Nat.{ℕ}
 use lib.Dec.{eqb}
 use lib.ListN.{getD}
 use Rattle.laws.specs.Bools.{pick, allb}
-use Rattle.units.specs.declared.NodeOption.{NodeOption}
-use Rattle.units.specs.declared.NodeOption.the-variants.{None as NoNode, Some as SomeNode}
+pub use Rattle.units.specs.Types.{nodeFlag as presentOf, nodeNumber as namedOf}
+unfoldable pub use Rattle.units.specs.Types.{nodeIn as leaderOf}
 use Rattle.protocol.specs.declared.Timer.{Timer}
 use Rattle.protocol.specs.declared.Timer.the-variants.{Election}
 use Rattle.protocol.specs.declared.TimerOption.{TimerOption}
@@ -23,15 +23,6 @@ use Rattle.queue.specs.declared.numbers.EventWords.{EventWords}
 use Rattle.queue.specs.declared.numbers.EventOption.{EventOption}
 use Rattle.queue.specs.declared.numbers.EventOption.the-variants.{None, Some}
 
--- Whether a server is named, as a number, and the server's number, 0 where none is named.
-abbrev pub presentOf : NodeOption → ℕ
-presentOf NoNode = 0
-presentOf (SomeNode id) = 1
-
-abbrev pub namedOf : NodeOption → ℕ
-namedOf NoNode = 0
-namedOf (SomeNode id) = id .0
-
 -- An event's numbers.
 abbrev pub wordsOf : Event → EventWords
 wordsOf (event.Start slot) = record { kind = 0; a = slot; b = 0; c = 0; d = 0 }
@@ -45,18 +36,15 @@ wordsOf (event.ClientRetry client attempt) = record { kind = 7; a = client; b = 
 wordsOf (event.ClientReply client seq index) = record { kind = 8; a = client; b = seq; c = index .0; d = 0 }
 wordsOf (event.ClientTimeout client attempt) = record { kind = 9; a = client; b = attempt; c = 0; d = 0 }
 
--- A timer that is there, or any; a fault that is there, or any.
+-- A timer that is there, or any.
 abbrev pub timerOr : TimerOption → Timer
 timerOr NoTimer = Election
 timerOr (SomeTimer timer) = timer
 
+-- A fault that is there, or any.
 abbrev pub faultOr : FaultOption → Fault
 faultOr NoFault = HealAll
 faultOr (SomeFault fault) = fault
-
--- The leader of a redirect.
-unfoldable pub leaderOf : ℕ → ℕ → NodeOption
-leaderOf present id = pick (eqb present 0) NoNode (SomeNode (record { 0 = id }))
 
 -- The events that may have four numbers, in order of their kinds.
 abbrev pub candidates : EventWords → List Event

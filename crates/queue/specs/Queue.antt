@@ -29,7 +29,7 @@ pub data Popped : Type 0 where
   empty : Popped
   taken : Scheduled → Queue → Popped
 
--- The first event, and those after it.
+-- The first event, and those after it (pop).
 abbrev pub pop : Queue → Popped
 pop [] = empty
 pop (s ∷ q) = taken s q

@@ -7,19 +7,13 @@ use lib.ListN.{length}
 use Rattle.laws.specs.Bools.{pick, _and_, every}
 use Rattle.laws.specs.Order.{numbers, sorted}
 use Rattle.faults.specs.Fault.{inCluster, faultInRange}
+pub use Rattle.layout.specs.UpTo.{is64 as word}
+pub use Rattle.layout.specs.Marked.{isByte as byte}
 use Rattle.queue.specs.declared.Event.{Event}
 use Rattle.queue.specs.declared.Event.the-variants as event
 use Rattle.queue.specs.declared.numbers.EventWords.{EventWords}
 use Rattle.queue.specs.Numbers.{wordsOf}
 use Rattle.queue.specs.Queue.{Scheduled, Queue, timeOf}
-
--- A number of 64 bits.
-abbrev pub word : ℕ → Bool
-word n = ltb n (2 ^ 64)
-
--- A byte.
-abbrev pub byte : ℕ → Bool
-byte n = ltb n 256
 
 module _ (S C L : ℕ) where
   -- Slots are below S, clients below C, ids 1 to S, entries of 32 bits, indexes at most L, and faults as `faults` says.

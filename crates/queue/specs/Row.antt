@@ -25,17 +25,19 @@ Parts = ℕ × (ℕ × (ℕ × (ℕ × (ℕ × (ℕ × List ℕ)))))
 abbrev pub parts : ℕ → Code Parts
 parts M = sized (pair word (pair word (pair word (pair word (pair word (pair word (message M))))))) (7 + wordsFor M) (omega arith)
 
--- The event's numbers among them, and the message.
+-- The event's numbers among them.
 abbrev pub wordsIn : Parts → EventWords
 wordsIn p = record { kind = p .1 .0; a = p .1 .1 .0; b = p .1 .1 .1 .0; c = p .1 .1 .1 .1 .0; d = p .1 .1 .1 .1 .1 .0 }
 
+-- The message among them.
 abbrev pub messageIn : Parts → List ℕ
 messageIn p = p .1 .1 .1 .1 .1 .1
 
--- The numbers of a queued event, and the event that numbers tell.
+-- The numbers of a queued event.
 abbrev pub partsOf : Scheduled → Parts
 partsOf e = (e .time .0, (wordsOf (e .event) .kind, (wordsOf (e .event) .a, (wordsOf (e .event) .b, (wordsOf (e .event) .c, (wordsOf (e .event) .d, e .message))))))
 
+-- The queued event that numbers tell.
 abbrev pub scheduledOf : Parts → Scheduled
 scheduledOf p = record { time = record { 0 = p .0 }; event = candidate (wordsIn p); message = messageIn p }
 
@@ -44,5 +46,6 @@ abbrev pub told : ℕ → ℕ → ℕ → ℕ → EventOption → ℕ → Bool
 told S C L M None n = false
 told S C L M (Some e) n = inRange S C L e and leb n (messageRoom M e)
 
+-- Whether the numbers of a row tell an event in range.
 abbrev pub partsTell : ℕ → ℕ → ℕ → ℕ → Parts → Bool
 partsTell S C L M p = told S C L M (eventOf (wordsIn p)) (length (messageIn p))

@@ -30,10 +30,11 @@ numbersIn ws = record { kind = getD ws 1 0; a = getD ws 2 0; b = getD ws 3 0; c 
 pub record PutsRow (e : Scheduled) (b b′ : List ℕ) : Type 0 where
   pub to : (S C L M : ℕ) → length b ≡ 8 * (7 + wordsFor M) → scheduledFits S C L M e ≡ true → Holds (eventRow S C L M) b′ e
 
--- The n events that b holds have become one more, with e pushed; one less, the earliest taken.
+-- The n events that b holds have become one more, with e pushed.
 pub record Pushes (e : Scheduled) (M n : ℕ) (b b′ : List ℕ) : Type 0 where
   pub to : (S C L : ℕ) → scheduledFits S C L M e ≡ true → Becomes (events S C L M) n (n + 1) b b′ (λ q. push q (e .time) (e .event) (e .message))
 
+-- The n events that b holds have become one less, the earliest taken.
 pub record Removes (M n : ℕ) (b b′ : List ℕ) : Type 0 where
   pub to : (S C L : ℕ) → Becomes (events S C L M) n (n - 1) b b′ rest
 

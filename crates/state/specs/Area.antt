@@ -90,7 +90,14 @@ capacityOf s = record { servers = s .config .servers; clients = s .config .clien
 
 -- The numbers of its run.
 abbrev pub runOf : State → Run
-runOf s = record { seed = s .seed; now = s .now; workload = s .workload; «max_log_gaps» = s .maxLogGaps; «direct_seq» = s .directSeq; events = s .events }
+runOf s = record {
+  seed = s .seed;
+  now = s .now;
+  workload = s .workload;
+  «max_log_gaps» = s .maxLogGaps;
+  «direct_seq» = s .directSeq;
+  events = s .events;
+}
 
 -- How many rows its tables have.
 abbrev pub countsOf : State → TableCounts

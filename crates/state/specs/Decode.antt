@@ -27,7 +27,8 @@ use Rattle.state.specs.Parts.{capacityCode, capacityIn, countsWithin, se
 use Rattle.state.specs.Area.{Regions, regions, serversCode, clientsCode, queueCode, seenCode, leadersCode, repliesCode, confirmationsCode, appliedCode, violationsCode}
 
 -- A state from its parts.
-unfoldable pub build : SimConfig → Limits → Run → ℕ → Network → Metrics → Phase → List Violation → List Server → List Scheduled → List Seen → List TermLeader → List Reply → List Confirmation → List Payload → List Client → State
+unfoldable pub build : SimConfig → Limits → Run → ℕ → Network → Metrics → Phase → List Violation → List Server → List Scheduled
+    → List Seen → List TermLeader → List Reply → List Confirmation → List Payload → List Client → State
 build config limits run total n m p vs ss q es ls rs cs ps ks = record {
   config = config;
   limits = limits;
@@ -87,9 +88,12 @@ module _ (F : Capacity) (g : Regions) where
   -- The state that the regions say, given settings and counts of rows.
   abbrev pub saidBy : SimConfig → TableCounts → State
   saidBy c n =
-      build c (F .limits) (runCode .parse (W (g .run))) (n .total) (networkCode (F .servers) (c .«one_way_delay» .0) .parse (W (g .network))) (metricsCode (F .servers) .parse (W (g .metrics)))
-      (phaseCode (phaseFits c (F .limits)) .parse (W (g .phase))) (violationsCode F n .parse (W (g .violations))) (serversCode F .parse (W (g .servers))) (queueCode F n .parse (W (g .queue)))
-      (seenCode F n .parse (W (g .seen))) (leadersCode F n .parse (W (g .leaders))) (repliesCode F n .parse (W (g .replies))) (confirmationsCode F n .parse (W (g .confirmations)))
+      build c (F .limits) (runCode .parse (W (g .run))) (n .total)
+      (networkCode (F .servers) (c .«one_way_delay» .0) .parse (W (g .network))) (metricsCode (F .servers) .parse (W (g .metrics)))
+      (phaseCode (phaseFits c (F .limits)) .parse (W (g .phase))) (violationsCode F n .parse (W (g .violations)))
+      (serversCode F .parse (W (g .servers))) (queueCode F n .parse (W (g .queue)))
+      (seenCode F n .parse (W (g .seen))) (leadersCode F n .parse (W (g .leaders)))
+      (repliesCode F n .parse (W (g .replies))) (confirmationsCode F n .parse (W (g .confirmations)))
       (appliedCode F n .parse (W (g .applied))) (clientsCode F .parse (W (g .clients)))
 
   -- The state that the regions say.

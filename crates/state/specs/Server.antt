@@ -44,18 +44,22 @@ use Rattle.state.specs.Sizes.{logWords, waitingWords, pendingWords, tabl
 
 -- ---- options of the code and of the definitions
 
+-- The program's option of a status as the definitions' option.
 abbrev pub statusOption : StatusOption → Option Status
 statusOption status.None = none
 statusOption (status.Some x) = some x
 
+-- The same back.
 abbrev pub optionStatus : Option Status → StatusOption
 optionStatus none = status.None
 optionStatus (some x) = status.Some x
 
+-- The program's option of a term as the definitions' option.
 abbrev pub termOption′ : TermOption → Option Term
 termOption′ term.None = none
 termOption′ (term.Some x) = some x
 
+-- The same back.
 abbrev pub optionTerm : Option Term → TermOption
 optionTerm none = term.None
 optionTerm (some x) = term.Some x
@@ -78,25 +82,50 @@ term-here (term.Some x) = refl
 
 -- ---- the parts of a server
 
+-- The fixed part of a server's block.
 abbrev pub Fixed : Type 0
 Fixed = StorageState × (ServerState × Unit {0})
 
+-- The tables of a server's block: both logs, the waiting writes, the pending keys.
 abbrev pub ServerTables : Type 0
 ServerTables = Log × (Log × (List Write × List ClientKey))
 
+-- A server's hard states and counts.
 abbrev pub storageOfServer : Server → StorageState
-storageOfServer v = record { current = v .storage .current .hardState; durable = v .storage .durable .hardState; waiting = length (v .storage .waiting); discarded = v .storage .discarded }
+storageOfServer v = record {
+  current = v .storage .current .hardState;
+  durable = v .storage .durable .hardState;
+  waiting = length (v .storage .waiting);
+  discarded = v .storage .discarded;
+}
 
+-- A server without its storage.
 abbrev pub stateOfServer : Server → ServerState
-stateOfServer v = record { status = optionStatus (v .status); incarnation = v .incarnation; election = v .election; heartbeat = v .heartbeat; «crash_on_next_input» = v .crashOnNextInput; «next_apply» = v .nextApply; pending = length (v .pending); leading = optionTerm (v .leading) }
+stateOfServer v = record {
+  status = optionStatus (v .status);
+  incarnation = v .incarnation;
+  election = v .election;
+  heartbeat = v .heartbeat;
+  «crash_on_next_input» = v .crashOnNextInput;
+  «next_apply» = v .nextApply;
+  pending = length (v .pending);
+  leading = optionTerm (v .leading);
+}
 
+-- A server as the parts of its block.
 abbrev pub serverParts : Server → Fixed × ServerTables
 serverParts v = ((storageOfServer v, (stateOfServer v, tt)), (v .storage .current .log, (v .storage .durable .log, (v .storage .waiting, v .pending))))
 
+-- The server of its parts.
 abbrev pub serverOf : StorageState → ServerState → Log → Log → List Write → List ClientKey → Server
 serverOf d l cur dur ws ks = record {
   status = statusOption (l .status);
-  storage = record { current = record { hardState = d .current; log = cur }; durable = record { hardState = d .durable; log = dur }; waiting = ws; discarded = d .discarded };
+  storage = record {
+    current = record { hardState = d .current; log = cur };
+    durable = record { hardState = d .durable; log = dur };
+    waiting = ws;
+    discarded = d .discarded;
+  };
   incarnation = l .incarnation;
   election = l .election;
   heartbeat = l .heartbeat;
@@ -106,6 +135,7 @@ serverOf d l cur dur ws ks = record {
   leading = termOption′ (l .leading);
 }
 
+-- The server of a block's parts.
 abbrev pub partsServer : Fixed × ServerTables → Server
 partsServer y = serverOf (y .0 .0) (y .0 .1 .0) (y .1 .0) (y .1 .1 .0) (y .1 .1 .1 .0) (y .1 .1 .1 .1)
 
@@ -117,15 +147,20 @@ server-there v =
 -- ---- the code
 
 module _ (F : Capacity) where
+  -- The fixed part in 64 words.
   abbrev pub fixedCode : Code Fixed
   fixedCode = pair storageStateCode (pair (serverStateCode (F .limits .«log_indexes»)) (blank 42))
 
+  -- The tables, one after the other; the fixed part has the counts of their rows.
   abbrev pub tablesCode : Fixed → Code ServerTables
   tablesCode h =
       let L = F .limits .«log_indexes» in
       let P = F .limits .payload in
-      pair (content (places P) (logWords F) L) (pair (content (places P) (logWords F) L) (pair (content (waitingIn L P) (waitingWords F) (h .0 .waiting)) (content (keys (F .clients)) (pendingWords F) (h .1 .0 .pending))))
+      pair (content (places P) (logWords F) L)
+      (pair (content (places P) (logWords F) L)
+      (pair (content (waitingIn L P) (waitingWords F) (h .0 .waiting)) (content (keys (F .clients)) (pendingWords F) (h .1 .0 .pending))))
 
+  -- A block: the fixed part, then the tables.
   abbrev pub partsCode : Code (Fixed × ServerTables)
   partsCode = dep fixedCode tablesCode (tableWords F) (λ h. refl)
 

@@ -84,13 +84,15 @@ module _ (F : Capacity) where
   -- The header's offsets, in bytes: the servers, the bytes of a server's block, the tables, the bytes left over, the area's length.
   abbrev pub offsets : List ℕ
   offsets =
-      4096 ∷ 8 * blockWords ∷ 8 * queueAt ∷ 8 * seenAt ∷ 8 * leadersAt ∷ 8 * repliesAt ∷ 8 * confirmationsAt ∷ 8 * appliedAt ∷ 8 * clientsAt ∷ 8 * wholeWords ∷ bytesOf ∷ []
+      4096 ∷ 8 * blockWords ∷ 8 * queueAt ∷ 8 * seenAt ∷ 8 * leadersAt ∷ 8 * repliesAt ∷ 8 * confirmationsAt ∷ 8 * appliedAt ∷ 8 * clientsAt
+      ∷ 8 * wholeWords ∷ bytesOf ∷ []
 
   -- The lengths of the area's parts in bytes: the header's nine, the servers, the tables, and what is left over.
   abbrev pub sizes : List ℕ
   sizes =
       152 ∷ 96 ∷ 48 ∷ 40 ∷ 248 ∷ 80 ∷ 64 ∷ 1320 ∷ 2048
-      ∷ 8 * (F .servers * blockWords) ∷ 8 * queueWords ∷ 8 * seenWords ∷ 8 * (F .limits .history * 2) ∷ 8 * (F .limits .history * 5) ∷ 8 * (F .limits .history * 3) ∷ 8 * appliedWords ∷ 8 * (F .clients * 8)
+      ∷ 8 * (F .servers * blockWords) ∷ 8 * queueWords ∷ 8 * seenWords ∷ 8 * (F .limits .history * 2) ∷ 8 * (F .limits .history * 5)
+      ∷ 8 * (F .limits .history * 3) ∷ 8 * appliedWords ∷ 8 * (F .clients * 8)
       ∷ (bytesOf - 8 * wholeWords) ∷ []
 
 -- ---- what functions of the counts ask and answer

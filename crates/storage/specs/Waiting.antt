@@ -9,6 +9,7 @@ use lib.ListN.{length, getD}
 use borrow.Author.Tests.{eqb-true}
 use Rattle.laws.specs.Bools.{and-right, _and_, pick}
 use Rattle.units.specs.Types.{Payload, noop, command}
+pub use Rattle.units.specs.Types.{nodeNumber as voteNumber}
 use Rattle.units.specs.declared.Term.{Term}
 use Rattle.units.specs.declared.LogIndex.{LogIndex}
 use Rattle.units.specs.declared.NodeOption.{NodeOption}
@@ -39,6 +40,7 @@ markOf truncate = 2
 markOf putNoop = 3
 markOf (putCommand bs) = 4 + length bs
 
+-- A kind's bytes: those of a command.
 abbrev pub bodyOf : Kind → List ℕ
 bodyOf hardState = []
 bodyOf vote = []
@@ -89,6 +91,7 @@ body-make (suc (suc zero)) d v l = empty d (omega arith)
 body-make (suc (suc (suc zero))) d v l = empty d (omega arith)
 body-make (suc (suc (suc (suc k)))) d v l = refl
 
+-- A kind as a number and bytes.
 abbrev pub kindMarking : Marking Kind
 kindMarking =
     record {
@@ -112,28 +115,29 @@ writeFrom truncate a b = writeTruncate (record { 0 = a })
 writeFrom putNoop a b = writePut (record { 0 = a }) (record { term = record { 0 = b }; payload = noop })
 writeFrom (putCommand bs) a b = writePut (record { 0 = a }) (record { term = record { 0 = b }; payload = command bs })
 
+-- The kind of a hard state, by its vote.
 abbrev pub voteKind : NodeOption → Kind
 voteKind None = hardState
 voteKind (Some id) = vote
 
-abbrev pub voteNumber : NodeOption → ℕ
-voteNumber None = 0
-voteNumber (Some id) = id .0
-
+-- The kind of a put, by its payload.
 abbrev pub payloadKind : Payload → Kind
 payloadKind noop = putNoop
 payloadKind (command bs) = putCommand bs
 
+-- The kind of a write.
 abbrev pub kindOf : Write → Kind
 kindOf (writeHardState h) = voteKind (h .«voted_for»)
 kindOf (writePut index e) = payloadKind (e .payload)
 kindOf (writeTruncate from) = truncate
 
+-- A write's first number: a term, or an index.
 abbrev pub firstOf : Write → ℕ
 firstOf (writeHardState h) = h .term .0
 firstOf (writePut index e) = index .0
 firstOf (writeTruncate from) = from .0
 
+-- A write's second number: a vote, or a put's term; 0 where there is none.
 abbrev pub secondOf : Write → ℕ
 secondOf (writeHardState h) = voteNumber (h .«voted_for»)
 secondOf (writePut index e) = e .term .0
@@ -154,9 +158,11 @@ plainMark (suc zero) b = true
 plainMark (suc (suc zero)) b = eqb b 0
 plainMark (suc (suc (suc m))) b = true
 
+-- The write of a row's parts.
 abbrev pub toWrite : Kind × (ℕ × ℕ) → Write
 toWrite x = writeFrom (x .0) (x .1 .0) (x .1 .1)
 
+-- A row's parts of a write.
 abbrev pub fromWrite : Write → Kind × (ℕ × ℕ)
 fromWrite w = (kindOf w, (firstOf w, secondOf w))
 
@@ -180,6 +186,7 @@ parts-back truncate a b h = ap (λ (n : ℕ). (truncate, (a, n))) (sym (eqb-true
 parts-back putNoop a b h = refl
 parts-back (putCommand bs) a b h = refl
 
+-- A row: the kind, and two numbers.
 abbrev pub rowParts : ℕ → Code (Kind × (ℕ × ℕ))
 rowParts p = such (pair (marked kindMarking p) (pair word word)) (λ x. plain (x .0) (x .1 .1))
 
@@ -217,6 +224,7 @@ waitingIn L p = suchTable (waiting p) (putWithin L)
 pub record Pushes (p m mark : ℕ) (src : List ℕ) (a b : ℕ) (s s′ : List ℕ) : Type 0 where
   pub to : (w : Write) → markOf (kindOf w) ≡ mark → bodyOf (kindOf w) ≡ src → firstOf w ≡ a → secondOf w ≡ b → Becomes (waiting p) m (m + 1) s s′ (append w)
 
+-- A put without the bytes of its command.
 abbrev pub entryShape : LogIndex → Term → Payload → Shape
 entryShape index term noop = Shape.Put index term 0 0
 entryShape index term (command bs) = Shape.Put index term 1 (length bs)
@@ -239,6 +247,7 @@ putKind (Shape.HardState h) = 0
 putKind (Shape.Put index term kind n) = kind
 putKind (Shape.Truncate from) = 0
 
+-- Any write, for a place at which there is none.
 abbrev pub nothing : Write
 nothing = writeTruncate (record { 0 = 0 })
 

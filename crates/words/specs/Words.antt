@@ -44,9 +44,10 @@ allz l = every (λ x. eqb x 0) l
 abbrev pub Each : Width → List ℕ → Type 0
 Each w l = (k : ℕ) → Fits w (getD l k 0)
 
--- Each is a byte; each is a 64-bit word.
+-- Each number of a list is a byte.
 abbrev pub Bytes : List ℕ → Type 0
 Bytes l = Each w8 l
 
+-- Each number of a list is a 64-bit word.
 abbrev pub Fit : List ℕ → Type 0
 Fit l = Each w64 l
