@@ -141,7 +141,7 @@ pub ruleset differences = (difference-kept, difference-none, difference-here)
 
 -- ---- the last index is that of a place
 
-last-within : (x : Log) → lastIndex x ≤ length x
+pub last-within : (x : Log) → lastIndex x ≤ length x
 unfolding lastIndex
 last-within [] = omega arith
 last-within (o ∷ x) = by (eqb (lastIndex x) 0) (isSome o) (last-within x)

@@ -51,7 +51,7 @@ index-state shape h e = rw e
 pub index-truncate : (shape : Shape) (from : LogIndex) → shape ≡ Shape.Truncate from → record { 0 = 0 } ≡ shapeIndex shape
 index-truncate shape from e = rw e
 
-shape-index : (w : Write) → shapeIndex (shapeOf w) ≡ writeIndex w
+pub shape-index : (w : Write) → shapeIndex (shapeOf w) ≡ writeIndex w
 unfolding writeIndex
 shape-index (writeHardState h) = refl
 shape-index (writePut index e) = by (e .payload)
@@ -99,7 +99,7 @@ entry-within log (suc i) e h = (omega arith, by (ltb i (length log)) refl)
         absurd (omega arith)
 
 -- a write that is no put changes nothing, as one at index 0 would
-one-write : (c : Checker) (time : SimTime) (server : NodeId) (log : Log) (w : Write) (indexes : List LogIndex)
+pub one-write : (c : Checker) (time : SimTime) (server : NodeId) (log : Log) (w : Write) (indexes : List LogIndex)
     → onWrites c time server log (putIndex w indexes) ≡ onWrites (onWrite c time server log (writeIndex w)) time server log indexes
 unfolding onWrites onWrite entryAt writeIndex
 one-write c time server log (writeHardState h) indexes = refl

@@ -21,9 +21,10 @@ use Rattle.state.specs.Parts.{phaseSlot}
 use Rattle.state.specs.Changes.{Reads, Changes}
 use Rattle.state_server.specs.Servers.{pendingHas}
 use Rattle.state_asks.specs.Asks.{afterApply}
-use Rattle.sim_outputs.specs.Outputs.{sends}
+use Rattle.sim_outputs.specs.Outputs.{sends, asksCode}
 use Rattle.sim_replies.specs.Replies.{tellTest}
 use Rattle.sim_apply.specs.declared.Asked.{Asked}
+use Rattle.state_header.specs.Header.{openSlot}
 
 -- ---- what is asked
 
@@ -31,17 +32,10 @@ use Rattle.sim_apply.specs.declared.Asked.{Asked}
 unfoldable pub isPayloadOf : ℕ → ℕ → ℕ → Bool
 isPayloadOf kind size limit = isFlag kind and leb size (pick (eqb kind 0) 0 limit)
 
--- The number of the first question that is answered no, of 6 (outputs belong), 8 (the index) and 9 (the payload); else 0.
-unfoldable pub asksCode : Bool → Bool → Bool → ℕ
-asksCode ready within args = pick ready (pick within (pick args 0 9) 8) 6
-
--- That number for a payload of a kind and so many bytes at an index.
+-- The first of the questions 6 (outputs belong), 8 (the index) and 9 (the payload) that is answered no of a payload of a kind and so many bytes
+-- at an index; else 0.
 unfoldable pub applyCode : ℕ → ℕ → ℕ → State → ℕ
-applyCode index kind size s = asksCode (sends (s .phase)) (leb index (s .limits .«log_indexes»)) (isPayloadOf kind size (s .limits .payload))
-
--- The place of the open input's server.
-unfoldable pub openSlot : State → ℕ
-openSlot s = phaseSlot (s .phase)
+applyCode index kind size s = asksCode 8 9 (sends (s .phase)) (leb index (s .limits .«log_indexes»)) (isPayloadOf kind size (s .limits .payload))
 
 -- What was asked: the refusal, the server, and where nothing is refused the ranges of the arguments.
 pub record AsksApply (b : List ℕ) (F : Capacity) (index kind size : ℕ) (r : Asked) : Type 0 where

@@ -44,13 +44,14 @@ use Rattle.state_server.specs.ServerLaws.{server-state-set}
 use Rattle.state_checks.specs.Acts.{ChangesWhere, ApplyFlags, applyChecked}
 use Rattle.state_checks.specs.FitLaws.{fits-checks}
 use Rattle.state_asks.specs.Asks.{Asks, ApplyTold, afterApply, nextApplyOf, checkerCode}
-use Rattle.sim_outputs.specs.Outputs.{sends}
+use Rattle.sim_outputs.specs.Laws.{refused-two, done-two}
 use Rattle.state_queue.specs.Events.{queueRoom}
 use Rattle.sim_replies.specs.Replies.{arrivalTime, networkFits, tellTest}
 use Rattle.sim_replies.specs.Laws.{network-fits}
 use Rattle.sim_apply.specs.declared.Asked.{Asked}
-use Rattle.sim_apply.specs.Applies.{isPayloadOf, asksCode, applyCode, openSlot, AsksApply, keyFor, keyGiven, replyDue, replyTest, replied, nextApplyPut, nextApplySet, checkedAt, applied, tenUnless, applyTen, AppliesAt}
+use Rattle.sim_apply.specs.Applies.{isPayloadOf, applyCode, AsksApply, keyFor, keyGiven, replyDue, replyTest, replied, nextApplyPut, nextApplySet, checkedAt, applied, tenUnless, applyTen, AppliesAt}
 use Rattle.sim_apply.specs.ReplyLaws.{fits-reply, before-reply}
+use Rattle.state_header.specs.Header.{openSlot}
 
 -- ---- the next index to apply
 
@@ -241,26 +242,6 @@ module _ (b : List ℕ) (F : Capacity) (k index kind : ℕ) (bytes : List ℕ) (
 
 -- ---- the call
 
-apply-refused : {A : Type 0} (v : A) (p : Phase) (within args : Bool) (op : ℕ → State) (n : ℕ) → n ≡ asksCode (sends p) within args → 0 < n
-    → n ≡ judged (output p (λ slot. ask within 8 (ask args 9 (done v (op slot)))))
-unfolding judged asksCode
-apply-refused v closed within args op n e l = e
-apply-refused v (writing slot input owed) within args op n e l = e
-apply-refused v (sending slot input accepted owed) true true op n e l = absurd (omega arith)
-apply-refused v (sending slot input accepted owed) true false op n e l = e
-apply-refused v (sending slot input accepted owed) false args op n e l = e
-apply-refused v (sending slot input (notLeader hint) owed) within args op n e l = e
-
-apply-let-in : {A : Type 0} (v : A) (p : Phase) (within args : Bool) (op : ℕ → State) → asksCode (sends p) within args ≡ 0
-    → output p (λ slot. ask within 8 (ask args 9 (done v (op slot)))) ≡ done v (op (phaseSlot p))
-unfolding asksCode
-apply-let-in v closed within args op e = absurd (omega arith)
-apply-let-in v (writing slot input owed) within args op e = absurd (omega arith)
-apply-let-in v (sending slot input accepted owed) true true op e = refl
-apply-let-in v (sending slot input accepted owed) true false op e = absurd (omega arith)
-apply-let-in v (sending slot input accepted owed) false args op e = absurd (omega arith)
-apply-let-in v (sending slot input (notLeader hint) owed) within args op e = absurd (omega arith)
-
 -- the ranges that the act asks for
 module _ (b : List ℕ) (F : Capacity) (index kind size : ℕ) (a : Asked) (q : AsksApply b F index kind size a) where
   pub slot-asked : a .slot < F .servers
@@ -277,7 +258,7 @@ module _ (b : List ℕ) (F : Capacity) (index kind : ℕ) (bytes : List ℕ) (a 
   asked-planned : 0 < a .code → Planned b F (a .code) (outputApply (record { 0 = index }) kind bytes) tt (λ s. s)
   unfolding outputApply applyCode isPayloadOf
   asked-planned l = record {
-    code = λ s h ef. apply-refused tt (s .phase) (leb index (s .limits .«log_indexes»)) (isPayload s kind bytes) (λ k. apply s k (record { 0 = index }) (payloadOf kind bytes)) (a .code) (q .code .to s h ef) l;
+    code = λ s h ef. refused-two tt (s .phase) 8 9 (leb index (s .limits .«log_indexes»)) (isPayload s kind bytes) (λ k. apply s k (record { 0 = index }) (payloadOf kind bytes)) (a .code) (q .code .to s h ef) l;
     gives = λ s h ef z. absurd (omega arith);
   }
 
@@ -285,8 +266,8 @@ module _ (b : List ℕ) (F : Capacity) (index kind : ℕ) (bytes : List ℕ) (a 
     gives-applied : (s : State) → Area b s → F ≡ capacityOf s → outputApply (record { 0 = index }) kind bytes s ≡ done tt (applied (a .slot) index kind bytes s)
     unfolding outputApply applyCode openSlot applied isPayloadOf
     gives-applied s h ef =
-        apply-let-in tt (s .phase) (leb index (s .limits .«log_indexes»)) (isPayload s kind bytes) (λ k. apply s k (record { 0 = index }) (payloadOf kind bytes))
-        (sym (q .code .to s h ef) ∙ (let e : a .code ≡ 0 = omega arith in e))
+        done-two tt (s .phase) 8 9 (leb index (s .limits .«log_indexes»)) (isPayload s kind bytes) (λ k. apply s k (record { 0 = index }) (payloadOf kind bytes))
+        (sym (q .code .to s h ef) ∙ (let e : a .code ≡ 0 = omega arith in e)) (omega arith) (omega arith)
         ∙ ap (λ (k : ℕ). done tt (apply s k (record { 0 = index }) (payloadOf kind bytes))) (sym (q .slot .to s h ef))
 
     at-planned : (b′ : List ℕ) (n : ℕ) → AppliesAt b b′ F (a .slot) index kind bytes n → Planned b F n (outputApply (record { 0 = index }) kind bytes) tt (applied (a .slot) index kind bytes)

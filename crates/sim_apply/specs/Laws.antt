@@ -11,9 +11,10 @@ use Rattle.laws.specs.Decides.{false-true}
 use Rattle.model.specs.Calls.{isFlag}
 use Rattle.state.specs.declared.Capacity.{Capacity}
 use Rattle.sim_outputs.specs.declared.Sender.{Sender}
-use Rattle.sim_outputs.specs.Outputs.{Passed, sends, IsSender}
-use Rattle.sim_outputs.specs.Laws.{ready-is, slot-is}
-use Rattle.sim_apply.specs.Applies.{isPayloadOf, asksCode, applyCode, openSlot, AsksApply, tenUnless}
+use Rattle.sim_outputs.specs.Outputs.{Passed, sends, IsSender, asksCode}
+use Rattle.sim_outputs.specs.Laws.{ready-is, slot-is, second-yes, third-yes}
+use Rattle.sim_apply.specs.Applies.{isPayloadOf, applyCode, AsksApply, tenUnless}
+use Rattle.state_header.specs.Header.{openSlot}
 
 -- ---- a payload by its kind and size
 
@@ -42,58 +43,20 @@ payload-noop (suc kind) size limit l t = omega (arith, payload-size (suc kind) s
 
 -- ---- the questions before question 10
 
-pub asks-six : (a b c : Bool) → not a ≡ true → _≡_ {A = ℕ} 6 (asksCode a b c)
-unfolding asksCode
-asks-six true b c h = absurd (false-true h)
-asks-six false b c h = refl
-
-pub asks-eight : (a b c : Bool) → not a ≡ false → not b ≡ true → _≡_ {A = ℕ} 8 (asksCode a b c)
-unfolding asksCode
-asks-eight true true c h k = absurd (false-true k)
-asks-eight true false c h k = refl
-asks-eight false b c h k = absurd (false-true (sym h))
-
-pub asks-nine : (a b c : Bool) → not a ≡ false → not b ≡ false → not c ≡ true → _≡_ {A = ℕ} 9 (asksCode a b c)
-unfolding asksCode
-asks-nine true true true h k l = absurd (false-true l)
-asks-nine true true false h k l = refl
-asks-nine true false c h k l = absurd (false-true (sym k))
-asks-nine false b c h k l = absurd (false-true (sym h))
-
-pub asks-none : (a b c : Bool) → not a ≡ false → not b ≡ false → not c ≡ false → _≡_ {A = ℕ} 0 (asksCode a b c)
-unfolding asksCode
-asks-none true true true h k l = refl
-asks-none true true false h k l = absurd (false-true (sym l))
-asks-none true false c h k l = absurd (false-true (sym k))
-asks-none false b c h k l = absurd (false-true (sym h))
-
-within-yes : (a b c : Bool) → asksCode a b c ≡ 0 → b ≡ true
-unfolding asksCode
-within-yes true true c e = refl
-within-yes true false c e = absurd (omega arith)
-within-yes false b c e = absurd (omega arith)
-
-args-yes : (a b c : Bool) → asksCode a b c ≡ 0 → c ≡ true
-unfolding asksCode
-args-yes true true true e = refl
-args-yes true true false e = absurd (omega arith)
-args-yes true false c e = absurd (omega arith)
-args-yes false b c e = absurd (omega arith)
-
 pub apply-asked : (b : List ℕ) (F : Capacity) (index kind size : ℕ) (d : Sender) (args : Bool) (c : ℕ) → Passed b F → IsSender b F d → args ≡ isPayloadOf kind size (F .limits .payload)
-    → c ≡ asksCode (d .ready) (leb index (F .limits .«log_indexes»)) args → AsksApply b F index kind size (record { code = c; slot = d .slot })
+    → c ≡ asksCode 8 9 (d .ready) (leb index (F .limits .«log_indexes»)) args → AsksApply b F index kind size (record { code = c; slot = d .slot })
 unfolding applyCode openSlot
 apply-asked b F index kind size d args c o pd ea ec =
-    let good : c ≡ 0 → isPayloadOf kind size (F .limits .payload) ≡ true = λ z. sym ea ∙ args-yes _ _ _ (sym ec ∙ z) in
+    let good : c ≡ 0 → isPayloadOf kind size (F .limits .payload) ≡ true = λ z. sym ea ∙ third-yes 8 9 _ _ _ (sym ec ∙ z) (omega arith) (omega arith) in
     record {
       code = record {
         to = λ s h ef.
-            ec ∙ ap₂ (λ (x y : Bool). asksCode x (leb index (F .limits .«log_indexes»)) y) (ready-is pd h ef) ea
-            ∙ ap (λ (G : Capacity). asksCode (sends (s .phase)) (leb index (G .limits .«log_indexes»)) (isPayloadOf kind size (G .limits .payload))) ef;
+            ec ∙ ap₂ (λ (x y : Bool). asksCode 8 9 x (leb index (F .limits .«log_indexes»)) y) (ready-is pd h ef) ea
+            ∙ ap (λ (G : Capacity). asksCode 8 9 (sends (s .phase)) (leb index (G .limits .«log_indexes»)) (isPayloadOf kind size (G .limits .payload))) ef;
       };
       slot = record { to = λ s h ef. slot-is pd h ef };
       below = pd .below;
-      within = λ z. leb-true index (F .limits .«log_indexes») (within-yes _ _ _ (sym ec ∙ z));
+      within = λ z. leb-true index (F .limits .«log_indexes») (second-yes 8 9 _ _ _ (sym ec ∙ z) (omega arith));
       kind-most = λ z. payload-kind kind size (F .limits .payload) (good z);
       noop-most = λ z. payload-noop kind size (F .limits .payload) (o .inside .within .limits .payload) (good z);
       size-most = λ z. payload-size kind size (F .limits .payload) (good z);

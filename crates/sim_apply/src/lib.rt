@@ -12,7 +12,6 @@ ghost use Rattle.state_asks.specs.Asks.{Asks, ApplyTold};
 ghost use Rattle.sim_outputs.specs.Outputs.{Passed};
 ghost use Rattle.sim_apply.specs.Applies.{
   isPayloadOf,
-  asksCode,
   AsksApply,
   keyGiven,
   replyDue,
@@ -53,22 +52,6 @@ fn is_payload(kind: u64, size: u64, limit: u64) -> bool
     (kind <= 1) & (size <= limit)
 }
 
-// The first of the questions 6, 8 and 9 that is answered no, or 0.
-fn asks_code(ready: bool, within: bool, args: bool) -> u64
-    ensures { λ r. ⌜ r ≡ asksCode ready within args ⌝ }
-{
-    if !ready {
-        return 6;
-    }
-    if !within {
-        return 8;
-    }
-    if !args {
-        return 9;
-    }
-    0
-}
-
 // The questions before question 10, and who applies.
 fn asked_of(area: &[u8], f: Capacity, index: u64, kind: u64, size: u64) -> Asked
     requires { ⌜ Passed (now area) f ⌝ }
@@ -77,7 +60,7 @@ fn asked_of(area: &[u8], f: Capacity, index: u64, kind: u64, size: u64) -> Asked
     let limits = f.limits;
     let sender = sim_outputs::sender_of(area, f);
     let args = is_payload(kind, size, limits.payload);
-    let code = asks_code(sender.ready, index <= limits.log_indexes, args);
+    let code = sim_outputs::asks_code(8, 9, sender.ready, index <= limits.log_indexes, args);
     Asked {
         code,
         slot: sender.slot,

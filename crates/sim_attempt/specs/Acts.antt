@@ -67,7 +67,7 @@ timeout-read b F time c r pc q =
       value = λ t. record { to = λ s h ef. q .value t ∙ is s h ef };
     }
 
-four-is : (a b c d : Bool) → (a && b && c && d) ≡ (a and (b and (c and d)))
+pub four-is : (a b c d : Bool) → (a && b && c && d) ≡ (a and (b and (c and d)))
 four-is a b c d = code-and (a && b && c) d ∙ ap (λ (x : Bool). x and d) (code-and (a && b) c ∙ ap (λ (x : Bool). x and c) (code-and a b)) ∙ and-assoc (a and b) c d ∙ and-assoc a b (c and d)
 
 pub attempt-read : (b : List ℕ) (F : Capacity) (time room attempt : ℕ) (at end next : Sum) → Arrives b F time at → TimesOut b F time end → Sums attempt 1 next

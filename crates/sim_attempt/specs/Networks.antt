@@ -21,6 +21,7 @@ use Rattle.state.specs.Fitting.{area-fits}
 use Rattle.state.specs.FitsBy.{fits-test}
 use Rattle.state.specs.Changes.{Reads}
 use Rattle.state_header.specs.Header.{networkOf}
+use Rattle.state_header.specs.Laws.{under-word}
 use Rattle.sim_outputs.specs.Outputs.{Passed}
 use Rattle.sim_attempt.specs.Attempts.{delayed}
 
@@ -31,11 +32,6 @@ may-delay b F n o r =
     let s : State = decode b in
     subst (λ (x : Network). DelaysFit x) (sym (r .to s (o .area) (o .capacity)))
     (delays-fit (s .config .servers) (s .network) (in-range (s .config .servers) (s .network) (fits-test s (area-fits (o .area)) 6)))
-
--- a draw leaves a generator of 64 bits
-pub under-word : (g : Rng) (bound : ℕ) → word (under g bound .next .state) ≡ true
-unfolding under nextU64
-under-word g bound = lt-ltb (moved g .state) (2 ^ 64) (omega arith)
 
 -- the state with a delay drawn fits where the state before did
 pub delayed-fits : (s : State) → stateFits s ≡ true → stateFits (delayed s) ≡ true

@@ -23,22 +23,18 @@ use Rattle.state.specs.FitsBy.{fits-test}
 use Rattle.state.specs.Changes.{Inside, AreaOf, Changes, Reads, Planned, judged}
 use Rattle.state.specs.Exits.{inside-after}
 use Rattle.state_header.specs.Header.{phaseOf}
+use Rattle.state_header.specs.Laws.{closed-is}
 use Rattle.state_asks.specs.Asks.{checkerCode}
 use Rattle.state_checks.specs.FitLaws.{fits-checks}
 use Rattle.sim_checks.specs.Steps.{closedOf, each, Turning}
 
 -- ---- the phase
 
-kind-closed : (p : Phase) → eqb (phaseKind p) 0 ≡ isClosed p
-kind-closed closed = refl
-kind-closed (writing slot input owed) = refl
-kind-closed (sending slot input verdict owed) = refl
-
 pub closed-read : (b : List ℕ) (F : Capacity) (o : OpenInput) → Reads b F o (λ s. openOf (phaseOf s))
     → Reads b F (eqb (o .phase) 0) closedOf
 unfolding closedOf
 closed-read b F o q = record {
-  to = λ s h ef. ap (λ (x : OpenInput). eqb (x .phase) 0) (q .to s h ef) ∙ kind-closed (s .phase);
+  to = λ s h ef. ap (λ (x : OpenInput). eqb (x .phase) 0) (q .to s h ef) ∙ closed-is (s .phase);
 }
 
 -- ---- a check on request: question 6, then question 10 of what the checks remember

@@ -7,7 +7,7 @@ use Prim.Native.Nat.{ℕ, _+_, _<_}
 use native.Mathlib.Omega.{arith}
 use lib.Dec.{eqb}
 use lib.ListN.{length}
-use borrow.Author.Tests.{eq-eqb, ne-eqb, ltb-true}
+use borrow.Author.Tests.{eq-eqb, ne-eqb, ltb-true, not-true, not-false}
 use Rattle.laws.specs.Bools.{pick, cases, _and_, and-left, and-right, and-both, true-and, code-and}
 use Rattle.laws.specs.Decides.{false-true}
 use Rattle.laws.specs.Lists.{isSome}
@@ -32,12 +32,11 @@ use Rattle.state.specs.Fitting.{area-fits}
 use Rattle.state.specs.FitsBy.{fits-test, server-count}
 use Rattle.state.specs.Changes.{AreaOf, Changes, Reads}
 use Rattle.state_header.specs.Header.{workloadSet}
-use Rattle.state_header.specs.Laws.{fits-workload}
+use Rattle.state_header.specs.Laws.{fits-workload, under-word}
 use Rattle.state_records.specs.Records.{clientRead, clientSet}
 use Rattle.sim_outputs.specs.declared.Sum.{Sum}
 use Rattle.sim_outputs.specs.Outputs.{Sums}
 use Rattle.sim_attempt.specs.Attempts.{waiting, roomOf, arrivalTime, attemptTest, delayed, attemptedAs}
-use Rattle.sim_attempt.specs.Networks.{under-word}
 use Rattle.sim_attempt.specs.Laws.{client-changed, client-same, client-fits-at, limits-of, fits-attempt}
 use Rattle.sim_clients.specs.ClientEvents.{targetPut, awaitsIn, awaits, begun, Begins, sendTest, clientSent, againTest, clientRetried, clientTimedOut}
 
@@ -60,14 +59,6 @@ begins k time next q = record {
       ap (λ (n : ℕ). let y : Client = record { target = k .target; nextSeq = n; attempt = k .attempt; outstanding = some (record { seq = k .«next_seq»; firstSent = time }) } in y)
       (q .value (q .fits ∙ t));
 }
-
-pub not-true : (t : Bool) → not t ≡ true → t ≡ false
-not-true true h = absurd (false-true h)
-not-true false h = refl
-
-pub not-false : (t : Bool) → not t ≡ false → t ≡ true
-not-false true h = refl
-not-false false h = absurd (false-true (sym h))
 
 -- what a client that was read tells of the state's
 module _ {b : List ℕ} {F : Capacity} (k : ClientRow) (c : ℕ) (q : Reads b F (clientOf k) (clientRead c)) {s : State} (h : Area b s) (e : F ≡ capacityOf s) where

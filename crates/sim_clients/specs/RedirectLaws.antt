@@ -7,7 +7,7 @@ use Prim.Native.Nat.{ℕ, _+_, _-_, _^_, _≤_, _<_}
 use native.Mathlib.Omega.{arith}
 use lib.Dec.{leb}
 use lib.ListN.{length}
-use borrow.Author.Tests.{lt-ltb, le-leb, lt-leb, leb-true, eqb-true}
+use borrow.Author.Tests.{lt-ltb, le-leb, lt-leb, leb-true, eqb-true, not-true, not-false}
 use Rattle.laws.specs.Bools.{pick, cases, _and_, and-right, and-both, and-true, code-and, first-true, second-true}
 use Rattle.laws.specs.Lists.{isSome}
 use Rattle.units.specs.declared.NodeId.{NodeId}
@@ -32,21 +32,20 @@ use Rattle.state.specs.Fitting.{area-fits}
 use Rattle.state.specs.FitsBy.{fits-test, server-count}
 use Rattle.state.specs.Changes.{AreaOf, Changes, Reads}
 use Rattle.state_header.specs.Header.{settingsOf, workloadSet}
-use Rattle.state_header.specs.Laws.{fits-workload}
+use Rattle.state_header.specs.Laws.{fits-workload, under-word}
 use Rattle.state_records.specs.Records.{clientRead, clientSet}
 use Rattle.state_queue.specs.Events.{queueRoom, eventInRange, plain, pushed}
 use Rattle.state_queue.specs.Fits.{fits-push, fits-unpushed, plain-range}
 use Rattle.sim_outputs.specs.declared.Sum.{Sum}
 use Rattle.sim_outputs.specs.Outputs.{Sums}
 use Rattle.sim_attempt.specs.Attempts.{roomOf, attemptTest, attemptedAs}
-use Rattle.sim_attempt.specs.Networks.{under-word}
 use Rattle.sim_attempt.specs.Laws.{client-changed, limits-of, room-is, number-tests, fits-set}
 use Rattle.sim_attempt.specs.Acts.{time-word}
 use Rattle.sim_clients.specs.declared.redirects.SlotOption.{SlotOption}
 use Rattle.sim_clients.specs.declared.redirects.SlotOption.the-variants.{None, Some}
 use Rattle.sim_clients.specs.ClientEvents.{targetPut, awaitsIn, awaits, targetDrawn}
 use Rattle.sim_clients.specs.Redirects.{knownIn, isKnown, backoffTime, backoffFits, BacksOff, redirectTest, retryPut, followed, clientRedirected}
-use Rattle.sim_clients.specs.EventLaws.{not-true, not-false, read-is, read-attempt, read-awaits, seq-word, attempt-word, outstanding-fits, drawn-below, moved-fits, waits-of, drawn-is, moved-is}
+use Rattle.sim_clients.specs.EventLaws.{read-is, read-attempt, read-awaits, seq-word, attempt-word, outstanding-fits, drawn-below, moved-fits, waits-of, drawn-is, moved-is}
 
 -- ---- where to
 

@@ -7,7 +7,7 @@ use Prim.Native.Nat.{ℕ, _+_, _^_, _≤_, _<_}
 use native.Mathlib.Omega.{arith}
 use lib.Dec.{eqb, leb, ltb}
 use lib.ListN.{length}
-use borrow.Author.Tests.{lt-ltb, le-leb, leb-true, ltb-true, eq-eqb, ne-eqb, eqb-true}
+use borrow.Author.Tests.{lt-ltb, le-leb, leb-true, ltb-true, eq-eqb, ne-eqb, eqb-true, not-true, not-false}
 use Rattle.laws.specs.Bools.{pick, cases, _and_, and-left, and-right, and-both, true-and, and-true, and-assoc, code-and}
 use Rattle.units.specs.declared.LogIndex.{LogIndex}
 use Rattle.units.specs.declared.SimTime.{SimTime}
@@ -35,7 +35,7 @@ use Rattle.state.specs.Fitting.{area-fits}
 use Rattle.state.specs.FitsBy.{fits-test}
 use Rattle.state.specs.Changes.{AreaOf, Changes, Reads}
 use Rattle.state_header.specs.Header.{metricsOf, metricsSet}
-use Rattle.state_header.specs.Laws.{fits-metrics}
+use Rattle.state_header.specs.Laws.{fits-metrics, counted-is}
 use Rattle.state_records.specs.Records.{clientRead, clientSet, replyCount, replied}
 use Rattle.state_records.specs.Fits.{fits-client, fits-replied}
 use Rattle.state_queue.specs.Events.{queueRoom, eventInRange, plain, pushed}
@@ -45,8 +45,9 @@ use Rattle.sim_outputs.specs.Outputs.{Sums}
 use Rattle.sim_attempt.specs.Attempts.{roomOf}
 use Rattle.sim_attempt.specs.Acts as attempt
 use Rattle.sim_attempt.specs.Laws.{client-changed, client-count, limits-of, room-is}
+use Rattle.sim_attempt.specs.Acts.{four-is}
 use Rattle.sim_clients.specs.Replies.{answersIn, answersTo, repliesRoom, replyTest, replyCounted, rested, RestsAs, wentOn, replyTaken, clientReplied}
-use Rattle.sim_clients.specs.EventLaws.{not-true, not-false, read-is, read-attempt, target-below, seq-word, attempt-word, outstanding-fits, now-word, clients-of}
+use Rattle.sim_clients.specs.EventLaws.{read-is, read-attempt, target-below, seq-word, attempt-word, outstanding-fits, now-word, clients-of}
 
 -- ---- what is asked
 
@@ -73,9 +74,6 @@ below-is : (n m : ℕ) → ltb n m ≡ leb (n + 1) m
 below-is n m =
     same-tests (ltb n m) (leb (n + 1) m) (λ h. le-leb (n + 1) m (omega (arith, ltb-true n m h))) (λ h. lt-ltb n m (omega (arith, leb-true (n + 1) m h)))
 
-four-is : (a b c d : Bool) → (a && b && c && d) ≡ (a and (b and (c and d)))
-four-is a b c d = code-and (a && b && c) d ∙ ap (λ (x : Bool). x and d) (code-and (a && b) c ∙ ap (λ (x : Bool). x and c) (code-and a b)) ∙ and-assoc (a and b) c d ∙ and-assoc a b (c and d)
-
 module _ (b : List ℕ) (F : Capacity) (room c seq : ℕ) (k : ClientRow) (w : Bool) (q : Reads b F (clientOf k) (clientRead c)) (e : w ≡ answersIn (k .outstanding) seq) where
   answers-read : (s : State) → Area b s → F ≡ capacityOf s → w ≡ answersTo (clientAt s c .outstanding) seq
   unfolding clientOf
@@ -101,10 +99,6 @@ module _ (b : List ℕ) (F : Capacity) (room c seq : ℕ) (k : ClientRow) (w : B
   }
 
 -- ---- what is done
-
-pub counted-is : (m m′ : Metrics) → countersFit m′ ≡ true → counted m m′ .metrics ≡ m′
-unfolding counted
-counted-is m m′ t = ap (λ (u : Bool). let x : Counted = pick u (record { fits = true; metrics = m′ }) (record { fits = false; metrics = m }) in x .metrics) t
 
 pub reply-counted : (b b′ : List ℕ) (F : Capacity) (m : Metrics) (c : Counted) → Reads b F m metricsOf → c ≡ counted m (recordReply m) → Changes b b′ F (metricsSet (c .metrics)) → Changes b b′ F replyCounted
 unfolding metricsOf metricsSet replyCounted

@@ -4,7 +4,7 @@ use mathlib.Core.Bool.{Bool, true, false, not}
 use mathlib.Core.List.{List}
 use Prim.Native.Nat.{ℕ, zero, suc, _+_, _-_, _^_, _≤_, _<_}
 use native.Mathlib.Omega.{arith}
-use borrow.Author.Tests.{lt-ltb, le-ltb}
+use borrow.Author.Tests.{lt-ltb, le-ltb, not-true, not-false}
 use Rattle.laws.specs.Bools.{pick, cases, _and_, and-both, and-right, and-true}
 use Rattle.client.specs.Key as client
 use Rattle.protocol.specs.declared.RequestId.{RequestId}
@@ -30,7 +30,7 @@ use Rattle.state_header.specs.Laws.{fits-phase, fits-direct-seq}
 use Rattle.sim_direct.specs.declared.DirectAsked.{DirectAsked}
 use Rattle.sim_direct.specs.declared.asked.ProposalAsked.{ProposalAsked}
 use Rattle.sim_direct.specs.Direct.{directCode, serverRuns, AsksDirect}
-use Rattle.sim_direct.specs.Laws.{not-true, not-false, closed-known, known-low}
+use Rattle.sim_direct.specs.Laws.{closed-known, known-low}
 use Rattle.sim_direct.specs.Asked.{noProposal, proposalOpen, ProposalPlanned, confirmOpen, ConfirmPlanned}
 
 -- ---- an input of a server in the cluster that is neither sealed nor owed anything

@@ -19,11 +19,6 @@ use Rattle.state.specs.Branches.{PlannedIf}
 use Rattle.state_header.specs.Header.{phaseSet}
 use Rattle.sim_direct.specs.declared.DirectAsked.{DirectAsked}
 
--- A server with a status runs.
-abbrev pub statusRuns : StatusOption → Bool
-statusRuns status.None = false
-statusRuns (status.Some x) = true
-
 -- The timer of a number.
 unfoldable pub timerGiven : ℕ → Timer
 timerGiven timer = pick (eqb timer 1) Heartbeat Election

@@ -6,7 +6,7 @@ use Prim.Native.Nat.{ℕ, _+_, _-_, _≤_, _<_}
 use native.Mathlib.Omega.{arith}
 use lib.Dec.{eqb, leb, ltb}
 use lib.ListN.{length}
-use borrow.Author.Tests.{eq-eqb, ne-eqb, le-leb, lt-leb, leb-true, lt-ltb}
+use borrow.Author.Tests.{eq-eqb, ne-eqb, le-leb, lt-leb, leb-true, lt-ltb, not-true, not-false}
 use Rattle.laws.specs.Bools.{pick, cases, _and_, and-both, and-left, and-right}
 use Rattle.laws.specs.Decides.{false-true}
 use Rattle.laws.specs.Lists.{isSome}
@@ -36,18 +36,11 @@ use Rattle.answers.specs.declared.OpenedAnswer.{OpenedAnswer}
 use Rattle.answers.specs.declared.InputNumbers.{InputNumbers}
 use Rattle.answers.specs.Answers.{noInputNumbers, inputOf, openedNo, openedOf, openedYes}
 use Rattle.state_header.specs.Header.{phaseOf, phaseSet, SetsPhase}
-use Rattle.state_header.specs.Laws.{fits-phase}
-use Rattle.state_server.specs.Servers.{statusAt}
+use Rattle.state_header.specs.Laws.{fits-phase, kind-closed, kind-open}
+use Rattle.state_server.specs.Servers.{statusAt, statusRuns}
+use Rattle.state_server.specs.Laws.{status-runs}
 use Rattle.sim_direct.specs.declared.DirectAsked.{DirectAsked}
-use Rattle.sim_direct.specs.Direct.{statusRuns, timerGiven, directCode, serverRuns, AsksDirect, timerOpen, FirePlanned, OpensTimer}
-
-pub not-true : (t : Bool) → not t ≡ true → t ≡ false
-not-true true e = absurd (false-true e)
-not-true false e = refl
-
-pub not-false : (t : Bool) → not t ≡ false → t ≡ true
-not-false true e = refl
-not-false false e = absurd (false-true (sym e))
+use Rattle.sim_direct.specs.Direct.{timerGiven, directCode, serverRuns, AsksDirect, timerOpen, FirePlanned, OpensTimer}
 
 -- ---- the timer of a number
 
@@ -60,23 +53,6 @@ unfolding timerGiven
 timer-vote timer n = sym (rw (ne-eqb timer 1 n))
 
 -- ---- what is asked
-
-kind-closed : (p : Phase) → phaseKind p ≡ 0 → isClosed p ≡ true
-kind-closed closed e = refl
-kind-closed (writing slot input owed) e = absurd (omega arith)
-kind-closed (sending slot input verdict owed) e = absurd (omega arith)
-
-kind-open : (p : Phase) → (phaseKind p ≡ 0 → ⊥) → isClosed p ≡ false
-kind-open closed n = absurd (n refl)
-kind-open (writing slot input owed) n = refl
-kind-open (sending slot input verdict owed) n = refl
-
-status-runs : (s : State) (k : ℕ) → statusRuns (optionStatus (serverAt s k .status)) ≡ running s k
-status-runs s k = by (serverAt s k .status)
-  where
-    by : (o : mathlib.Core.Option.Option Status) → statusRuns (optionStatus o) ≡ isSome o
-    by mathlib.Core.Option.none = refl
-    by (mathlib.Core.Option.some x) = refl
 
 module _ (b : List ℕ) (F : Capacity) (server : ℕ) (o : OpenInput) (q : Reads b F o (λ s. openOf (phaseOf s))) where
   kind : (s : State) → Area b s → F ≡ capacityOf s → o .phase ≡ phaseKind (s .phase)
@@ -124,7 +100,7 @@ module _ (b : List ℕ) (F : Capacity) (server : ℕ) (o : OpenInput) (q : Reads
       };
       slot = λ e. refl;
       below = λ e. omega arith;
-      running = λ e. record { to = λ s h ef. er ∙ ap statusRuns (qx .to s h ef) ∙ status-runs s (server - 1) };
+      running = λ e. record { to = λ s h ef. er ∙ ap statusRuns (qx .to s h ef) ∙ status-runs (serverAt s (server - 1) .status) };
     }
 
 -- ---- firing a timer

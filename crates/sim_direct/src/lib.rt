@@ -5,7 +5,7 @@ ghost use Rattle.model.specs.Calls.{fireTimer};
 ghost use Rattle.state.specs.Changes.{Inside, Gated};
 ghost use Rattle.state.specs.Call.{call};
 ghost use Rattle.answers.specs.Answers.{openedNo, openedYes};
-ghost use Rattle.sim_direct.specs.Direct.{statusRuns, timerGiven, AsksDirect, FirePlanned, timerOpen, OpensTimer};
+ghost use Rattle.sim_direct.specs.Direct.{timerGiven, AsksDirect, FirePlanned, timerOpen, OpensTimer};
 use answers::OpenedAnswer;
 use answers::opened;
 use protocol::Timer;
@@ -22,16 +22,6 @@ pub struct DirectAsked {
     pub code: u64,
     pub slot: u64,
     pub running: bool,
-}
-
-// Whether a server has a status.
-fn runs(status: StatusOption) -> bool
-    ensures { λ r. ⌜ r ≡ statusRuns status ⌝ }
-{
-    match status {
-        StatusOption::None => false,
-        StatusOption::Some(_) => true,
-    }
 }
 
 // Questions 6 and 7 of a direct call, and whether its server runs.
@@ -66,7 +56,7 @@ fn direct_asked(area: &[u8], f: Capacity, server: u64) -> DirectAsked
     DirectAsked {
         code: 0,
         slot,
-        running: runs(status),
+        running: state_server::runs(status),
     }
 }
 

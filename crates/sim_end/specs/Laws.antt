@@ -30,6 +30,7 @@ use Rattle.sim_owed.specs.declared.Owed.{Owed as OwedKind}
 use Rattle.sim_owed.specs.Servers.{owedOf}
 use Rattle.sim_owed.specs.Closes.{closeTest}
 use Rattle.sim_end.specs.Ends.{statusOf, statusIn, GivesStatus, endCode, endRoom}
+use Rattle.sim_outputs.specs.Laws.{slot-in}
 
 -- ---- the arguments
 
@@ -92,14 +93,6 @@ room-read b F o told owed more goes p eo em q = record {
 }
 
 -- ---- the server of the open input
-
-slot-in : (s : State) → phaseFits (s .config) (s .limits) (s .phase) ≡ true → 1 ≤ s .config .servers → phaseSlot (s .phase) < s .config .servers
-slot-in s h o = by (s .phase) h
-  where
-    by : (p : Phase) → phaseFits (s .config) (s .limits) p ≡ true → phaseSlot p < s .config .servers
-    by closed g = omega arith
-    by (writing slot input owed) g = ltb-true _ _ (and-left _ _ g)
-    by (sending slot input verdict owed) g = ltb-true _ _ (and-left _ _ g)
 
 pub slot-open : (b : List ℕ) (g : Gate) (o : OpenInput) → Gated b g → g .refusal ≤ 0 → Reads b (g .capacity) o (λ s. openOf (phaseOf s)) → o .slot < g .capacity .servers
 slot-open b g o q y r =

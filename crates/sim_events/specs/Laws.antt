@@ -33,36 +33,22 @@ use Rattle.state.specs.Fitting.{area-fits}
 use Rattle.state.specs.FitsBy.{fits-test}
 use Rattle.state.specs.Changes.{AreaOf, Changes, Reads}
 use Rattle.state_header.specs.Header.{metricsOf, metricsSet, phaseSet, SetsPhase}
-use Rattle.state_header.specs.Laws.{fits-phase}
-use Rattle.state_server.specs.Servers.{serverStateAt, statusAt, pendingRoom, registered}
+use Rattle.state_header.specs.Laws.{fits-phase, counted-is}
+use Rattle.state_server.specs.Servers.{serverStateAt, statusAt, pendingRoom, registered, statusRuns}
+use Rattle.state_server.specs.Laws.{status-runs}
 use Rattle.answers.specs.declared.InputNumbers.{InputNumbers}
 use Rattle.answers.specs.Answers.{inputOf, messageNumbers}
 use Rattle.sim_outputs.specs.Timers.{generationIn}
-use Rattle.sim_clients.specs.EventLaws.{not-true, not-false}
-use Rattle.sim_clients.specs.ReplyLaws.{counted-is}
 use Rattle.sim_owed.specs.declared.Owed.the-variants as owed
 use Rattle.sim_owed.specs.Servers.{Opens, owedOf, startAt}
-use Rattle.sim_owed.specs.Closes.{statusRuns, runsAt, idleAt}
+use Rattle.sim_owed.specs.Closes.{runsAt, idleAt}
 use Rattle.sim_owed.specs.ServerLaws.{opens-is}
 use Rattle.sim_events.specs.Moves.{processed, Processes, inputOpened, messageOpen, timerOpen, proposalOpen, freshIn, firesIn, roleContends, statusContends, deliveryRoom, deliverTest, deliveryCounted, arriveTest}
 use Rattle.sim_events.specs.Kept.{Keeps, same, phase-kept}
+use borrow.Author.Tests.{not-true, not-false}
 
 -- ---- a server's status
 
-pub runs-none : (x : StatusOption) → x ≡ status.None → false ≡ statusRuns x
-unfolding statusRuns
-runs-none x e = sym (ap statusRuns e)
-
-pub runs-some : (x : StatusOption) (y : Status) → x ≡ status.Some y → true ≡ statusRuns x
-unfolding statusRuns
-runs-some x y e = sym (ap statusRuns e)
-
-status-runs : (o : Option Status) → statusRuns (optionStatus o) ≡ isSome o
-unfolding statusRuns
-status-runs none = refl
-status-runs (some x) = refl
-
--- a status that was read
 status-read : (b : List ℕ) (F : Capacity) (slot : ℕ) (x : StatusOption) → Reads b F x (statusAt slot) → (s : State) → Area b s → F ≡ capacityOf s → statusRuns x ≡ running s slot
 unfolding statusAt
 status-read b F slot x q s h e = ap statusRuns (q .to s h e) ∙ status-runs (serverAt s slot .status)

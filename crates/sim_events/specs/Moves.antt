@@ -20,11 +20,10 @@ use Rattle.state.specs.declared.OpenInput.{OpenInput}
 use Rattle.state.specs.declared.ServerState.{ServerState}
 use Rattle.state.specs.declared.StatusOption.{StatusOption}
 use Rattle.state.specs.declared.StatusOption.the-variants as status
-use Rattle.state_server.specs.Servers.{pendingRoom}
+use Rattle.state_server.specs.Servers.{pendingRoom, statusRuns}
 use Rattle.answers.specs.declared.InputNumbers.{InputNumbers}
 use Rattle.sim_outputs.specs.Timers.{generationIn}
 use Rattle.sim_owed.specs.Servers.{Opens}
-use Rattle.sim_owed.specs.Closes.{statusRuns}
 
 -- ---- the move
 

@@ -12,13 +12,13 @@ ghost use Rattle.sim_events.specs.Moves.{
   Processes,
 };
 use crate::open_message;
-use crate::runs;
 use answers::InputNumbers;
 use answers::opened;
 use protocol::Role;
 use sim_owed::closes;
 use state::Capacity;
 use state::StatusOption;
+use state_server::runs;
 use units::NodeId;
 
 // Whether a role takes part in an election or leads.

@@ -6,7 +6,7 @@ ghost use Prim.Native.Nat.{_<_};
 ghost use Rattle.queue.specs.declared.Event.the-variants.{Start, Timer as TimerEvent};
 ghost use Rattle.state.specs.Changes.{Inside, Reads, Changes};
 ghost use Rattle.sim_owed.specs.Servers.{Opens};
-ghost use Rattle.sim_owed.specs.Closes.{statusRuns, runsAt};
+ghost use Rattle.sim_owed.specs.Closes.{runsAt};
 ghost use Rattle.sim_events.specs.Moves.{
   processed,
   freshIn,
@@ -32,16 +32,6 @@ pub mod deliveries; // a message that reaches a server
 pub mod arrivals; // a client's command that reaches a server
 pub mod client_events; // the events of clients
 
-// Whether a server has a status.
-fn runs(status: StatusOption) -> bool
-    ensures { λ r. ⌜ r ≡ statusRuns status ⌝ }
-{
-    match status {
-        StatusOption::None => false,
-        StatusOption::Some(_) => true,
-    }
-}
-
 // Whether the server at a place runs.
 pub fn runs_at(area: &[u8], f: Capacity, slot: u64) -> bool
     requires { ⌜ Inside (now area) f ⌝ }
@@ -49,7 +39,7 @@ pub fn runs_at(area: &[u8], f: Capacity, slot: u64) -> bool
     ensures { λ r. ⌜ Reads (now (area .entry)) f r (runsAt slot) ⌝ }
 {
     let status = state_server::status_of(area, f, slot as usize);
-    runs(status)
+    state_server::runs(status)
 }
 
 // ---- inputs that open
@@ -106,7 +96,7 @@ fn fresh(x: ServerState) -> bool
     ensures { λ r. ⌜ r ≡ freshIn x ⌝ }
 {
     let status = x.status;
-    let running = runs(status);
+    let running = state_server::runs(status);
     !running & (x.incarnation == 0)
 }
 
@@ -130,7 +120,7 @@ fn fires(x: ServerState, timer: Timer, generation: u64) -> bool
     ensures { λ r. ⌜ r ≡ firesIn x timer generation ⌝ }
 {
     let status = x.status;
-    let running = runs(status);
+    let running = state_server::runs(status);
     match timer {
         Timer::Election => running & (x.election == generation),
         Timer::Heartbeat => running & (x.heartbeat == generation),

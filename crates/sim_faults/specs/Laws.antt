@@ -39,15 +39,16 @@ use Rattle.state.specs.Lens.{servers-fit}
 use Rattle.state.specs.Changes.{Inside, AreaOf, Changes, Reads}
 use Rattle.answers.specs.declared.InputNumbers.{InputNumbers}
 use Rattle.state_header.specs.Header.{networkOf, networkSet}
-use Rattle.state_server.specs.Servers.{statusAt, serverStateAt, serverStateSet}
+use Rattle.state_server.specs.Servers.{statusAt, serverStateAt, serverStateSet, statusRuns}
 use Rattle.state_server.specs.ServerLaws.{server-state-set}
+use Rattle.state_server.specs.Laws.{status-runs}
 use Rattle.state_queue.specs.Events.{pushed, plain}
 use Rattle.state_queue.specs.Sends.{pushed-after}
 use Rattle.sim_outputs.specs.declared.Sum.{Sum}
 use Rattle.sim_outputs.specs.Outputs.{Sums}
 use Rattle.sim_owed.specs.declared.Owed.the-variants.{Nothing}
 use Rattle.sim_owed.specs.Servers.{owedOf, Opens, stopAt, restartTest, restartAt}
-use Rattle.sim_owed.specs.Closes.{idleAt, statusRuns, runsAt, healAt, healTest}
+use Rattle.sim_owed.specs.Closes.{idleAt, runsAt, healAt, healTest}
 use Rattle.sim_owed.specs.Fits.{settled-fits, fits-idle, fits-stop}
 use Rattle.sim_owed.specs.ServerLaws.{opens-after, opens-is}
 use Rattle.sim_faults.specs.Faults.{faultAt, networkAfter, networkMove, crashingState, crashingAt, stopScheduled, stopMove, leaderTest, leaderFits, restartFits, faultTest, Known, Aimed, StopsKnown}
@@ -201,11 +202,6 @@ module _ (b b₁ b₂ : List ℕ) (F : Capacity) (n m : Network) (r : InputNumbe
       none-left s = ap (healFrom (withNetwork s (network.healAll (s .network))) 0) (let e : lib.ListN.length (s .servers) - 0 ≡ lib.ListN.length (s .servers) = omega arith in e)
 
 -- ---- one server
-
-status-runs : (o : Option Status) → statusRuns (optionStatus o) ≡ isSome o
-unfolding statusRuns
-status-runs none = refl
-status-runs (some x) = refl
 
 module _ (b : List ℕ) (F : Capacity) (slot : ℕ) (x : StatusOption) (q : Reads b F x (statusAt slot)) where
   pub runs-no : x ≡ status.None → Reads b F false (runsAt slot)

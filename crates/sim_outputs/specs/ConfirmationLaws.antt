@@ -33,7 +33,7 @@ use Rattle.answers.specs.Answers.{doneNo, doneYes}
 use Rattle.state_records.specs.Records.{confirmationCount, confirmed}
 use Rattle.state_records.specs.Fits.{fits-confirmed}
 use Rattle.sim_outputs.specs.declared.Sender.{Sender}
-use Rattle.sim_outputs.specs.Outputs.{sends, IsSender, outputCode}
+use Rattle.sim_outputs.specs.Outputs.{sends, IsSender, asksCode}
 use Rattle.sim_outputs.specs.Confirmations.{confirmCode}
 use Rattle.sim_outputs.specs.Laws.{ready-is, judged-output, output-done}
 
@@ -41,14 +41,14 @@ use Rattle.sim_outputs.specs.Laws.{ready-is, judged-output, output-done}
 one-more : (m n : ℕ) → ltb m n ≡ leb (m + 1) n
 one-more m n = let e : m + 1 ≡ Prim.Native.Nat.suc m = omega arith in ap (λ (k : ℕ). leb k n) (sym e)
 
-pub confirm-asked : (b : List ℕ) (F : Capacity) (d : Sender) (n r : ℕ) → IsSender b F d → Reads b F n confirmationCount → r ≡ outputCode (d .ready) true (ltb n (F .limits .history))
+pub confirm-asked : (b : List ℕ) (F : Capacity) (d : Sender) (n r : ℕ) → IsSender b F d → Reads b F n confirmationCount → r ≡ asksCode 9 10 (d .ready) true (ltb n (F .limits .history))
     → Reads b F r confirmCode
 unfolding confirmCode confirmationCount
 confirm-asked b F d n r pd pn e = record {
   to = λ s h ef.
-      e ∙ ap₂ (λ (t : Bool) (m : ℕ). outputCode t true (ltb m (F .limits .history))) (ready-is pd h ef) (pn .to s h ef)
-      ∙ ap (λ (G : Capacity). outputCode (sends (s .phase)) true (ltb (length (s .confirmations)) (G .limits .history))) ef
-      ∙ ap (outputCode (sends (s .phase)) true) (one-more (length (s .confirmations)) (s .limits .history));
+      e ∙ ap₂ (λ (t : Bool) (m : ℕ). asksCode 9 10 t true (ltb m (F .limits .history))) (ready-is pd h ef) (pn .to s h ef)
+      ∙ ap (λ (G : Capacity). asksCode 9 10 (sends (s .phase)) true (ltb (length (s .confirmations)) (G .limits .history))) ef
+      ∙ ap (asksCode 9 10 (sends (s .phase)) true) (one-more (length (s .confirmations)) (s .limits .history));
 }
 
 -- a call that appends a confirmation in range
@@ -59,9 +59,9 @@ module _ (b : List ℕ) (F : Capacity) (c : ℕ) (q : Reads b F c confirmCode) (
       fits-confirmed s x ∙ ap₂ (λ (t u : Bool). (leb (length (s .confirmations) + 1) (s .limits .history) and t) and u) (good s) (area-fits h)
       ∙ and-true _ ∙ and-true _
 
-  code-is : (s : State) → Area b s → F ≡ capacityOf s → c ≡ outputCode (sends (s .phase)) true (stateFits (confirmed x s))
+  code-is : (s : State) → Area b s → F ≡ capacityOf s → c ≡ asksCode 9 10 (sends (s .phase)) true (stateFits (confirmed x s))
   unfolding confirmCode
-  code-is s h ef = q .to s h ef ∙ ap (outputCode (sends (s .phase)) true) (sym (fits s h))
+  code-is s h ef = q .to s h ef ∙ ap (asksCode 9 10 (sends (s .phase)) true) (sym (fits s h))
 
   planned : Planned b F c f tt (confirmed x)
   planned = record {

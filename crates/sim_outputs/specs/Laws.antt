@@ -26,7 +26,7 @@ use Rattle.state.specs.Changes.{Inside, Gated, Reads, judged}
 use Rattle.state_header.specs.Header.{phaseOf}
 use Rattle.sim_outputs.specs.declared.Sum.{Sum}
 use Rattle.sim_outputs.specs.declared.Sender.{Sender}
-use Rattle.sim_outputs.specs.Outputs.{Passed, sends, senderOf, IsSender, outputCode, Sums}
+use Rattle.sim_outputs.specs.Outputs.{Passed, sends, senderOf, IsSender, asksCode, Sums}
 
 -- ---- the gate
 
@@ -54,7 +54,7 @@ sends-is (sending slot input (notLeader None) owed) = refl
 sends-is (sending slot input (notLeader (Some id)) owed) = refl
 
 -- the place of the open input is a server's, and 0 where none is open
-slot-in : (s : State) → phaseFits (s .config) (s .limits) (s .phase) ≡ true → 1 ≤ s .config .servers → phaseSlot (s .phase) < s .config .servers
+pub slot-in : (s : State) → phaseFits (s .config) (s .limits) (s .phase) ≡ true → 1 ≤ s .config .servers → phaseSlot (s .phase) < s .config .servers
 slot-in s h o = by (s .phase) h
   where
     by : (p : Phase) → phaseFits (s .config) (s .limits) p ≡ true → phaseSlot p < s .config .servers
@@ -95,55 +95,83 @@ module _ {b : List ℕ} {F : Capacity} {d : Sender} (p : IsSender b F d) {s : St
 
 -- ---- the refusal
 
-pub code-six : (a b c : Bool) → not a ≡ true → _≡_ {A = ℕ} 6 (outputCode a b c)
-unfolding outputCode
-code-six true b c h = absurd (false-true h)
-code-six false b c h = refl
+pub code-first : (m n : ℕ) (a b c : Bool) → not a ≡ true → _≡_ {A = ℕ} 6 (asksCode m n a b c)
+unfolding asksCode
+code-first m n true b c h = absurd (false-true h)
+code-first m n false b c h = refl
 
-pub code-nine : (a b c : Bool) → not a ≡ false → not b ≡ true → _≡_ {A = ℕ} 9 (outputCode a b c)
-unfolding outputCode
-code-nine true true c h k = absurd (false-true k)
-code-nine true false c h k = refl
-code-nine false b c h k = absurd (false-true (sym h))
+pub code-second : (m n : ℕ) (a b c : Bool) → not a ≡ false → not b ≡ true → m ≡ asksCode m n a b c
+unfolding asksCode
+code-second m n true true c h k = absurd (false-true k)
+code-second m n true false c h k = refl
+code-second m n false b c h k = absurd (false-true (sym h))
 
-pub code-ten : (a b c : Bool) → not a ≡ false → not b ≡ false → not c ≡ true → _≡_ {A = ℕ} 10 (outputCode a b c)
-unfolding outputCode
-code-ten true true true h k l = absurd (false-true l)
-code-ten true true false h k l = refl
-code-ten true false c h k l = absurd (false-true (sym k))
-code-ten false b c h k l = absurd (false-true (sym h))
+pub code-third : (m n : ℕ) (a b c : Bool) → not a ≡ false → not b ≡ false → not c ≡ true → n ≡ asksCode m n a b c
+unfolding asksCode
+code-third m n true true true h k l = absurd (false-true l)
+code-third m n true true false h k l = refl
+code-third m n true false c h k l = absurd (false-true (sym k))
+code-third m n false b c h k l = absurd (false-true (sym h))
 
-pub code-none : (a b c : Bool) → not a ≡ false → not b ≡ false → not c ≡ false → _≡_ {A = ℕ} 0 (outputCode a b c)
-unfolding outputCode
-code-none true true true h k l = refl
-code-none true true false h k l = absurd (false-true (sym l))
-code-none true false c h k l = absurd (false-true (sym k))
-code-none false b c h k l = absurd (false-true (sym h))
+pub code-none : (m n : ℕ) (a b c : Bool) → not a ≡ false → not b ≡ false → not c ≡ false → _≡_ {A = ℕ} 0 (asksCode m n a b c)
+unfolding asksCode
+code-none m n true true true h k l = refl
+code-none m n true true false h k l = absurd (false-true (sym l))
+code-none m n true false c h k l = absurd (false-true (sym k))
+code-none m n false b c h k l = absurd (false-true (sym h))
 
--- where nothing is refused, the state fits
-pub code-fits : (a b c : Bool) → outputCode a b c ≡ 0 → c ≡ true
-unfolding outputCode
-code-fits true true true e = refl
-code-fits true true false e = absurd (omega arith)
-code-fits true false c e = absurd (omega arith)
-code-fits false b c e = absurd (omega arith)
+-- where nothing is refused, each was answered yes
+pub second-yes : (m n : ℕ) (a b c : Bool) → asksCode m n a b c ≡ 0 → 0 < m → b ≡ true
+unfolding asksCode
+second-yes m n true true c e l = refl
+second-yes m n true false c e l = absurd (omega arith)
+second-yes m n false b c e l = absurd (omega arith)
+
+pub third-yes : (m n : ℕ) (a b c : Bool) → asksCode m n a b c ≡ 0 → 0 < m → 0 < n → c ≡ true
+unfolding asksCode
+third-yes m n true true true e l k = refl
+third-yes m n true true false e l k = absurd (omega arith)
+third-yes m n true false c e l k = absurd (omega arith)
+third-yes m n false b c e l k = absurd (omega arith)
 
 -- ---- what an output call gives
 
 pub judged-output : {A : Type 0} (v : A) (p : Phase) (test : Bool) (op : ℕ → State)
-    → judged (output p (λ slot. ask test 9 (done v (op slot)))) ≡ outputCode (sends p) test (stateFits (op (phaseSlot p)))
-unfolding judged outputCode
+    → judged (output p (λ slot. ask test 9 (done v (op slot)))) ≡ asksCode 9 10 (sends p) test (stateFits (op (phaseSlot p)))
+unfolding judged asksCode
 judged-output v closed test op = refl
 judged-output v (writing slot input owed) test op = refl
 judged-output v (sending slot input accepted owed) true op = refl
 judged-output v (sending slot input accepted owed) false op = refl
 judged-output v (sending slot input (notLeader hint) owed) test op = refl
 
-pub output-done : {A : Type 0} (v : A) (p : Phase) (test : Bool) (op : ℕ → State) (u : Bool) → outputCode (sends p) test u ≡ 0
+pub output-done : {A : Type 0} (v : A) (p : Phase) (test : Bool) (op : ℕ → State) (u : Bool) → asksCode 9 10 (sends p) test u ≡ 0
     → output p (λ slot. ask test 9 (done v (op slot))) ≡ done v (op (phaseSlot p))
-unfolding outputCode
+unfolding asksCode
 output-done v closed test op u e = absurd (omega arith)
 output-done v (writing slot input owed) test op u e = absurd (omega arith)
 output-done v (sending slot input accepted owed) true op u e = refl
 output-done v (sending slot input accepted owed) false op u e = absurd (omega arith)
 output-done v (sending slot input (notLeader hint) owed) test op u e = absurd (omega arith)
+
+-- ---- what an output call with two questions of its own gives
+
+pub refused-two : {A : Type 0} (v : A) (p : Phase) (m n : ℕ) (a b : Bool) (op : ℕ → State) (k : ℕ) → k ≡ asksCode m n (sends p) a b → 0 < k
+    → k ≡ judged (output p (λ slot. ask a m (ask b n (done v (op slot)))))
+unfolding judged asksCode
+refused-two v closed m n a b op k e l = e
+refused-two v (writing slot input owed) m n a b op k e l = e
+refused-two v (sending slot input accepted owed) m n true true op k e l = absurd (omega arith)
+refused-two v (sending slot input accepted owed) m n true false op k e l = e
+refused-two v (sending slot input accepted owed) m n false b op k e l = e
+refused-two v (sending slot input (notLeader hint) owed) m n a b op k e l = e
+
+pub done-two : {A : Type 0} (v : A) (p : Phase) (m n : ℕ) (a b : Bool) (op : ℕ → State) → asksCode m n (sends p) a b ≡ 0 → 0 < m → 0 < n
+    → output p (λ slot. ask a m (ask b n (done v (op slot)))) ≡ done v (op (phaseSlot p))
+unfolding asksCode
+done-two v closed m n a b op e l k = absurd (omega arith)
+done-two v (writing slot input owed) m n a b op e l k = absurd (omega arith)
+done-two v (sending slot input accepted owed) m n true true op e l k = refl
+done-two v (sending slot input accepted owed) m n true false op e l k = absurd (omega arith)
+done-two v (sending slot input accepted owed) m n false b op e l k = absurd (omega arith)
+done-two v (sending slot input (notLeader hint) owed) m n a b op e l k = absurd (omega arith)

@@ -36,9 +36,9 @@ pub record IsSender (b : List ℕ) (F : Capacity) (r : Sender) : Type 0 where
   pub reads : Reads b F r senderOf
   pub below : r .slot < F .servers
 
--- The number of the first question that is answered no, of 6 (outputs belong), 9 (arguments) and 10 (the state fits); 0 where none is.
-unfoldable pub outputCode : Bool → Bool → Bool → ℕ
-outputCode ready args fits = pick ready (pick args (pick fits 0 10) 9) 6
+-- The number of the first question that is answered no, of 6 (the call belongs to the phase) and two more, by their numbers; 0 where none is.
+unfoldable pub asksCode : (second third : ℕ) → Bool → Bool → Bool → ℕ
+asksCode second third ready a b = pick ready (pick a (pick b 0 third) second) 6
 
 -- Whether the sum of a and b has 64 bits, and where it has, the sum.
 pub record Sums (a b : ℕ) (r : Sum) : Type 0 where

@@ -3,6 +3,7 @@ use mathlib.Core.Path.{_≡_, refl, sym, ap, ap₂, subst, _∙_}
 use mathlib.Core.Bool.{Bool, true, _&&_}
 use mathlib.Core.List.{List}
 use Prim.Native.Nat.{ℕ, _+_, _^_, _<_}
+use native.Mathlib.Omega.{arith}
 use lib.Dec.{ltb, leb}
 use Rattle.laws.specs.Bools.{_and_, and-left, and-right, and-assoc, code-and}
 use Rattle.protocol.specs.declared.Timer.{Timer}
@@ -21,20 +22,20 @@ use Rattle.state_queue.specs.Fits.{fits-push}
 use Rattle.sim_outputs.specs.declared.Sum.{Sum}
 use Rattle.sim_outputs.specs.declared.Sender.{Sender}
 use Rattle.sim_outputs.specs.declared.TimerPlan.{TimerPlan}
-use Rattle.sim_outputs.specs.Outputs.{sends, IsSender, outputCode, Sums}
+use Rattle.sim_outputs.specs.Outputs.{sends, IsSender, asksCode, Sums}
 use Rattle.sim_outputs.specs.Timers.{generationAt, generationSet, timerEvent, timerSet, TimerAnswered, TimerPlanned}
-use Rattle.sim_outputs.specs.Laws.{ready-is, slot-is, slot-below, code-fits, judged-output, output-done}
+use Rattle.sim_outputs.specs.Laws.{ready-is, slot-is, slot-below, third-yes, judged-output, output-done}
 use Rattle.sim_outputs.specs.TimerLaws.{fits-timer, timer-set}
 
 pub timer-answered : (ready room : Bool) (k n now timer after code : ℕ) (next time : Sum) → Sums n 1 next → Sums now after time
-    → code ≡ outputCode ready (leb timer 1 && leb after 1099511627776) (room && next .fits && time .fits)
+    → code ≡ asksCode 9 10 ready (leb timer 1 && leb after 1099511627776) (room && next .fits && time .fits)
     → TimerAnswered ready room k n now timer after (record { code = code; slot = k; generation = next .value; time = time .value })
 timer-answered ready room k n now timer after code next time p q e =
-    let c : code ≡ outputCode ready (isFlag timer and leb after (2 ^ 40)) (room and (ltb (n + 1) (2 ^ 64) and ltb (now + after) (2 ^ 64))) =
-    e ∙ ap₂ (λ (x y : Bool). outputCode ready x y) (code-and (leb timer 1) (leb after 1099511627776))
+    let c : code ≡ asksCode 9 10 ready (isFlag timer and leb after (2 ^ 40)) (room and (ltb (n + 1) (2 ^ 64) and ltb (now + after) (2 ^ 64))) =
+    e ∙ ap₂ (λ (x y : Bool). asksCode 9 10 ready x y) (code-and (leb timer 1) (leb after 1099511627776))
     (code-and (room && next .fits) (time .fits) ∙ ap (λ (x : Bool). x and time .fits) (code-and room (next .fits)) ∙ and-assoc room (next .fits) (time .fits)
     ∙ ap₂ (λ (x y : Bool). room and (x and y)) (p .fits) (q .fits)) in
-    let yes : code ≡ 0 → (ltb (n + 1) (2 ^ 64) and ltb (now + after) (2 ^ 64)) ≡ true = λ z. and-right _ _ (code-fits _ _ _ (sym c ∙ z)) in
+    let yes : code ≡ 0 → (ltb (n + 1) (2 ^ 64) and ltb (now + after) (2 ^ 64)) ≡ true = λ z. and-right _ _ (third-yes 9 10 _ _ _ (sym c ∙ z) (omega arith) (omega arith)) in
     record {
       code = c;
       slot = refl;
@@ -61,11 +62,11 @@ module _ (b : List ℕ) (F : Capacity) (timer after : ℕ) (p : TimerPlan) (d : 
     time-is : w .now .0 + after ≡ s .now .0 + after
     time-is = ap (λ (x : Run). x .now .0 + after) (pw .to s h e)
 
-    code-is : p .code ≡ outputCode (sends (s .phase)) test (stateFits (setTimer s k (timerOf timer) (record { 0 = after })))
+    code-is : p .code ≡ asksCode 9 10 (sends (s .phase)) test (stateFits (setTimer s k (timerOf timer) (record { 0 = after })))
     code-is =
-        a .code ∙ ap₂ (λ (x y : Bool). outputCode x test (y and (ltb (n + 1) (2 ^ 64) and ltb (w .now .0 + after) (2 ^ 64)))) (ready-is pd h e) (pr .to s h e)
-        ∙ ap₂ (λ (x y : ℕ). outputCode (sends (s .phase)) test (queueRoom 1 s and (word x and word y))) next-is time-is
-        ∙ ap (outputCode (sends (s .phase)) test)
+        a .code ∙ ap₂ (λ (x y : Bool). asksCode 9 10 x test (y and (ltb (n + 1) (2 ^ 64) and ltb (w .now .0 + after) (2 ^ 64)))) (ready-is pd h e) (pr .to s h e)
+        ∙ ap₂ (λ (x y : ℕ). asksCode 9 10 (sends (s .phase)) test (queueRoom 1 s and (word x and word y))) next-is time-is
+        ∙ ap (asksCode 9 10 (sends (s .phase)) test)
         (sym (fits-timer h k (slot-below pd h e) (timerOf timer) m (s .now .0 + after)) ∙ ap stateFits (sym (timer-set s k (timerOf timer) after)))
 
     told : p .code ≡ judged (outputSetTimer timer (record { 0 = after }) s)

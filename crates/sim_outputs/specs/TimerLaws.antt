@@ -32,9 +32,9 @@ use Rattle.state_queue.specs.Events.{plain, queueRoom, eventInRange, pushed}
 use Rattle.state_queue.specs.Fits.{fits-push}
 use Rattle.sim_outputs.specs.declared.Sum.{Sum}
 use Rattle.sim_outputs.specs.declared.Sender.{Sender}
-use Rattle.sim_outputs.specs.Outputs.{sends, IsSender, outputCode, Sums}
+use Rattle.sim_outputs.specs.Outputs.{sends, IsSender, asksCode, Sums}
 use Rattle.sim_outputs.specs.Timers.{generationIn, generationsPut, generationPut, withGeneration, generationAt, generationSet, CancelPlanned, timerEvent, timerSet}
-use Rattle.sim_outputs.specs.Laws.{ready-is, slot-is, slot-below, code-fits, judged-output, output-done}
+use Rattle.sim_outputs.specs.Laws.{ready-is, slot-is, slot-below, third-yes, judged-output, output-done}
 
 -- ---- the timer of a number
 
@@ -157,7 +157,7 @@ timer-set s k t after = ap (pushed (timerEvent k t (generationOf (serverAt s k) 
 -- ---- cancelling
 
 module _ (b : List ℕ) (F : Capacity) (timer : ℕ) (d : Sender) (t : Timer) (n : ℕ) (a : Sum) (c : ℕ) (pd : IsSender b F d) (et : t ≡ timerOf timer) (pn : Reads b F n (generationAt (d .slot) t)) (pa : Sums n 1 a)
-    (ec : c ≡ outputCode (d .ready) (leb timer 1) (a .fits)) where
+    (ec : c ≡ asksCode 9 10 (d .ready) (leb timer 1) (a .fits)) where
   module _ (s : State) (h : Area b s) (e : F ≡ capacityOf s) where
     abbrev k : ℕ
     k = phaseSlot (s .phase)
@@ -166,10 +166,10 @@ module _ (b : List ℕ) (F : Capacity) (timer : ℕ) (d : Sender) (t : Timer) (n
     unfolding generationAt
     next-is = ap (λ (x : ℕ). x + 1) (pn .to s h e ∙ ap₂ (λ (j : ℕ) (u : Timer). generationOf (serverAt s j) u) (slot-is pd h e) et)
 
-    code-is : c ≡ outputCode (sends (s .phase)) (isFlag timer) (stateFits (cancelTimer s k (timerOf timer)))
+    code-is : c ≡ asksCode 9 10 (sends (s .phase)) (isFlag timer) (stateFits (cancelTimer s k (timerOf timer)))
     code-is =
-        ec ∙ ap₂ (λ (x y : Bool). outputCode x (isFlag timer) y) (ready-is pd h e) (pa .fits ∙ ap (λ (m : ℕ). ltb m (2 ^ 64)) next-is)
-        ∙ ap (outputCode (sends (s .phase)) (isFlag timer))
+        ec ∙ ap₂ (λ (x y : Bool). asksCode 9 10 x (isFlag timer) y) (ready-is pd h e) (pa .fits ∙ ap (λ (m : ℕ). ltb m (2 ^ 64)) next-is)
+        ∙ ap (asksCode 9 10 (sends (s .phase)) (isFlag timer))
         (sym (fits-generation h k (slot-below pd h e) (timerOf timer) (generationOf (serverAt s k) (timerOf timer) + 1)) ∙ ap stateFits (sym (cancelled s k (timerOf timer))))
 
     told : c ≡ judged (outputCancelTimer timer s)
@@ -181,7 +181,7 @@ module _ (b : List ℕ) (F : Capacity) (timer : ℕ) (d : Sender) (t : Timer) (n
     made z =
         output-done tt (s .phase) (isFlag timer) (λ j. cancelTimer s j (timerOf timer)) _ (sym code-is ∙ z)
         ∙ ap (λ (x : State). done tt x) (cancelled s k (timerOf timer)
-        ∙ ap₂ (λ (j m : ℕ). generationSet j (timerOf timer) m s) (sym (slot-is pd h e)) (sym (pa .value (code-fits _ _ _ (sym ec ∙ z)) ∙ next-is)))
+        ∙ ap₂ (λ (j m : ℕ). generationSet j (timerOf timer) m s) (sym (slot-is pd h e)) (sym (pa .value (third-yes 9 10 _ _ _ (sym ec ∙ z) (omega arith) (omega arith)) ∙ next-is)))
 
   pub cancel-planned : CancelPlanned b F timer (record { code = c; slot = d .slot; generation = a .value; time = 0 })
   cancel-planned = record { plan = record { code = told; gives = made }; below = pd .below }

@@ -18,7 +18,7 @@ use Rattle.state.specs.declared.ServerState.{ServerState}
 use Rattle.state.specs.Changes.{Planned}
 use Rattle.state_queue.specs.Events.{plain, pushed}
 use Rattle.sim_outputs.specs.declared.TimerPlan.{TimerPlan}
-use Rattle.sim_outputs.specs.Outputs.{outputCode}
+use Rattle.sim_outputs.specs.Outputs.{asksCode}
 
 -- ---- a generation
 
@@ -75,7 +75,7 @@ timerSet k t n at s = pushed (timerEvent k t n at) (generationSet k t n s)
 
 -- The plan of setting a timer, by whether outputs belong, whether the queue has room, the place k, the generation n so far, and the time.
 pub record TimerAnswered (ready room : Bool) (k n now timer after : ℕ) (p : TimerPlan) : Type 0 where
-  pub code : p .code ≡ outputCode ready (isFlag timer and leb after (2 ^ 40)) (room and ltb (n + 1) (2 ^ 64) and ltb (now + after) (2 ^ 64))
+  pub code : p .code ≡ asksCode 9 10 ready (isFlag timer and leb after (2 ^ 40)) (room and ltb (n + 1) (2 ^ 64) and ltb (now + after) (2 ^ 64))
   pub slot : p .slot ≡ k
   pub generation : p .code ≡ 0 → p .generation ≡ n + 1
   pub time : p .code ≡ 0 → p .time ≡ now + after

@@ -6,7 +6,7 @@ ghost use Rattle.state.specs.Call.{call};
 ghost use Rattle.answers.specs.Answers.{doneNo, doneYes};
 ghost use Rattle.sim_outputs.specs.Outputs.{Passed};
 ghost use Rattle.sim_outputs.specs.Confirmations.{confirmCode};
-use crate::output_code;
+use crate::asks_code;
 use crate::sender_of;
 use answers::DoneAnswer;
 use clients::confirmations::Confirmation;
@@ -24,7 +24,7 @@ fn confirm_code(area: &[u8], f: Capacity) -> u64
     let limits = f.limits;
     let sender = sender_of(area, f);
     let count = state_records::confirmation_count(area, f);
-    output_code(sender.ready, true, count < limits.history)
+    asks_code(9, 10, sender.ready, true, count < limits.history)
 }
 
 // Leadership confirmed, with the read index (Output::LeadershipConfirmed).

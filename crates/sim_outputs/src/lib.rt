@@ -1,6 +1,6 @@
 // The output calls that set timers and answer leadership checks (carry_out of simulation.rs), behind the gate, and what all output calls share.
 ghost use mathlib.Core.Path.{_≡_};
-ghost use Rattle.sim_outputs.specs.Outputs.{Passed, IsSender, outputCode, Sums};
+ghost use Rattle.sim_outputs.specs.Outputs.{Passed, IsSender, asksCode, Sums};
 use state::Capacity;
 
 pub mod timers; // a timer set or cancelled
@@ -56,18 +56,18 @@ pub fn sender_of(area: &[u8], f: Capacity) -> Sender
     }
 }
 
-// An output's refusal: 6, 9, 10, or 0.
-pub fn output_code(ready: bool, args: bool, fits: bool) -> u64
-    ensures { λ r. ⌜ r ≡ outputCode ready args fits ⌝ }
+// The first of question 6 and two more, by their numbers, that is answered no, or 0.
+pub fn asks_code(second: u64, third: u64, ready: bool, a: bool, b: bool) -> u64
+    ensures { λ r. ⌜ r ≡ asksCode second third ready a b ⌝ }
 {
     if !ready {
         return 6;
     }
-    if !args {
-        return 9;
+    if !a {
+        return second;
     }
-    if !fits {
-        return 10;
+    if !b {
+        return third;
     }
     0
 }

@@ -18,7 +18,7 @@ ghost use Rattle.sim_outputs.specs.Timers.{
   TimerPlanned,
 };
 use crate::TimerPlan;
-use crate::output_code;
+use crate::asks_code;
 use crate::sender_of;
 use crate::sum64;
 use answers::DoneAnswer;
@@ -112,7 +112,7 @@ fn cancel_plan(area: &[u8], f: Capacity, timer: u64) -> TimerPlan
     let kind = timer_given(timer);
     let generation = generation_of(area, f, sender.slot as usize, kind);
     let next = sum64(generation, 1);
-    let code = output_code(sender.ready, timer <= 1, next.fits);
+    let code = asks_code(9, 10, sender.ready, timer <= 1, next.fits);
     TimerPlan {
         code,
         slot: sender.slot,
@@ -167,7 +167,7 @@ fn timer_answer(
     let next = sum64(generation, 1);
     let time = sum64(now, after);
     let args = (timer <= 1) & (after <= 1099511627776);
-    let code = output_code(ready, args, room & next.fits & time.fits);
+    let code = asks_code(9, 10, ready, args, room & next.fits & time.fits);
     TimerPlan {
         code,
         slot,

@@ -30,15 +30,16 @@ use Rattle.state.specs.FitsBy.{server-count}
 use Rattle.state.specs.Changes.{Inside, AreaOf, Changes, Reads}
 use Rattle.state.specs.Exits.{inside-after}
 use Rattle.state_header.specs.Header.{phaseSet, SetsPhase}
-use Rattle.state_server.specs.Servers.{serverStateAt, statusAt, serverStateSet}
+use Rattle.state_server.specs.Servers.{serverStateAt, statusAt, serverStateSet, statusRuns}
 use Rattle.state_server.specs.ServerLaws.{server-state-set}
+use Rattle.state_server.specs.Laws.{status-runs}
 use Rattle.state_queue.specs.Events.{queueRoom, firstSent}
 use Rattle.answers.specs.declared.InputNumbers.{InputNumbers}
 use Rattle.answers.specs.Answers.{inputOf, noInputNumbers}
 use Rattle.sim_owed.specs.declared.Owed.{Owed as OwedKind}
 use Rattle.sim_owed.specs.declared.Owed.the-variants.{Nothing, Construction, Healing}
 use Rattle.sim_owed.specs.Servers.{owedOf, Opens, startAt, restartTest, restartAt}
-use Rattle.sim_owed.specs.Closes.{idleAt, constructAt, constructTest, statusRuns, runsAt, runsAs, flagsOf, firstStopped, stoppedFrom, Seeking, stoppedTest, healTest, healAt, uncrashedState, uncrashedAt, HealsOne, HealedTo, closeAt, closeTest}
+use Rattle.sim_owed.specs.Closes.{idleAt, constructAt, constructTest, runsAt, runsAs, flagsOf, firstStopped, stoppedFrom, Seeking, stoppedTest, healTest, healAt, uncrashedState, uncrashedAt, HealsOne, HealedTo, closeAt, closeTest}
 use Rattle.sim_owed.specs.Fits.{running-is, uncrashedServer, fits-idle, fits-uncrashed, settled-fits, heal-runs, heal-stopped, construct-last, construct-next}
 use Rattle.sim_owed.specs.ServerLaws.{opens-after, opens-is}
 
@@ -111,19 +112,6 @@ construct-ends b b₁ b₂ F place r i q p = record {
     idle-fits {s} h = fits-idle s (settled-fits s (area-fits h)) ∙ area-fits h
 
 -- ---- which server is stopped
-
-pub runs-none : (x : StatusOption) → x ≡ status.None → false ≡ statusRuns x
-unfolding statusRuns
-runs-none x e = sym (ap statusRuns e)
-
-pub runs-some : (x : StatusOption) (y : Status) → x ≡ status.Some y → true ≡ statusRuns x
-unfolding statusRuns
-runs-some x y e = sym (ap statusRuns e)
-
-status-runs : (o : Option Status) → statusRuns (optionStatus o) ≡ isSome o
-unfolding statusRuns
-status-runs none = refl
-status-runs (some x) = refl
 
 pub runs-told : (b : List ℕ) (F : Capacity) (place slot : ℕ) (running : Bool) → place ≡ slot → Reads b F running (runsAs place slot running)
 unfolding runsAs

@@ -42,11 +42,6 @@ constructTest place more s = pick (ltb place (s .config .servers)) true (queueRo
 
 -- ---- a HealAll
 
--- Whether a server has a status.
-unfoldable pub statusRuns : StatusOption → Bool
-statusRuns status.None = false
-statusRuns (status.Some x) = true
-
 -- Whether the server at a place runs.
 unfoldable pub runsAt : ℕ → State → Bool
 runsAt place s = running s place

@@ -5,7 +5,7 @@ ghost use Rattle.model.specs.State.{closed};
 ghost use Rattle.state.specs.Changes.{Inside, Reads, Changes};
 ghost use Rattle.state_header.specs.Header.{phaseSet};
 ghost use Rattle.sim_owed.specs.Servers.{owedOf, Opens};
-ghost use Rattle.sim_owed.specs.Closes.{statusRuns, uncrashedState, HealsOne, runsAs, stoppedFrom, healTest, healAt, constructTest, constructAt, closeTest, idleAt, closeAt};
+ghost use Rattle.sim_owed.specs.Closes.{uncrashedState, HealsOne, runsAs, stoppedFrom, healTest, healAt, constructTest, constructAt, closeTest, idleAt, closeAt};
 use crate::Owed;
 use crate::servers;
 use answers::InputNumbers;
@@ -66,16 +66,6 @@ pub fn construct_from(area: &mut [u8], f: Capacity, place: u64) -> InputNumbers
 
 // ---- a HealAll
 
-// Whether a server has a status.
-fn runs(status: StatusOption) -> bool
-    ensures { λ r. ⌜ r ≡ statusRuns status ⌝ }
-{
-    match status {
-        StatusOption::None => false,
-        StatusOption::Some(_) => true,
-    }
-}
-
 // Whether the server at a place runs, if the one at `slot` does as told.
 fn runs_as(area: &[u8], f: Capacity, place: u64, slot: u64, running: bool) -> bool
     requires { ⌜ Inside (now area) f ⌝ }
@@ -86,7 +76,7 @@ fn runs_as(area: &[u8], f: Capacity, place: u64, slot: u64, running: bool) -> bo
         return running;
     }
     let status = state_server::status_of(area, f, place as usize);
-    runs(status)
+    state_server::runs(status)
 }
 
 // The first place from one on where a server is stopped, if the one at `slot` runs as told; else the place behind the last server.
@@ -144,7 +134,7 @@ fn heal_one(area: &mut [u8], f: Capacity, place: u64) -> bool
     let status = x.status;
     let next = uncrashed(x);
     state_server::set_server(area, f, place as usize, next);
-    runs(status)
+    state_server::runs(status)
 }
 
 // A HealAll from a place on: crash flags are cleared up to the first server that is stopped, which restarts.

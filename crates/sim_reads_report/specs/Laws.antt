@@ -8,7 +8,7 @@ use native.Mathlib.Omega.{arith}
 use lib.Dec.{ltb}
 use lib.ListN.{length}
 use lib.Seq.{sets}
-use borrow.Author.Tests.{le-leb, lt-leb}
+use borrow.Author.Tests.{le-leb, lt-leb, not-true, not-false}
 use Rattle.laws.specs.Bools.{pick}
 use Rattle.laws.specs.Decides.{false-true}
 use Rattle.laws.specs.Lists.{at}
@@ -110,14 +110,6 @@ bytes-same (some noop) = refl
 bytes-same (some (command bs)) = refl
 
 -- ---- violations and metrics
-
-not-true : (t : Bool) → not t ≡ true → t ≡ false
-not-true true e = absurd (false-true e)
-not-true false e = refl
-
-not-false : (t : Bool) → not t ≡ false → t ≡ true
-not-false true e = refl
-not-false false e = absurd (false-true (sym e))
 
 module _ (b : List ℕ) (g : Gate) (q : Gated b g) (y : g .refusal ≤ 0) where
   z : g .refusal ≡ 0

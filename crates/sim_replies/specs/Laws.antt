@@ -24,6 +24,7 @@ use Rattle.state.specs.Fitting.{area-fits}
 use Rattle.state.specs.FitsBy.{fits-test}
 use Rattle.state.specs.Changes.{AreaOf, Changes, Reads}
 use Rattle.state_header.specs.Header.{networkOf, networkSet}
+use Rattle.state_header.specs.Laws.{under-word}
 use Rattle.sim_outputs.specs.declared.Sum.{Sum}
 use Rattle.sim_outputs.specs.Outputs.{Sums}
 use Rattle.sim_replies.specs.Replies.{DrawsDelay, delayDrawn, arrivalTime, arrivalFits, Arrives, delayTaken, networkFits}
@@ -70,10 +71,6 @@ delay-taken b b′ F d q k = record {
 }
 
 -- ---- question 10
-
-under-word : (g : Rng) (bound : ℕ) → word (under g bound .next .state) ≡ true
-unfolding under nextU64
-under-word g bound = lt-ltb (moved g .state) (2 ^ 64) (omega arith)
 
 -- the network of a state that fits is in range
 pub network-fits : (s : State) → stateFits s ≡ true → networkFits s ≡ true

@@ -35,6 +35,7 @@ use Rattle.state.specs.Exits.{call-refused, call-done}
 use Rattle.answers.specs.declared.DoneAnswer.{DoneAnswer}
 use Rattle.answers.specs.Answers.{doneNo, doneYes}
 use Rattle.state_header.specs.Header.{phaseOf}
+use Rattle.state_header.specs.Laws.{closed-is}
 use Rattle.state_queue.specs.Events.{queueRoom, eventInRange, pushed, plain}
 use Rattle.state_queue.specs.Fits.{fits-push, plain-range}
 use Rattle.sim_schedule.specs.declared.given.FaultAsked.{FaultAsked}
@@ -131,11 +132,6 @@ unfolding targetsOf
 targets-same s None = refl
 targets-same s (Some f) = refl
 
-kind-closed : (p : Phase) → eqb (phaseKind p) 0 ≡ isClosed p
-kind-closed closed = refl
-kind-closed (writing slot input owed) = refl
-kind-closed (sending slot input verdict owed) = refl
-
 -- ---- question 10: room for the event
 
 -- a partition whose groups are known
@@ -228,7 +224,7 @@ module _ (b : List ℕ) (F : Capacity) (time kind first second : ℕ) (groups : 
         ≡ scheduleCode (isClosed (s .phase)) (targetsIn (length (s .servers)) kind fault groups) (early and withinOf fault) room
     code-is =
         ap₂ (λ (c k : Bool). scheduleCode c k (leb time (2 ^ 62) && q .fits) room)
-        (ap (λ (x : OpenInput). eqb (x .phase) 0) (po .to s h ef) ∙ kind-closed (s .phase)) known-is
+        (ap (λ (x : OpenInput). eqb (x .phase) 0) (po .to s h ef) ∙ closed-is (s .phase)) known-is
         ∙ ap (λ (a : Bool). scheduleCode (isClosed (s .phase)) (targetsIn (length (s .servers)) kind fault groups) a room) args-is
 
   pub schedule-planned : (code t : ℕ) → code ≡ scheduleCode (eqb (o .phase) 0) (q .known) (leb time (2 ^ 62) && q .fits) room → t

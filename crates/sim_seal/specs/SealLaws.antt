@@ -35,7 +35,7 @@ use Rattle.state_disk.specs.Disks.{unsyncedAt}
 use Rattle.answers.specs.declared.InputNumbers.{InputNumbers}
 use Rattle.answers.specs.declared.SealedAnswer.{SealedAnswer}
 use Rattle.answers.specs.Answers.{noInputNumbers, sealedNo, sealedOf, sealedYes}
-use Rattle.sim_outputs.specs.Outputs.{Passed, outputCode}
+use Rattle.sim_outputs.specs.Outputs.{Passed, asksCode}
 use Rattle.sim_outputs.specs.Laws.{sender-read}
 use Rattle.sim_owed.specs.Servers.{Opens}
 use Rattle.sim_seal_sync.specs.Syncs.{syncAt, syncTest, SyncsInput}
@@ -178,8 +178,8 @@ verdict-fits s input refusal present leader w a =
     by confirmInput m hint h = h
 
 -- where no input is open, or it is sealed already
-code-six : (n : ℕ) (t u : Bool) → (n ≡ 1 → ⊥) → outputCode (eqb n 1) t u ≡ 6
-unfolding outputCode
+code-six : (n : ℕ) (t u : Bool) → (n ≡ 1 → ⊥) → asksCode 9 10 (eqb n 1) t u ≡ 6
+unfolding asksCode
 code-six n t u z = ap (λ (x : Bool). pick x (pick t (pick u 0 10) 9) 6) (ne-eqb n 1 z)
 
 module _ (s : State) (f : stateFits s ≡ true) (few : s .config .clients ≤ 64) (refusal present leader : ℕ) (w : word leader ≡ true) where
@@ -214,8 +214,8 @@ module _ (s : State) (f : stateFits s ≡ true) (few : s .config .clients ≤ 64
         ∙ rw (sym (refused-from input), sym (cut-is s slot input v owed), sym (sync-is s slot input v owed)) refl
 
     -- its number
-    number : judged (seal refusal present leader s) ≡ outputCode true (argsGiven (inputKind input) refusal present) (sealTest o (crashesAt slot s) s)
-    unfolding judged outputCode sealTest
+    number : judged (seal refusal present leader s) ≡ asksCode 9 10 true (argsGiven (inputKind input) refusal present) (sealTest o (crashesAt slot s) s)
+    unfolding judged asksCode sealTest
     number =
         ap judged gives
         ∙ cases (argsGiven (inputKind input) refusal present)
@@ -227,15 +227,15 @@ module _ (s : State) (f : stateFits s ≡ true) (few : s .config .clients ≤ 64
 
 -- ---- the plan as it is made
 
-code-two : (t u : Bool) → outputCode true t u ≡ 0 → t ≡ true
-unfolding outputCode
+code-two : (t u : Bool) → asksCode 9 10 true t u ≡ 0 → t ≡ true
+unfolding asksCode
 code-two true u e = refl
 code-two false u e = absurd (let z : _≡_ {A = ℕ} 9 0 = e in omega arith)
 
 -- the place, the kind and the numbers of an open input
 module _ (b : List ℕ) (F : Capacity) (refusal present leader : ℕ) (n o : OpenInput) (cuts fits args : Bool) (outcome code : ℕ) (q : Passed b F) (w : Fits w64 leader) (rn : Reads b F n (λ s. openOf (phaseOf s)))
     (eo : o ≡ sealedNumbers n refusal present leader) (rc : Reads b F cuts (crashesAt (o .slot))) (rf : Reads b F fits (sealTest o cuts)) (ro : Reads b F outcome (outcomeAt (o .slot)))
-    (ea : args ≡ argsGiven (n .input) refusal present) (ec : code ≡ outputCode (eqb (n .phase) 1) args fits) where
+    (ea : args ≡ argsGiven (n .input) refusal present) (ec : code ≡ asksCode 9 10 (eqb (n .phase) 1) args fits) where
   abbrev s : State
   s = decode b
 
@@ -286,10 +286,10 @@ module _ (b : List ℕ) (F : Capacity) (refusal present leader : ℕ) (n o : Ope
     args-is : args ≡ argsGiven (inputKind input) refusal present
     args-is = ea ∙ ap (λ (x : OpenInput). argsGiven (x .input) refusal present) is-open
 
-    code-is : code ≡ outputCode true (argsGiven (inputKind input) refusal present) (sealTest (openOf (sending slot input (verdictOf refusal present leader) owed)) (crashesAt slot s) s)
+    code-is : code ≡ asksCode 9 10 true (argsGiven (inputKind input) refusal present) (sealTest (openOf (sending slot input (verdictOf refusal present leader) owed)) (crashesAt slot s) s)
     code-is =
-        ec ∙ ap₂ (λ (t u : Bool). outputCode t u fits) (ap (λ (x : OpenInput). eqb (x .phase) 1) is-open) args-is
-        ∙ ap (λ (t : Bool). outputCode true (argsGiven (inputKind input) refusal present) t)
+        ec ∙ ap₂ (λ (t u : Bool). asksCode 9 10 t u fits) (ap (λ (x : OpenInput). eqb (x .phase) 1) is-open) args-is
+        ∙ ap (λ (t : Bool). asksCode 9 10 true (argsGiven (inputKind input) refusal present) t)
         (rf .to s (q .area) (q .capacity) ∙ ap₂ (λ (x : OpenInput) (c : Bool). sealTest x c s) is-sealed cuts-is)
 
     args-yes : code ≡ 0 → argsGiven (inputKind input) refusal present ≡ true

@@ -10,7 +10,7 @@ ghost use Rattle.sim_outputs.specs.Outputs.{Passed};
 ghost use Rattle.sim_seal.specs.Seals.{givenKind, givenLeader, sealedNumbers, argsGiven, crashesAt, outcomeAt, sealTest, SealPlanned};
 use answers::SealedAnswer;
 use answers::opened;
-use sim_outputs::output_code;
+use sim_outputs::asks_code;
 use state::Capacity;
 use state::Gate;
 use state::OpenInput;
@@ -126,7 +126,7 @@ fn seal_plan(area: &[u8], f: Capacity, refusal: u64, present: u64, leader: u64) 
     let fits = seal_fits(area, f, input, cuts);
     let outcome = outcome_of(area, f, input.slot);
     let args = seal_args(open.input, refusal, present);
-    let code = output_code(open.phase == 1, args, fits);
+    let code = asks_code(9, 10, open.phase == 1, args, fits);
     SealPlan {
         code,
         cuts,

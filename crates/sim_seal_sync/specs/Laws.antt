@@ -15,6 +15,7 @@ use Rattle.units.specs.declared.SimTime.{SimTime}
 use Rattle.metrics.specs.Metrics.{recordSync, noneCounted, countersFit, metricsFit, counted}
 use Rattle.metrics.specs.declared.Metrics.{Metrics}
 use Rattle.metrics.specs.declared.Counted.{Counted}
+use Rattle.metrics.specs.Laws.{counted-fits}
 use Rattle.log.specs.Log.{entryAt}
 use Rattle.storage.specs.Storage.{Write, writeHardState, writePut, writeTruncate, putIndex, written, unsynced, unsyncedBytes}
 use Rattle.storage.specs.Waiting.{nothing}
@@ -144,10 +145,6 @@ not-wrote false e = refl
 wrote : (t : Bool) → not t ≡ false → t ≡ true
 wrote true e = refl
 wrote false e = absurd (false-true (sym e))
-
-counted-fits : (m next : Metrics) → counted m next .fits ≡ countersFit next
-unfolding counted
-counted-fits m next = cases (countersFit next) (λ t. rw t) (λ t. rw t)
 
 counted-next : (m next : Metrics) → counted m next .fits ≡ true → counted m next .metrics ≡ next
 unfolding counted

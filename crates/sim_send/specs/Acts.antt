@@ -19,13 +19,12 @@ use Rattle.state.specs.Fitting.{area-fits}
 use Rattle.state.specs.FitsBy.{fits-test}
 use Rattle.state.specs.Changes.{AreaOf, Changes, Reads}
 use Rattle.state_header.specs.Header.{networkOf, metricsOf, networkSet, metricsSet}
-use Rattle.state_header.specs.Laws.{fits-metrics}
+use Rattle.state_header.specs.Laws.{fits-metrics, counted-is}
 use Rattle.state_queue.specs.Events.{pushed, pushedAll}
 use Rattle.state_queue.specs.Fits.{fits-push, fits-push-all}
 use Rattle.sim_send.specs.declared.Mail.{Mail}
 use Rattle.sim_send.specs.declared.Mail.the-variants as mail
 use Rattle.sim_send.specs.Sends.{sendRouted, sendCounted, letter, letters, mailed, sent}
-use Rattle.sim_send.specs.Draws.{counted-is}
 
 pub route-sent : (b b′ : List ℕ) (F : Capacity) (from to : ℕ) (n : Network) (r : Routed) → Reads b F n networkOf → r ≡ route n (record { 0 = from }) (record { 0 = to })
     → Changes b b′ F (networkSet (r .network)) → Changes b b′ F (sendRouted from to)

@@ -14,6 +14,7 @@ use Rattle.network.specs.Ranges.{in-range, delays-fit}
 use Rattle.metrics.specs.declared.Metrics.{Metrics}
 use Rattle.metrics.specs.declared.Counted.{Counted}
 use Rattle.metrics.specs.Metrics.{countersFit, recordSend, counted}
+use Rattle.metrics.specs.Laws.{counted-fits}
 use Rattle.model.specs.State.{State}
 use Rattle.state.specs.declared.Capacity.{Capacity}
 use Rattle.state.specs.declared.Run.{Run}
@@ -23,6 +24,7 @@ use Rattle.state.specs.Fitting.{area-fits}
 use Rattle.state.specs.FitsBy.{fits-test}
 use Rattle.state.specs.Changes.{Reads}
 use Rattle.state_header.specs.Header.{settingsOf, networkOf, metricsOf}
+use Rattle.state_header.specs.Laws.{counted-is}
 use Rattle.state_queue.specs.Events.{queueRoom}
 use Rattle.sim_outputs.specs.Outputs.{Passed}
 use Rattle.sim_send.specs.declared.MailPlan.{MailPlan}
@@ -65,14 +67,6 @@ bytes-no b F size c r n = record {
 chosen : (t : Bool) (a b : Counted) → a .fits ≡ true → b .fits ≡ false → pick t a b .fits ≡ t
 chosen true a b e f = e
 chosen false a b e f = f
-
-counted-fits : (m m′ : Metrics) → counted m m′ .fits ≡ countersFit m′
-unfolding counted
-counted-fits m m′ = chosen (countersFit m′) (record { fits = true; metrics = m′ }) (record { fits = false; metrics = m }) refl refl
-
-pub counted-is : (m m′ : Metrics) → countersFit m′ ≡ true → counted m m′ .metrics ≡ m′
-unfolding counted
-counted-is m m′ t = ap (λ (u : Bool). let x : Counted = pick u (record { fits = true; metrics = m′ }) (record { fits = false; metrics = m }) in x .metrics) t
 
 pub counters-read : (b : List ℕ) (F : Capacity) (from bytes entries : ℕ) (m : Metrics) (c : Counted) → Reads b F m metricsOf → c ≡ counted m (recordSend m (record { 0 = from }) bytes entries)
     → Reads b F (c .fits) (countersRoom from bytes entries)

@@ -26,73 +26,34 @@ use Rattle.state.specs.FitsBy.{server-count}
 use Rattle.state.specs.Changes.{Reads}
 use Rattle.sim_outputs.specs.declared.Sum.{Sum}
 use Rattle.sim_outputs.specs.declared.Sender.{Sender}
-use Rattle.sim_outputs.specs.Outputs.{Passed, sends, IsSender, Sums}
-use Rattle.sim_outputs.specs.Laws.{ready-is, slot-is}
+use Rattle.sim_outputs.specs.Outputs.{Passed, sends, IsSender, asksCode, Sums}
+use Rattle.sim_outputs.specs.Laws.{ready-is, slot-is, second-yes, third-yes}
 use Rattle.sim_send.specs.declared.SendAsked.{SendAsked}
 use Rattle.sim_send.specs.declared.Mail.{Mail}
 use Rattle.sim_send.specs.declared.Mail.the-variants as mail
 use Rattle.sim_send.specs.declared.MailPlan.{MailPlan}
-use Rattle.sim_send.specs.Sends.{asksCode, sendCode, fromOf, AsksSend, Between, mailOf, mailFits, mailCount, MailPlanned, tenIf}
+use Rattle.sim_send.specs.Sends.{sendCode, fromOf, AsksSend, Between, mailOf, mailFits, mailCount, MailPlanned, tenIf}
 
 -- ---- the questions
-
-pub asks-six : (a b c : Bool) → not a ≡ true → _≡_ {A = ℕ} 6 (asksCode a b c)
-unfolding asksCode
-asks-six true b c h = absurd (false-true h)
-asks-six false b c h = refl
-
-pub asks-seven : (a b c : Bool) → not a ≡ false → not b ≡ true → _≡_ {A = ℕ} 7 (asksCode a b c)
-unfolding asksCode
-asks-seven true true c h k = absurd (false-true k)
-asks-seven true false c h k = refl
-asks-seven false b c h k = absurd (false-true (sym h))
-
-pub asks-nine : (a b c : Bool) → not a ≡ false → not b ≡ false → not c ≡ true → _≡_ {A = ℕ} 9 (asksCode a b c)
-unfolding asksCode
-asks-nine true true true h k l = absurd (false-true l)
-asks-nine true true false h k l = refl
-asks-nine true false c h k l = absurd (false-true (sym k))
-asks-nine false b c h k l = absurd (false-true (sym h))
-
-pub asks-none : (a b c : Bool) → not a ≡ false → not b ≡ false → not c ≡ false → _≡_ {A = ℕ} 0 (asksCode a b c)
-unfolding asksCode
-asks-none true true true h k l = refl
-asks-none true true false h k l = absurd (false-true (sym l))
-asks-none true false c h k l = absurd (false-true (sym k))
-asks-none false b c h k l = absurd (false-true (sym h))
-
--- where all are answered yes
-pub here-yes : (a b c : Bool) → asksCode a b c ≡ 0 → b ≡ true
-unfolding asksCode
-here-yes true true c e = refl
-here-yes true false c e = absurd (omega arith)
-here-yes false b c e = absurd (omega arith)
-
-pub args-yes : (a b c : Bool) → asksCode a b c ≡ 0 → c ≡ true
-unfolding asksCode
-args-yes true true true e = refl
-args-yes true true false e = absurd (omega arith)
-args-yes true false c e = absurd (omega arith)
-args-yes false b c e = absurd (omega arith)
 
 pub from-fits : (b : List ℕ) (F : Capacity) (d : Sender) → Passed b F → IsSender b F d → Fits w64 (d .slot + 1)
 from-fits b F d o p = record { fits = omega (arith, p .below, o .inside .within .limits .servers) }
 
 pub send-asked : (b : List ℕ) (F : Capacity) (to size entries : ℕ) (d : Sender) (c : ℕ) → Passed b F → IsSender b F d
-    → c ≡ asksCode (d .ready) (leb 1 to && leb to (F .servers)) (leb size (F .limits .message) && ltb entries 4294967296)
+    → c ≡ asksCode 7 9 (d .ready) (leb 1 to && leb to (F .servers)) (leb size (F .limits .message) && ltb entries 4294967296)
     → AsksSend b F to size entries (record { code = c; from = d .slot + 1 })
 unfolding sendCode fromOf faults.inCluster
 send-asked b F to size entries d c o pd ec =
-    let here : c ≡ 0 → (leb 1 to && leb to (F .servers)) ≡ true = λ z. here-yes _ _ _ (sym ec ∙ z) in
-    let args : c ≡ 0 → (leb size (F .limits .message) && ltb entries 4294967296) ≡ true = λ z. args-yes _ _ _ (sym ec ∙ z) in
+    let here : c ≡ 0 → (leb 1 to && leb to (F .servers)) ≡ true = λ z. second-yes 7 9 _ _ _ (sym ec ∙ z) (omega arith) in
+    let args : c ≡ 0 → (leb size (F .limits .message) && ltb entries 4294967296) ≡ true = λ z. third-yes 7 9 _ _ _ (sym ec ∙ z) (omega arith) (omega arith) in
     record {
       code = record {
         to = λ s h ef.
             ec
-            ∙ ap₂ (λ (x y : Bool). asksCode (d .ready) x y) (code-and (leb 1 to) (leb to (F .servers))) (code-and (leb size (F .limits .message)) (ltb entries 4294967296))
-            ∙ ap₂ (λ (x : Bool) (n : ℕ). asksCode x (leb 1 to and leb to n) (leb size (F .limits .message) and ltb entries (2 ^ 32))) (ready-is pd h ef)
+            ∙ ap₂ (λ (x y : Bool). asksCode 7 9 (d .ready) x y) (code-and (leb 1 to) (leb to (F .servers))) (code-and (leb size (F .limits .message)) (ltb entries 4294967296))
+            ∙ ap₂ (λ (x : Bool) (n : ℕ). asksCode 7 9 x (leb 1 to and leb to n) (leb size (F .limits .message) and ltb entries (2 ^ 32))) (ready-is pd h ef)
             (ap (λ (G : Capacity). G .servers) ef ∙ sym (server-count s (area-fits h)))
-            ∙ ap (λ (G : Capacity). asksCode (sends (s .phase)) (leb 1 to and leb to (length (s .servers))) (leb size (G .limits .message) and ltb entries (2 ^ 32))) ef;
+            ∙ ap (λ (G : Capacity). asksCode 7 9 (sends (s .phase)) (leb 1 to and leb to (length (s .servers))) (leb size (G .limits .message) and ltb entries (2 ^ 32))) ef;
       };
       sender = record { to = λ s h ef. ap (λ (k : ℕ). k + 1) (slot-is pd h ef) };
       from-low = omega arith;

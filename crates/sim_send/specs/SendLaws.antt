@@ -45,12 +45,12 @@ use Rattle.state_header.specs.Header.{networkSet, metricsSet}
 use Rattle.state_header.specs.Laws.{fits-metrics}
 use Rattle.state_queue.specs.Events.{queueRoom, eventInRange, pushed, pushedAll}
 use Rattle.state_queue.specs.Fits.{fits-push-all}
-use Rattle.sim_outputs.specs.Outputs.{sends}
+use Rattle.sim_outputs.specs.Laws.{refused-two, done-two}
 use Rattle.sim_send.specs.declared.SendAsked.{SendAsked}
 use Rattle.sim_send.specs.declared.SendPlan.{SendPlan}
 use Rattle.sim_send.specs.declared.Mail.{Mail}
 use Rattle.sim_send.specs.declared.Mail.the-variants as mail
-use Rattle.sim_send.specs.Sends.{asksCode, sendCode, fromOf, AsksSend, mailOf, mailFits, mailCount, mailDue, mailOnTime, bytesCounted, countersRoom, tenIf, sendTen, SendDrawn, sendRouted, sendCounted, letter, letters, mailed, sent}
+use Rattle.sim_send.specs.Sends.{sendCode, fromOf, AsksSend, mailOf, mailFits, mailCount, mailDue, mailOnTime, bytesCounted, countersRoom, tenIf, sendTen, SendDrawn, sendRouted, sendCounted, letter, letters, mailed, sent}
 
 -- ---- the network's draws keep it in range
 
@@ -210,33 +210,13 @@ send-is : (s : State) (k to entries : ℕ) (message : List ℕ)
 unfolding send sent sendCounted sendRouted mailDue bytesCounted
 send-is s k to entries message = pushed-mail (sendCounted (k + 1) (bytesCounted (length message) s) entries (sendRouted (k + 1) to s)) (idOf k) (record { 0 = to }) entries message (route (s .network) (idOf k) (record { 0 = to }) .route)
 
-send-refused : {A : Type 0} (v : A) (p : Phase) (here args : Bool) (op : ℕ → State) (n : ℕ) → n ≡ asksCode (sends p) here args → 0 < n
-    → n ≡ judged (output p (λ slot. ask here 7 (ask args 9 (done v (op slot)))))
-unfolding judged asksCode
-send-refused v closed here args op n e l = e
-send-refused v (writing slot input owed) here args op n e l = e
-send-refused v (sending slot input accepted owed) true true op n e l = absurd (omega arith)
-send-refused v (sending slot input accepted owed) true false op n e l = e
-send-refused v (sending slot input accepted owed) false args op n e l = e
-send-refused v (sending slot input (notLeader hint) owed) here args op n e l = e
-
-send-done : {A : Type 0} (v : A) (p : Phase) (here args : Bool) (op : ℕ → State) → asksCode (sends p) here args ≡ 0
-    → output p (λ slot. ask here 7 (ask args 9 (done v (op slot)))) ≡ done v (op (phaseSlot p))
-unfolding asksCode
-send-done v closed here args op e = absurd (omega arith)
-send-done v (writing slot input owed) here args op e = absurd (omega arith)
-send-done v (sending slot input accepted owed) true true op e = refl
-send-done v (sending slot input accepted owed) true false op e = absurd (omega arith)
-send-done v (sending slot input accepted owed) false args op e = absurd (omega arith)
-send-done v (sending slot input (notLeader hint) owed) here args op e = absurd (omega arith)
-
 -- ---- the plans
 
 module _ (b : List ℕ) (F : Capacity) (to entries : ℕ) (message : List ℕ) (a : SendAsked) (q : AsksSend b F to (length message) entries a) where
   asked-planned : 0 < a .code → Planned b F (a .code) (outputSend to message entries) tt (λ s. s)
   unfolding outputSend sendCode
   asked-planned l = record {
-    code = λ s h ef. send-refused tt (s .phase) (inCluster s to) (leb (length message) (s .limits .message) and ltb entries (2 ^ 32)) (λ k. send s k (record { 0 = to }) message entries) (a .code) (q .code .to s h ef) l;
+    code = λ s h ef. refused-two tt (s .phase) 7 9 (inCluster s to) (leb (length message) (s .limits .message) and ltb entries (2 ^ 32)) (λ k. send s k (record { 0 = to }) message entries) (a .code) (q .code .to s h ef) l;
     gives = λ s h ef z. absurd (omega arith);
   }
 
@@ -248,7 +228,7 @@ module _ (b : List ℕ) (F : Capacity) (to entries : ℕ) (message : List ℕ) (
       gives-send : outputSend to message entries s ≡ done tt (sent (mailDue (a .from) to s) (a .from) to (bytesCounted (length message) s) entries message s)
       unfolding outputSend sendCode fromOf
       gives-send =
-          send-done tt (s .phase) (inCluster s to) (leb (length message) (s .limits .message) and ltb entries (2 ^ 32)) (λ k. send s k (record { 0 = to }) message entries) (sym (q .code .to s h ef) ∙ zero-is)
+          done-two tt (s .phase) 7 9 (inCluster s to) (leb (length message) (s .limits .message) and ltb entries (2 ^ 32)) (λ k. send s k (record { 0 = to }) message entries) (sym (q .code .to s h ef) ∙ zero-is) (omega arith) (omega arith)
           ∙ ap (λ (x : State). done tt x) (send-is s (phaseSlot (s .phase)) to entries message
           ∙ ap (λ (n : ℕ). sent (mailDue n to s) n to (bytesCounted (length message) s) entries message s) (sym (q .sender .to s h ef)))
 

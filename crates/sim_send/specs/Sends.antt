@@ -20,7 +20,7 @@ use Rattle.state.specs.declared.Capacity.{Capacity}
 use Rattle.state.specs.Parts.{phaseSlot}
 use Rattle.state.specs.Changes.{Reads}
 use Rattle.state_queue.specs.Events.{queueRoom, pushedAll}
-use Rattle.sim_outputs.specs.Outputs.{sends}
+use Rattle.sim_outputs.specs.Outputs.{sends, asksCode}
 use Rattle.sim_send.specs.declared.SendAsked.{SendAsked}
 use Rattle.sim_send.specs.declared.Mail.{Mail}
 use Rattle.sim_send.specs.declared.Mail.the-variants as mail
@@ -29,13 +29,10 @@ use Rattle.sim_send.specs.declared.SendPlan.{SendPlan}
 
 -- ---- what is asked
 
--- The number of the first question that is answered no, of 6 (outputs belong), 7 (the server is in the cluster) and 9 (arguments); else 0.
-unfoldable pub asksCode : Bool → Bool → Bool → ℕ
-asksCode ready here args = pick ready (pick here (pick args 0 9) 7) 6
-
--- That number for a message of so many bytes to a server, with so many entries.
+-- The first of the questions 6 (outputs belong), 7 (the server is in the cluster) and 9 (arguments) that is answered no of a message of so
+-- many bytes to a server, with so many entries; else 0.
 unfoldable pub sendCode : ℕ → ℕ → ℕ → State → ℕ
-sendCode to size entries s = asksCode (sends (s .phase)) (inCluster s to) (leb size (s .limits .message) and ltb entries (2 ^ 32))
+sendCode to size entries s = asksCode 7 9 (sends (s .phase)) (inCluster s to) (leb size (s .limits .message) and ltb entries (2 ^ 32))
 
 -- The id of the server whose input is open.
 unfoldable pub fromOf : State → ℕ

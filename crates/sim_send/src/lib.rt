@@ -11,7 +11,6 @@ ghost use Rattle.state.specs.Call.{call};
 ghost use Rattle.answers.specs.Answers.{doneNo, doneYes};
 ghost use Rattle.sim_outputs.specs.Outputs.{Passed};
 ghost use Rattle.sim_send.specs.Sends.{
-  asksCode,
   AsksSend,
   Between,
   tenIf,
@@ -64,22 +63,6 @@ pub struct SendPlan {
 
 // ---- what is asked
 
-// The first of the questions 6, 7 and 9 that is answered no, or 0.
-fn send_code(ready: bool, here: bool, args: bool) -> u64
-    ensures { λ r. ⌜ r ≡ asksCode ready here args ⌝ }
-{
-    if !ready {
-        return 6;
-    }
-    if !here {
-        return 7;
-    }
-    if !args {
-        return 9;
-    }
-    0
-}
-
 // The questions before the draws, and who sends.
 fn send_asked(area: &[u8], f: Capacity, to: u64, size: u64, entries: u64) -> SendAsked
     requires { ⌜ Passed (now area) f ⌝ }
@@ -89,7 +72,7 @@ fn send_asked(area: &[u8], f: Capacity, to: u64, size: u64, entries: u64) -> Sen
     let sender = sim_outputs::sender_of(area, f);
     let here = (1 <= to) & (to <= f.servers);
     let args = (size <= limits.message) & (entries < 4294967296);
-    let code = send_code(sender.ready, here, args);
+    let code = sim_outputs::asks_code(7, 9, sender.ready, here, args);
     SendAsked {
         code,
         from: sender.slot + 1,

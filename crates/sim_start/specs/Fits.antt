@@ -39,6 +39,7 @@ use Rattle.model.specs.Simulation.{drawTargets, newServers, unstarted}
 use Rattle.model.specs.Fits.{stateFits, tableFits, serverFits, clientStateFits}
 use Rattle.state.specs.Fitting.{accepted-is}
 use Rattle.sim_start.specs.Words.{length-new-servers, length-targets}
+use Rattle.state_header.specs.Laws.{under-word}
 
 -- ---- parts
 
@@ -77,10 +78,6 @@ empty-places-fit p (suc n) = empty-places-fit p n
 pub stream-word : (seed : ℕ) (s : Stream) → word (streamRng seed s .state) ≡ true
 unfolding streamRng
 stream-word seed s = lt-ltb (streamRng seed s .state) (2 ^ 64) (stream-seed-lt seed s)
-
-pub under-word : (g : Rng) (bound : ℕ) → word (under g bound .next .state) ≡ true
-unfolding under nextU64
-under-word g bound = lt-ltb (moved g .state) (2 ^ 64) (omega arith)
 
 targets-word : (S n : ℕ) (g : Rng) → word (g .state) ≡ true → word (drawTargets S n g .next .state) ≡ true
 unfolding drawTargets

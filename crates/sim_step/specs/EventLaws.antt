@@ -6,7 +6,7 @@ use Prim.Native.Nat.{ℕ, _+_, _-_, _≤_, _<_}
 use native.Mathlib.Omega.{arith}
 use lib.ListN.{length}
 use lib.Seq.{sets}
-use borrow.Author.Tests.{ltb-true, leb-true, eq-eqb, ne-eqb}
+use borrow.Author.Tests.{ltb-true, leb-true, eq-eqb, ne-eqb, not-true, not-false}
 use Rattle.laws.specs.Bools.{pick, _and_, and-left, and-right, code-and}
 use Rattle.units.specs.declared.LogIndex.{LogIndex}
 use Rattle.units.specs.declared.NodeId.{NodeId}
@@ -42,7 +42,6 @@ use Rattle.sim_outputs.specs.declared.Sum.{Sum}
 use Rattle.sim_outputs.specs.Outputs.{Sums, Passed}
 use Rattle.sim_attempt.specs.Attempts.{roomOf}
 use Rattle.sim_clients.specs.ClientEvents.{sendTest, againTest}
-use Rattle.sim_clients.specs.EventLaws.{not-true, not-false}
 use Rattle.sim_clients.specs.Redirects.{redirectTest}
 use Rattle.sim_clients.specs.Replies.{replyTest}
 use Rattle.sim_owed.specs.Servers.{Opens}

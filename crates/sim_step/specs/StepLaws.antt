@@ -7,7 +7,7 @@ use native.Mathlib.Omega.{arith}
 use lib.Dec.{eqb, leb}
 use lib.ListN.{length, drop}
 use lib.Seq.{sets}
-use borrow.Author.Tests.{lt-ltb, le-leb, lt-leb, leb-true, ltb-true, eq-eqb}
+use borrow.Author.Tests.{lt-ltb, le-leb, lt-leb, leb-true, ltb-true, eq-eqb, not-true, not-false}
 use Rattle.laws.specs.Bools.{pick, _and_, and-left, and-right, and-both, and-no, no-and}
 use Rattle.laws.specs.Decides.{false-true}
 use Rattle.queue.specs.Queue.{Scheduled, Queue, pop}
@@ -39,7 +39,7 @@ use Rattle.state.specs.Call.{finish, call}
 use Rattle.state.specs.Changes.{Inside, Gated, AreaOf, Changes, Reads}
 use Rattle.state.specs.Exits.{inside-after, call-shut}
 use Rattle.state_header.specs.Header.{phaseOf, nowSet, eventsSet}
-use Rattle.state_header.specs.Laws.{fits-now}
+use Rattle.state_header.specs.Laws.{fits-now, kind-closed, kind-open}
 use Rattle.state_queue.specs.Events.{firstOf, nextEvent, dequeued}
 use Rattle.state_queue.specs.Laws.{first-in-range}
 use Rattle.state_queue.specs.declared.NextEvent.{NextEvent}
@@ -49,7 +49,6 @@ use Rattle.answers.specs.declared.SteppedAnswer.{SteppedAnswer}
 use Rattle.answers.specs.Answers.{inputOf, noInputNumbers, steppedNo, steppedOf, steppedYes}
 use Rattle.answers.specs.Numbers.{inputBytes, bytesOf as answerBytes}
 use Rattle.sim_outputs.specs.Outputs.{Passed}
-use Rattle.sim_clients.specs.EventLaws.{not-true, not-false}
 use Rattle.sim_owed.specs.Servers.{Opens}
 use Rattle.sim_events.specs.Moves.{processed, Processes}
 use Rattle.sim_step.specs.Steps.{StepMade, StepDone, stepCode, roomAfter, processTest, eventTest, EventIn, Next, Asked, Fitting, nowRaised, popped, Copied, Taken}
@@ -58,16 +57,6 @@ use Rattle.sim_step.specs.EventLaws.{first-is}
 use Rattle.sim_step.specs.Openings.{bytes-opened, bytes-popped}
 
 -- ---- questions 6 and 9
-
-kind-closed : (p : Phase) → phaseKind p ≡ 0 → isClosed p ≡ true
-kind-closed closed e = refl
-kind-closed (writing slot input owed) e = absurd (omega (arith, e))
-kind-closed (sending slot input verdict owed) e = absurd (omega (arith, e))
-
-kind-open : (p : Phase) → (phaseKind p ≡ 0 → ⊥) → isClosed p ≡ false
-kind-open closed n = absurd (n refl)
-kind-open (writing slot input owed) n = refl
-kind-open (sending slot input verdict owed) n = refl
 
 module _ (b : List ℕ) (F : Capacity) (deadline size : ℕ) (o : OpenInput) (q : Reads b F o (λ s. openOf (phaseOf s))) where
   kind : (s : State) → Area b s → F ≡ capacityOf s → o .phase ≡ phaseKind (s .phase)

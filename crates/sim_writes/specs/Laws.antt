@@ -30,10 +30,10 @@ use Rattle.state.specs.Changes.{Gated, Reads, Changes, Planned, judged}
 use Rattle.state.specs.Exits.{call-refused, call-done}
 use Rattle.answers.specs.declared.DoneAnswer.{DoneAnswer}
 use Rattle.answers.specs.Answers.{doneNo, doneYes}
-use Rattle.state_header.specs.Header.{phaseOf}
+use Rattle.state_header.specs.Header.{phaseOf, openSlot}
 use Rattle.state_disk.specs.Disks.{WritesAt, written, writeAnswer}
 use Rattle.sim_writes.specs.declared.WritingAsked.{WritingAsked}
-use Rattle.sim_writes.specs.Writes.{writingCode, openSlot, AsksWriting, hardStateGiven, MostBytes, putOf, entryPut, PutsAt}
+use Rattle.sim_writes.specs.Writes.{writingCode, AsksWriting, hardStateGiven, MostBytes, putOf, entryPut, PutsAt}
 
 -- ---- what is asked
 

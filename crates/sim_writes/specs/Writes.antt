@@ -16,14 +16,11 @@ use Rattle.state.specs.Area.{Area, capacityOf}
 use Rattle.state.specs.Changes.{Changes, Planned, Reads}
 use Rattle.state_disk.specs.Disks.{written}
 use Rattle.sim_writes.specs.declared.WritingAsked.{WritingAsked}
+use Rattle.state_header.specs.Header.{openSlot}
 
 -- Question 6 of a write: 0 in the phase of writing, else 6.
 unfoldable pub writingCode : State → ℕ
 writingCode s = pick (eqb (phaseKind (s .phase)) 1) 0 6
-
--- The place of the open input's server.
-unfoldable pub openSlot : State → ℕ
-openSlot s = phaseSlot (s .phase)
 
 -- What was asked of the phase: the refusal; where it is 0, the place of the open input's server.
 pub record AsksWriting (b : List ℕ) (F : Capacity) (r : WritingAsked) : Type 0 where

@@ -31,6 +31,7 @@ use Rattle.checks_log_matching.specs.declared.MismatchOption.{MismatchOption}
 use Rattle.checks_log_matching.specs.declared.pairs.MatchingAsked.{MatchingAsked}
 use Rattle.checks_log_matching.specs.Matching.{mismatchOf}
 use Rattle.checks_log_matching.specs.Pairs.{Logs, logBytes, serverLogs, Between, totalCode, AsksLogs}
+use Rattle.checks_log_matching.specs.Laws.{last-within}
 use Rattle.model.specs.State.{State, Server, newServer, serverAt, idOf}
 use Rattle.model.specs.Calls.{logsFrom}
 use Rattle.model.specs.Fits.{serverFits, serverTests, storageFits}
@@ -48,16 +49,6 @@ use Rattle.state_asks.specs.Rows.{now-fits}
 use Rattle.state_asks.specs.WriteLaws.{EntryGood, entry-good}
 
 -- ---- the numbers of a mismatch
-
-last-within : (x : Log) → lastIndex x ≤ length x
-unfolding lastIndex
-last-within [] = omega arith
-last-within (o ∷ x) = by (eqb (lastIndex x) 0) (isSome o) (last-within x)
-  where
-    by : (t u : Bool) → lastIndex x ≤ length x → pick t (pick u 1 0) (suc (lastIndex x)) ≤ suc (length x)
-    by true true h = omega arith
-    by true false h = omega arith
-    by false u h = omega arith
 
 -- A term of 64 bits, and indexes up to N.
 record Small (N : ℕ) (m : Mismatch) : Type 0 where

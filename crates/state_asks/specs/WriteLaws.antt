@@ -44,6 +44,7 @@ use Rattle.checks_on_write.specs.declared.WritesAsked.{WritesAsked}
 use Rattle.checks_on_write.specs.OnWrite.{AsksWrite}
 use Rattle.checks_on_write.specs.OnWrites as region
 use Rattle.checks_on_write.specs.OnWrites.{writeIndex, shapeIndex, indexOf}
+use Rattle.checks_on_write.specs.WritesLaws.{shape-index, one-write}
 use Rattle.model.specs.State.{State, serverAt, idOf}
 use Rattle.state.specs.declared.Capacity.{Capacity}
 use Rattle.state.specs.declared.TableCounts.{TableCounts}
@@ -384,16 +385,6 @@ write-count-read b F k at r i p e = record {
 
 -- ---- written_index
 
-shape-index : (w : Write) → shapeIndex (shapeOf w) ≡ writeIndex w
-unfolding writeIndex
-shape-index (writeHardState h) = refl
-shape-index (writePut index e) = by (e .payload)
-  where
-    by : (x : Payload) → shapeIndex (entryShape index (e .term) x) ≡ index
-    by noop = refl
-    by (command bs) = refl
-shape-index (writeTruncate from) = refl
-
 module _ {b : List ℕ} {F : Capacity} {k writes m : ℕ} (i : k < F .servers) (rw : Reads b F writes (writeCountOf k))
     (rows : Rows writes (F .limits .writes) (3 + wordsFor (F .limits .payload)) m) where
   -- past the last write
@@ -427,14 +418,6 @@ module _ {b : List ℕ} {F : Capacity} {k writes m : ℕ} (i : k < F .servers) (
   }
 
 -- ---- index by index
-
--- a write that is no put changes nothing, as one at index 0 would
-one-write : (c : Checker) (time : SimTime) (server : NodeId) (log : Log) (w : Write) (indexes : List LogIndex)
-    → onWrites c time server log (putIndex w indexes) ≡ onWrites (onWrite c time server log (writeIndex w)) time server log indexes
-unfolding onWrites onWrite entryAt writeIndex
-one-write c time server log (writeHardState h) indexes = refl
-one-write c time server log (writePut index e) indexes = refl
-one-write c time server log (writeTruncate from) indexes = refl
 
 module _ (c : Checker) (time : SimTime) (server : NodeId) (log : Log) (ws : List Write) where
   -- write i, and then those after it

@@ -12,7 +12,7 @@ use Rattle.model.specs.State.{State, Phase}
 use Rattle.model.specs.Fields.{withNow, withWorkload, withMaxLogGaps, withDirectSeq, withEvents, withNetwork, withMetrics, withPhase}
 use Rattle.state.specs.declared.Capacity.{Capacity}
 use Rattle.state.specs.declared.OpenInput.{OpenInput}
-use Rattle.state.specs.Parts.{openOf}
+use Rattle.state.specs.Parts.{openOf, phaseSlot}
 use Rattle.state.specs.Changes.{Changes}
 
 -- The settings of a state.
@@ -34,6 +34,10 @@ metricsOf s = s .metrics
 -- Its phase.
 abbrev pub phaseOf : State → Phase
 phaseOf s = s .phase
+
+-- The place of the open input's server, 0 where none is open.
+unfoldable pub openSlot : State → ℕ
+openSlot s = phaseSlot (s .phase)
 
 -- The state at another time.
 unfoldable pub nowSet : SimTime → State → State

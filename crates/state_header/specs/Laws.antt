@@ -1,17 +1,18 @@
 -- What the proofs of lib.rt cite, and question 10 by each part. Assumes nothing.
 use mathlib.Core.Path.{_≡_, refl, sym, ap, ap₂, subst, _∙_}
-use mathlib.Core.Bool.{Bool, true}
+use mathlib.Core.Bool.{Bool, true, false}
 use mathlib.Core.List.{List, [], _∷_, _++_}
-use Prim.Native.Nat.{ℕ, _+_, _-_, _*_, _≤_, _<_}
+use Prim.Native.Nat.{ℕ, _+_, _-_, _*_, _^_, _≤_, _<_}
 use native.Mathlib.Omega.{arith}
 use lib.Dec.{eqb}
 use lib.ListN.{length, getD, set, drop, take}
 use lib.Seq.{sets}
-use borrow.Author.Tests.{eqb-true}
-use Rattle.laws.specs.Bools.{_and_, allb}
+use borrow.Author.Tests.{eqb-true, eq-eqb, ne-eqb, lt-ltb}
+use Rattle.laws.specs.Bools.{pick, _and_, allb}
 use Rattle.units.specs.declared.SimTime.{SimTime}
 use Rattle.units.specs.declared.Duration.{Duration}
 use Rattle.rng.specs.declared.Rng.{Rng}
+use Rattle.rng.specs.Rng.{under, moved, nextU64}
 use Rattle.words.specs.Words.{W, bytes, bytesOf as bytesOfNumber}
 use Rattle.layout.specs.Code.{Code}
 use Rattle.layout.specs.Tables.{Holds}
@@ -23,17 +24,19 @@ use Rattle.network.specs.declared.Network.{Network}
 use Rattle.network.specs.Network.{networkInRange}
 use Rattle.network_words.specs.NetworkCode.{networkCode}
 use Rattle.metrics.specs.declared.Metrics.{Metrics}
-use Rattle.metrics.specs.Metrics.{metricsFit}
+use Rattle.metrics.specs.declared.Counted.{Counted}
+use Rattle.metrics.specs.Metrics.{metricsFit, countersFit, counted}
 use Rattle.metrics_words.specs.MetricsCode.{metricsCode}
 use Rattle.queue.specs.Range.{word}
-use Rattle.model.specs.State.{State, Phase}
+use Rattle.model.specs.State.{State, Phase, closed, writing, sending}
+use Rattle.model.specs.Calls.{isClosed}
 use Rattle.model.specs.Fits.{stateFits, stateTests, phaseFits}
 use Rattle.state.specs.declared.Capacity.{Capacity}
 use Rattle.state.specs.declared.OpenInput.{OpenInput}
 use Rattle.state.specs.declared.Run.{Run}
 use Rattle.state.specs.declared.TableCounts.{TableCounts}
 use Rattle.state.specs.Sizes.{sizes, bytesOf}
-use Rattle.state.specs.Parts.{settingsIn, runIn, runWords, countsIn, openIn, openOf, openWords}
+use Rattle.state.specs.Parts.{settingsIn, runIn, runWords, countsIn, openIn, openOf, openWords, phaseKind}
 use Rattle.state.specs.Area.{Area, capacityOf, runOf, countsOf}
 use Rattle.state.specs.Encode.{contents}
 use Rattle.state.specs.FitsBy.{fits-one, fits-test}
@@ -159,3 +162,27 @@ module _ (s : State) where
   pub fits-phase : (p : Phase) → phaseFits (s .config) (s .limits) (s .phase) ≡ true → stateFits (phaseSet p s) ≡ (phaseFits (s .config) (s .limits) p and stateFits s)
   unfolding phaseSet
   fits-phase p h = fits-one s (phaseSet p s) 19 (phaseFits (s .config) (s .limits) p) (omega arith) h refl
+
+-- ---- the phase by its number
+
+pub closed-is : (p : Phase) → eqb (phaseKind p) 0 ≡ isClosed p
+closed-is closed = refl
+closed-is (writing slot input owed) = refl
+closed-is (sending slot input verdict owed) = refl
+
+pub kind-closed : (p : Phase) → phaseKind p ≡ 0 → isClosed p ≡ true
+kind-closed p e = sym (closed-is p) ∙ eq-eqb (phaseKind p) 0 e
+
+pub kind-open : (p : Phase) → (phaseKind p ≡ 0 → ⊥) → isClosed p ≡ false
+kind-open p n = sym (closed-is p) ∙ ne-eqb (phaseKind p) 0 n
+
+-- ---- counters and generators
+
+pub counted-is : (m m′ : Metrics) → countersFit m′ ≡ true → counted m m′ .metrics ≡ m′
+unfolding counted
+counted-is m m′ t = ap (λ (u : Bool). let x : Counted = pick u (record { fits = true; metrics = m′ }) (record { fits = false; metrics = m }) in x .metrics) t
+
+-- a draw leaves a generator of 64 bits
+pub under-word : (g : Rng) (bound : ℕ) → word (under g bound .next .state) ≡ true
+unfolding under nextU64
+under-word g bound = lt-ltb (moved g .state) (2 ^ 64) (omega arith)

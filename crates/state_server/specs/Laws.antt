@@ -47,7 +47,7 @@ use Rattle.state.specs.Fitting.{area-fits}
 use Rattle.state.specs.FitsBy.{server-count}
 use Rattle.state.specs.Changes.{Inside, AreaOf, Changes, Reads}
 use Rattle.state.specs.Lens.{area-of, ServerCut, serverContents, server-cut, server-at-held, part-lent, part-put, cut-server, server-in-range, pendingContent}
-use Rattle.state_server.specs.Servers.{BlockIn, serverStateAt, statusAt, withCount, withState, serverStateSet, StoresState, PendingIn, pendingAt, PendingCount, Counts, pendingHas, pendingRoom, registered, forgotten, pendingCleared, afterServer}
+use Rattle.state_server.specs.Servers.{BlockIn, serverStateAt, statusAt, statusRuns, withCount, withState, serverStateSet, StoresState, PendingIn, pendingAt, PendingCount, Counts, pendingHas, pendingRoom, registered, forgotten, pendingCleared, afterServer}
 
 -- ---- places
 
@@ -57,6 +57,21 @@ module _ (b : List ℕ) (F : Capacity) (k at : ℕ) (i : Inside b F) (h : BlockA
 
   pub pending-in : (z : ℕ) → Counted z (blockWords F) → PendingIn b F k (8 * (at + z - F .limits .history * 2))
   pending-in z e = record { is = omega (arith, h .is, e .is); ends = omega (arith, e .is, h .ends, i .long, room F) }
+
+-- ---- whether a server runs
+
+pub runs-none : (x : StatusOption) → x ≡ status.None → false ≡ statusRuns x
+unfolding statusRuns
+runs-none x e = sym (ap statusRuns e)
+
+pub runs-some : (x : StatusOption) (y : Status) → x ≡ status.Some y → true ≡ statusRuns x
+unfolding statusRuns
+runs-some x y e = sym (ap statusRuns e)
+
+pub status-runs : (o : Option Status) → statusRuns (optionStatus o) ≡ isSome o
+unfolding statusRuns
+status-runs none = refl
+status-runs (some x) = refl
 
 -- ---- the fixed part, read
 

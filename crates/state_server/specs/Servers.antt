@@ -1,6 +1,6 @@
 -- One server of a state, without its storage: what is read of it, and the state with it another. Assumes nothing.
 use mathlib.Core.Path.{_≡_}
-use mathlib.Core.Bool.{Bool}
+use mathlib.Core.Bool.{Bool, true, false}
 use mathlib.Core.List.{List, [], _∷_}
 use Prim.Native.Nat.{ℕ, _+_, _*_, _^_, _≤_}
 use lib.Dec.{leb, ltb}
@@ -47,6 +47,11 @@ serverStateAt k s = stateOfServer (serverAt s k)
 -- Its status.
 unfoldable pub statusAt : ℕ → State → StatusOption
 statusAt k s = optionStatus (serverAt s k .status)
+
+-- Whether a status is there: its server runs.
+unfoldable pub statusRuns : StatusOption → Bool
+statusRuns status.None = false
+statusRuns (status.Some x) = true
 
 -- The state of a server with another count of pending keys.
 abbrev pub withCount : ServerState → ℕ → ServerState

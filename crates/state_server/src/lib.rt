@@ -6,7 +6,7 @@ ghost use lib.ListN.{length};
 ghost use Rattle.model.specs.Simulation.{leaderOf};
 ghost use Rattle.state.specs.Parts.{boolNumber};
 ghost use Rattle.state.specs.Changes.{Inside, Changes, Reads};
-ghost use Rattle.state_server.specs.Servers.{BlockIn, serverStateAt, statusAt, serverStateSet, StoresState, PendingIn, PendingCount, Counts, pendingHas, pendingRoom, registered, forgotten, pendingCleared, afterServer};
+ghost use Rattle.state_server.specs.Servers.{BlockIn, serverStateAt, statusAt, statusRuns, serverStateSet, StoresState, PendingIn, PendingCount, Counts, pendingHas, pendingRoom, registered, forgotten, pendingCleared, afterServer};
 use client::ClientKey;
 use layout::keys;
 use layout::keys::Inserting;
@@ -52,6 +52,16 @@ pub fn status_of(area: &[u8], f: Capacity, k: usize) -> StatusOption
     let a = 8 * at + 64;
     let e = 8 * at + 176;
     server::load_status(&area[a..e])
+}
+
+// Whether a server runs: it has a status.
+pub fn runs(status: StatusOption) -> bool
+    ensures { λ r. ⌜ r ≡ statusRuns status ⌝ }
+{
+    match status {
+        StatusOption::None => false,
+        StatusOption::Some(_) => true,
+    }
 }
 
 // A flag's number.

@@ -1,8 +1,8 @@
--- Made by tools/uniform from proofs.txt, not by hand: 33e7cf05f4ef621a
-use Rattle.sim_owed.specs.CloseLaws.{runs-none, runs-some}
+-- Made by tools/uniform from proofs.txt, not by hand: 02486b5c5d0d86a2
+use Rattle.state_server.specs.Laws.{runs-none, runs-some}
 use borrow.Author.Needs.{needs}
-use Rattle.sim_owed.proofs.closes.runs.Statement.{statement}
-use Rattle.sim_owed.proofs.closes.runs.Tie as tie
+use Rattle.state_server.proofs.runs.Statement.{statement}
+use Rattle.state_server.proofs.runs.Tie as tie
 
 pub runs-spec : {M : Type 1} → statement M
 runs-spec =
