@@ -10,6 +10,9 @@ use compare::Mode;
 use compare::campaign::{Outcome, compare, each, judge};
 use observe::Coverage;
 
+/// With fewer seeds of a mode, a mistake may not show and not everything that can occur is met.
+const ENOUGH: u64 = 100;
+
 fn main() -> ExitCode {
     let given = env::args().skip(1).map(|word| word.parse::<u64>());
     let Ok(given) = given.collect::<Result<Vec<u64>, _>>() else {
@@ -30,7 +33,8 @@ fn main() -> ExitCode {
         print_row(mode.name(), &outcome, begun);
         coverage.add(&outcome.coverage);
         bad.extend(outcome.differences.iter().cloned());
-        if Mode::MISTAKES.contains(&mode) && outcome.caught.range(..within).next().is_none() {
+        let caught = outcome.caught.range(..within).next().is_some();
+        if seeds >= ENOUGH && Mode::MISTAKES.contains(&mode) && !caught {
             bad.push(format!(
                 "{} is not caught within {within} seeds",
                 mode.name()
@@ -45,21 +49,23 @@ fn main() -> ExitCode {
     }
 
     println!("\ncoverage\n{coverage}");
-    bad.extend(
-        coverage
-            .missing()
-            .iter()
-            .map(|name| format!("never met: {name}")),
-    );
+    if seeds >= ENOUGH {
+        let missing = coverage.missing();
+        bad.extend(missing.iter().map(|name| format!("never met: {name}")));
+    }
     for problem in &bad {
         println!("NOT SO: {problem}");
     }
-    if bad.is_empty() {
-        println!("every trace agrees, every mistake is caught, the correct node by no check");
-        ExitCode::SUCCESS
-    } else {
-        ExitCode::FAILURE
+    if !bad.is_empty() {
+        return ExitCode::FAILURE;
     }
+    if seeds < ENOUGH {
+        println!("every trace agrees, and the correct node violates no check");
+        println!("not asked with fewer than {ENOUGH} seeds of a mode: mistakes caught, coverage");
+    } else {
+        println!("every trace agrees, every mistake is caught, the correct node by no check");
+    }
+    ExitCode::SUCCESS
 }
 
 fn print_row(name: &str, outcome: &Outcome, begun: Instant) {
