@@ -64,12 +64,13 @@ need_reference() {
     [ -n "$reference" ] || exit 2
 }
 
-# Proves the calls and makes their static library, to which BUCKETBEACH_STATICLIB then leads. Tells each crate that is proved; all that is said,
-# which is long, only where it fails. With three checks for each processor a long one does not leave another idle.
+# Proves the calls, several crates at a time, and makes their static library, to which BUCKETBEACH_STATICLIB then leads. Tells each crate that
+# is proved; all that is said, which is long, only where it fails. With three checks for each processor a long one does not leave another idle.
 make_library() {
     local said status
     said=$(mktemp)
-    (cd .. && RT_JOBS=${RT_JOBS:-$((3 * $(nproc)))} rt staticlib api) 2>&1 | tee "$said" | grep --line-buffered '^rt: '
+    (cd .. && export RT_JOBS="${RT_JOBS:-$((3 * $(nproc)))}" && rt check api && rt staticlib api) 2>&1 |
+        tee "$said" | grep --line-buffered '^rt: .* proved (.* s)'
     status=${PIPESTATUS[0]}
     [ "$status" -eq 0 ] || cat "$said"
     rm -f "$said"
