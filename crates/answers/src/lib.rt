@@ -1,5 +1,7 @@
 // What the calls answer: numbers in structs that C lays out, the refusal first. Where a call is refused, all other fields are 0; where something is
 // absent, its flag and the fields behind the flag are 0.
+#![tactic(auto)]
+
 ghost use Rattle.std.specs.Prelude.{◌≡◌};
 ghost use Rattle.answers.specs.Answers.{no_input_numbers, done_no};
 
@@ -7,14 +9,14 @@ pub mod opened; // inputs that are opened
 
 // A call with nothing to tell.
 #[repr(C)]
-#[derive(Drop)]
+#[derive(Clone, Copy)]
 pub struct DoneAnswer {
     pub refusal: u64,
 }
 
 // An input that a call opened.
 #[repr(C)]
-#[derive(Drop)]
+#[derive(Clone, Copy)]
 pub struct InputNumbers {
     // 0 none, 1 start, 2 message, 3 timer, 4 proposal, 5 confirmation.
     pub kind: u64,
@@ -30,7 +32,7 @@ pub struct InputNumbers {
 
 // A start, a direct call, or an end. A direct call that opens none met a stopped server.
 #[repr(C)]
-#[derive(Drop)]
+#[derive(Clone, Copy)]
 pub struct OpenedAnswer {
     pub refusal: u64,
     pub input: InputNumbers,
@@ -38,7 +40,7 @@ pub struct OpenedAnswer {
 
 // A step.
 #[repr(C)]
-#[derive(Drop)]
+#[derive(Clone, Copy)]
 pub struct SteppedAnswer {
     pub refusal: u64,
     // 1 where an event was taken, 0 where none was due.
@@ -48,7 +50,7 @@ pub struct SteppedAnswer {
 
 // A seal.
 #[repr(C)]
-#[derive(Drop)]
+#[derive(Clone, Copy)]
 pub struct SealedAnswer {
     pub refusal: u64,
     // 1 synced, 2 nothing to sync, 3 cut.
@@ -59,7 +61,7 @@ pub struct SealedAnswer {
 
 // A server's status.
 #[repr(C)]
-#[derive(Drop)]
+#[derive(Clone, Copy)]
 pub struct StatusAnswer {
     pub refusal: u64,
     // 1 where the server runs.
@@ -74,7 +76,7 @@ pub struct StatusAnswer {
 
 // A server's term and vote.
 #[repr(C)]
-#[derive(Drop)]
+#[derive(Clone, Copy)]
 pub struct HardStateAnswer {
     pub refusal: u64,
     pub term: u64,
@@ -85,7 +87,7 @@ pub struct HardStateAnswer {
 
 // The size of a server's log: indexes that hold an entry, the highest of them, and those below it that hold none.
 #[repr(C)]
-#[derive(Drop)]
+#[derive(Clone, Copy)]
 pub struct LogAnswer {
     pub refusal: u64,
     pub count: u64,
@@ -95,7 +97,7 @@ pub struct LogAnswer {
 
 // An entry of a log: a flag, its term, its payload's kind, and the bytes of a command.
 #[repr(C)]
-#[derive(Drop)]
+#[derive(Clone, Copy)]
 pub struct EntryAnswer {
     pub refusal: u64,
     pub present: u64,
@@ -106,7 +108,7 @@ pub struct EntryAnswer {
 
 // The running server that leads the highest term.
 #[repr(C)]
-#[derive(Drop)]
+#[derive(Clone, Copy)]
 pub struct LeaderAnswer {
     pub refusal: u64,
     pub present: u64,
@@ -116,7 +118,7 @@ pub struct LeaderAnswer {
 
 // The highest index that a server has applied since it last started.
 #[repr(C)]
-#[derive(Drop)]
+#[derive(Clone, Copy)]
 pub struct AppliedAnswer {
     pub refusal: u64,
     pub index: u64,
@@ -124,7 +126,7 @@ pub struct AppliedAnswer {
 
 // The first payload that any server applied at an index.
 #[repr(C)]
-#[derive(Drop)]
+#[derive(Clone, Copy)]
 pub struct AppliedEntryAnswer {
     pub refusal: u64,
     pub present: u64,
@@ -134,7 +136,7 @@ pub struct AppliedEntryAnswer {
 
 // The counters of a run.
 #[repr(C)]
-#[derive(Drop)]
+#[derive(Clone, Copy)]
 pub struct MetricsAnswer {
     pub refusal: u64,
     pub messages: u64,
@@ -150,7 +152,7 @@ pub struct MetricsAnswer {
 
 // What one server has sent.
 #[repr(C)]
-#[derive(Drop)]
+#[derive(Clone, Copy)]
 pub struct SentByAnswer {
     pub refusal: u64,
     pub messages: u64,
@@ -160,7 +162,7 @@ pub struct SentByAnswer {
 
 // A client's reply: when its command was first sent, when the reply arrived, the command's index, and its client key.
 #[repr(C)]
-#[derive(Drop)]
+#[derive(Clone, Copy)]
 pub struct ReplyAnswer {
     pub refusal: u64,
     pub present: u64,
@@ -173,7 +175,7 @@ pub struct ReplyAnswer {
 
 // An answer to a request to confirm leadership.
 #[repr(C)]
-#[derive(Drop)]
+#[derive(Clone, Copy)]
 pub struct ConfirmationAnswer {
     pub refusal: u64,
     pub present: u64,
@@ -185,7 +187,7 @@ pub struct ConfirmationAnswer {
 
 // A violation that is kept: when it was reported, the check, how many numbers its text has, and these.
 #[repr(C)]
-#[derive(Drop)]
+#[derive(Clone, Copy)]
 pub struct ViolationAnswer {
     pub refusal: u64,
     pub present: u64,
@@ -197,7 +199,7 @@ pub struct ViolationAnswer {
 
 // The run as a whole.
 #[repr(C)]
-#[derive(Drop)]
+#[derive(Clone, Copy)]
 pub struct RunAnswer {
     pub refusal: u64,
     pub now: u64,
@@ -218,7 +220,7 @@ pub struct RunAnswer {
 
 // How many servers and clients there are, and the limits.
 #[repr(C)]
-#[derive(Drop)]
+#[derive(Clone, Copy)]
 pub struct SettingsAnswer {
     pub refusal: u64,
     pub servers: u64,

@@ -8,8 +8,7 @@ use answers::{DoneAnswer, OpenedAnswer};
 use sim_direct::asked;
 
 // A command proposed at a server: a sequence number is used, whether or not it runs.
-#[unsafe(no_mangle)]
-pub extern "C" fn sim_propose(area: &mut [u8], server: u64) -> OpenedAnswer
+pub fn sim_propose(area: &mut [u8], server: u64) -> OpenedAnswer
     ensures { (result, area.new) ≡ call opened_no asked_yes area.old (propose server) }
 {
     let g = state_gate::gate(area);
@@ -17,8 +16,7 @@ pub extern "C" fn sim_propose(area: &mut [u8], server: u64) -> OpenedAnswer
 }
 
 // A timer fired at a server, whether or not it is pending.
-#[unsafe(no_mangle)]
-pub extern "C" fn sim_fire_timer(area: &mut [u8], server: u64, timer: u64) -> OpenedAnswer
+pub fn sim_fire_timer(area: &mut [u8], server: u64, timer: u64) -> OpenedAnswer
     ensures { (result, area.new) ≡ call opened_no opened_yes area.old (fire_timer server timer) }
 {
     let g = state_gate::gate(area);
@@ -26,8 +24,7 @@ pub extern "C" fn sim_fire_timer(area: &mut [u8], server: u64, timer: u64) -> Op
 }
 
 // Leadership to be confirmed by a server.
-#[unsafe(no_mangle)]
-pub extern "C" fn sim_confirm_leadership(area: &mut [u8], server: u64, request: u64) -> OpenedAnswer
+pub fn sim_confirm_leadership(area: &mut [u8], server: u64, request: u64) -> OpenedAnswer
     ensures { (result, area.new) ≡ call opened_no asked_yes area.old (confirm_leadership server (record { 0 = request })) }
 {
     let g = state_gate::gate(area);
@@ -35,8 +32,7 @@ pub extern "C" fn sim_confirm_leadership(area: &mut [u8], server: u64, request: 
 }
 
 // A fault scheduled: its kind, two numbers, and a partition's groups, one byte each.
-#[unsafe(no_mangle)]
-pub extern "C" fn sim_schedule(
+pub fn sim_schedule(
     area: &mut [u8],
     time: u64,
     kind: u64,

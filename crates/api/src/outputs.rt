@@ -8,13 +8,7 @@ use answers::DoneAnswer;
 use sim_outputs::{confirmations, timers};
 
 // A message sent to a server, with so many log entries.
-#[unsafe(no_mangle)]
-pub extern "C" fn sim_output_send(
-    area: &mut [u8],
-    to: u64,
-    message: &[u8],
-    entries: u64,
-) -> DoneAnswer
+pub fn sim_output_send(area: &mut [u8], to: u64, message: &[u8], entries: u64) -> DoneAnswer
     ensures { (result, area.new) ≡ call done_no done_yes area.old (output_send to message.now entries) }
 {
     let g = state_gate::gate(area);
@@ -22,8 +16,7 @@ pub extern "C" fn sim_output_send(
 }
 
 // A timer set, in the place of one that is pending.
-#[unsafe(no_mangle)]
-pub extern "C" fn sim_output_set_timer(area: &mut [u8], timer: u64, after: u64) -> DoneAnswer
+pub fn sim_output_set_timer(area: &mut [u8], timer: u64, after: u64) -> DoneAnswer
     ensures { (result, area.new) ≡ call done_no done_yes area.old (output_set_timer timer (record { 0 = after })) }
 {
     let g = state_gate::gate(area);
@@ -31,8 +24,7 @@ pub extern "C" fn sim_output_set_timer(area: &mut [u8], timer: u64, after: u64) 
 }
 
 // A timer cancelled.
-#[unsafe(no_mangle)]
-pub extern "C" fn sim_output_cancel_timer(area: &mut [u8], timer: u64) -> DoneAnswer
+pub fn sim_output_cancel_timer(area: &mut [u8], timer: u64) -> DoneAnswer
     ensures { (result, area.new) ≡ call done_no done_yes area.old (output_cancel_timer timer) }
 {
     let g = state_gate::gate(area);
@@ -40,13 +32,7 @@ pub extern "C" fn sim_output_cancel_timer(area: &mut [u8], timer: u64) -> DoneAn
 }
 
 // An entry applied.
-#[unsafe(no_mangle)]
-pub extern "C" fn sim_output_apply(
-    area: &mut [u8],
-    index: u64,
-    kind: u64,
-    payload: &[u8],
-) -> DoneAnswer
+pub fn sim_output_apply(area: &mut [u8], index: u64, kind: u64, payload: &[u8]) -> DoneAnswer
     ensures { (result, area.new) ≡ call done_no done_yes area.old (output_apply (record { 0 = index }) kind payload.now) }
 {
     let g = state_gate::gate(area);
@@ -54,8 +40,7 @@ pub extern "C" fn sim_output_apply(
 }
 
 // Leadership confirmed, with the read index.
-#[unsafe(no_mangle)]
-pub extern "C" fn sim_output_confirmed(area: &mut [u8], request: u64, read_index: u64) -> DoneAnswer
+pub fn sim_output_confirmed(area: &mut [u8], request: u64, read_index: u64) -> DoneAnswer
     ensures { (result, area.new) ≡ call done_no done_yes area.old (output_confirmed (record { 0 = request }) (record { 0 = read_index })) }
 {
     let g = state_gate::gate(area);
@@ -63,8 +48,7 @@ pub extern "C" fn sim_output_confirmed(area: &mut [u8], request: u64, read_index
 }
 
 // Leadership lost.
-#[unsafe(no_mangle)]
-pub extern "C" fn sim_output_lost(area: &mut [u8], request: u64) -> DoneAnswer
+pub fn sim_output_lost(area: &mut [u8], request: u64) -> DoneAnswer
     ensures { (result, area.new) ≡ call done_no done_yes area.old (output_lost (record { 0 = request })) }
 {
     let g = state_gate::gate(area);

@@ -12,8 +12,7 @@ use answers::{
 };
 
 // A server's status, none while it is stopped or starting.
-#[unsafe(no_mangle)]
-pub extern "C" fn sim_read_status(area: &[u8], server: u64) -> StatusAnswer
+pub fn sim_read_status(area: &[u8], server: u64) -> StatusAnswer
     ensures { result ≡ reading status_no status_yes area.now (read_status server) }
 {
     let g = state_gate::gate(area);
@@ -21,8 +20,7 @@ pub extern "C" fn sim_read_status(area: &[u8], server: u64) -> StatusAnswer
 }
 
 // A server's term and vote as written so far.
-#[unsafe(no_mangle)]
-pub extern "C" fn sim_read_hard_state(area: &[u8], server: u64) -> HardStateAnswer
+pub fn sim_read_hard_state(area: &[u8], server: u64) -> HardStateAnswer
     ensures { result ≡ reading hard_state_no hard_state_yes area.now (read_hard_state server) }
 {
     let g = state_gate::gate(area);
@@ -30,8 +28,7 @@ pub extern "C" fn sim_read_hard_state(area: &[u8], server: u64) -> HardStateAnsw
 }
 
 // The size of a server's log as written so far.
-#[unsafe(no_mangle)]
-pub extern "C" fn sim_read_log(area: &[u8], server: u64) -> LogAnswer
+pub fn sim_read_log(area: &[u8], server: u64) -> LogAnswer
     ensures { result ≡ reading log_no log_yes area.now (read_log server) }
 {
     let g = state_gate::gate(area);
@@ -39,13 +36,7 @@ pub extern "C" fn sim_read_log(area: &[u8], server: u64) -> LogAnswer
 }
 
 // An entry of a server's log; a command goes to the buffer.
-#[unsafe(no_mangle)]
-pub extern "C" fn sim_read_entry(
-    area: &[u8],
-    server: u64,
-    index: u64,
-    buffer: &mut [u8],
-) -> EntryAnswer
+pub fn sim_read_entry(area: &[u8], server: u64, index: u64, buffer: &mut [u8]) -> EntryAnswer
     ensures { EntryCalled area.now server index buffer.old buffer.new result }
 {
     let g = state_gate::gate(area);
@@ -53,8 +44,7 @@ pub extern "C" fn sim_read_entry(
 }
 
 // The running server that leads the highest term.
-#[unsafe(no_mangle)]
-pub extern "C" fn sim_read_leader(area: &[u8]) -> LeaderAnswer
+pub fn sim_read_leader(area: &[u8]) -> LeaderAnswer
     ensures { result ≡ reading leader_no leader_yes area.now read_leader }
 {
     let g = state_gate::gate(area);
@@ -62,8 +52,7 @@ pub extern "C" fn sim_read_leader(area: &[u8]) -> LeaderAnswer
 }
 
 // The highest index that a server has applied since it last started.
-#[unsafe(no_mangle)]
-pub extern "C" fn sim_read_applied(area: &[u8], server: u64) -> AppliedAnswer
+pub fn sim_read_applied(area: &[u8], server: u64) -> AppliedAnswer
     ensures { result ≡ reading applied_no applied_yes area.now (read_applied server) }
 {
     let g = state_gate::gate(area);
@@ -71,12 +60,7 @@ pub extern "C" fn sim_read_applied(area: &[u8], server: u64) -> AppliedAnswer
 }
 
 // The first payload that any server applied at an index; a command goes to the buffer.
-#[unsafe(no_mangle)]
-pub extern "C" fn sim_read_applied_entry(
-    area: &[u8],
-    index: u64,
-    buffer: &mut [u8],
-) -> AppliedEntryAnswer
+pub fn sim_read_applied_entry(area: &[u8], index: u64, buffer: &mut [u8]) -> AppliedEntryAnswer
     ensures { AppliedCalled area.now index buffer.old buffer.new result }
 {
     let g = state_gate::gate(area);
@@ -84,8 +68,7 @@ pub extern "C" fn sim_read_applied_entry(
 }
 
 // The counters of the run.
-#[unsafe(no_mangle)]
-pub extern "C" fn sim_read_metrics(area: &[u8]) -> MetricsAnswer
+pub fn sim_read_metrics(area: &[u8]) -> MetricsAnswer
     ensures { result ≡ reading metrics_no metrics_yes area.now read_metrics }
 {
     let g = state_gate::gate(area);
@@ -93,8 +76,7 @@ pub extern "C" fn sim_read_metrics(area: &[u8]) -> MetricsAnswer
 }
 
 // What one server has sent.
-#[unsafe(no_mangle)]
-pub extern "C" fn sim_read_sent_by(area: &[u8], server: u64) -> SentByAnswer
+pub fn sim_read_sent_by(area: &[u8], server: u64) -> SentByAnswer
     ensures { result ≡ reading sent_by_no sent_by_yes area.now (read_sent_by server) }
 {
     let g = state_gate::gate(area);
@@ -102,8 +84,7 @@ pub extern "C" fn sim_read_sent_by(area: &[u8], server: u64) -> SentByAnswer
 }
 
 // A client's reply, by its place in order of arrival, from 0.
-#[unsafe(no_mangle)]
-pub extern "C" fn sim_read_reply(area: &[u8], place: u64) -> ReplyAnswer
+pub fn sim_read_reply(area: &[u8], place: u64) -> ReplyAnswer
     ensures { result ≡ reading reply_no reply_yes area.now (read_reply place) }
 {
     let g = state_gate::gate(area);
@@ -111,8 +92,7 @@ pub extern "C" fn sim_read_reply(area: &[u8], place: u64) -> ReplyAnswer
 }
 
 // A confirmation, by its place in order of arrival, from 0.
-#[unsafe(no_mangle)]
-pub extern "C" fn sim_read_confirmation(area: &[u8], place: u64) -> ConfirmationAnswer
+pub fn sim_read_confirmation(area: &[u8], place: u64) -> ConfirmationAnswer
     ensures { result ≡ reading confirmation_no confirmation_yes area.now (read_confirmation place) }
 {
     let g = state_gate::gate(area);
@@ -120,8 +100,7 @@ pub extern "C" fn sim_read_confirmation(area: &[u8], place: u64) -> Confirmation
 }
 
 // A kept violation, by its place in order of report, from 0.
-#[unsafe(no_mangle)]
-pub extern "C" fn sim_read_violation(area: &[u8], place: u64) -> ViolationAnswer
+pub fn sim_read_violation(area: &[u8], place: u64) -> ViolationAnswer
     ensures { result ≡ reading violation_no violation_yes area.now (read_violation place) }
 {
     let g = state_gate::gate(area);
@@ -129,8 +108,7 @@ pub extern "C" fn sim_read_violation(area: &[u8], place: u64) -> ViolationAnswer
 }
 
 // The run as a whole.
-#[unsafe(no_mangle)]
-pub extern "C" fn sim_read_run(area: &[u8]) -> RunAnswer
+pub fn sim_read_run(area: &[u8]) -> RunAnswer
     ensures { result ≡ reading run_no run_yes area.now read_run }
 {
     let g = state_gate::gate(area);
@@ -138,8 +116,7 @@ pub extern "C" fn sim_read_run(area: &[u8]) -> RunAnswer
 }
 
 // The counts by which a host sizes its buffers.
-#[unsafe(no_mangle)]
-pub extern "C" fn sim_read_settings(area: &[u8]) -> SettingsAnswer
+pub fn sim_read_settings(area: &[u8]) -> SettingsAnswer
     ensures { result ≡ reading settings_no settings_yes area.now read_settings }
 {
     let g = state_gate::gate(area);

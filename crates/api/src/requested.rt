@@ -8,8 +8,7 @@ use answers::DoneAnswer;
 use sim_checks::{durability, matching};
 
 // Every pair of logs compared.
-#[unsafe(no_mangle)]
-pub extern "C" fn sim_check_log_matching(area: &mut [u8]) -> DoneAnswer
+pub fn sim_check_log_matching(area: &mut [u8]) -> DoneAnswer
     ensures { (result, area.new) ≡ call done_no done_yes area.old check_log_matching_call }
 {
     let g = state_gate::gate(area);
@@ -17,8 +16,7 @@ pub extern "C" fn sim_check_log_matching(area: &mut [u8]) -> DoneAnswer
 }
 
 // Every acknowledged command looked for in what was applied.
-#[unsafe(no_mangle)]
-pub extern "C" fn sim_check_durability(area: &mut [u8]) -> DoneAnswer
+pub fn sim_check_durability(area: &mut [u8]) -> DoneAnswer
     ensures { (result, area.new) ≡ call done_no done_yes area.old check_durability_call }
 {
     let g = state_gate::gate(area);

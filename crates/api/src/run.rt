@@ -11,8 +11,7 @@ use crate::settings::{LimitsNumbers, SettingsNumbers};
 use answers::{OpenedAnswer, SealedAnswer, SteppedAnswer};
 
 // A simulation begins, whatever was in the area before.
-#[unsafe(no_mangle)]
-pub extern "C" fn sim_start(
+pub fn sim_start(
     area: &mut [u8],
     settings: SettingsNumbers,
     limits: LimitsNumbers,
@@ -26,8 +25,7 @@ pub extern "C" fn sim_start(
 }
 
 // The first event at or before the deadline happens; where there is none, the time rises to the deadline. The bytes of a message go to the buffer.
-#[unsafe(no_mangle)]
-pub extern "C" fn sim_step(area: &mut [u8], deadline: u64, buffer: &mut [u8]) -> SteppedAnswer
+pub fn sim_step(area: &mut [u8], deadline: u64, buffer: &mut [u8]) -> SteppedAnswer
     ensures { StepCalled area.old area.new deadline buffer.old buffer.new result }
 {
     let g = state_gate::gate(area);
@@ -35,8 +33,7 @@ pub extern "C" fn sim_step(area: &mut [u8], deadline: u64, buffer: &mut [u8]) ->
 }
 
 // The node has returned: whether it refused its input, and which leader it named. The input's writes are synced, or cut.
-#[unsafe(no_mangle)]
-pub extern "C" fn sim_seal(area: &mut [u8], refused: u64, present: u64, leader: u64) -> SealedAnswer
+pub fn sim_seal(area: &mut [u8], refused: u64, present: u64, leader: u64) -> SealedAnswer
     ensures { (result, area.new) ≡ call sealed_no sealed_yes area.old (seal refused present leader) }
 {
     let g = state_gate::gate(area);
@@ -44,8 +41,7 @@ pub extern "C" fn sim_seal(area: &mut [u8], refused: u64, present: u64, leader: 
 }
 
 // The outputs are over; the node's status. What is owed goes on.
-#[unsafe(no_mangle)]
-pub extern "C" fn sim_end(
+pub fn sim_end(
     area: &mut [u8],
     role: u64,
     term: u64,

@@ -12,7 +12,7 @@ use units::{Duration, NodeId, SimTime};
 
 // The length of an area in bytes.
 #[repr(C)]
-#[derive(Drop)]
+#[derive(Clone, Copy)]
 pub struct LengthAnswer {
     pub refusal: u64,
     pub length: u64,
@@ -20,15 +20,14 @@ pub struct LengthAnswer {
 
 // The seed of a stream.
 #[repr(C)]
-#[derive(Drop)]
+#[derive(Clone, Copy)]
 pub struct SeedAnswer {
     pub refusal: u64,
     pub seed: u64,
 }
 
 // The length of the area for so many servers and clients and these limits.
-#[unsafe(no_mangle)]
-pub extern "C" fn sim_area_length(servers: u64, clients: u64, limits: LimitsNumbers) -> LengthAnswer
+pub fn sim_area_length(servers: u64, clients: u64, limits: LimitsNumbers) -> LengthAnswer
     ensures { result ≡ length_of servers clients limits }
 {
     let capacity = settings::limits_given(limits);
@@ -74,13 +73,7 @@ fn stream_of(n: u64, server: u64, incarnation: u32) -> Stream
 }
 
 // The seed of a stream in a simulation; of a stream other than 5 server and incarnation are not looked at, but the incarnation has 32 bits.
-#[unsafe(no_mangle)]
-pub extern "C" fn sim_stream_seed(
-    seed: u64,
-    stream: u64,
-    server: u64,
-    incarnation: u64,
-) -> SeedAnswer
+pub fn sim_stream_seed(seed: u64, stream: u64, server: u64, incarnation: u64) -> SeedAnswer
     ensures { result ≡ seed_of seed stream server incarnation }
 {
     if 5 < stream {
@@ -104,7 +97,7 @@ pub extern "C" fn sim_stream_seed(
 
 // The numbers of a random schedule's settings: times and durations in nanoseconds.
 #[repr(C)]
-#[derive(Drop)]
+#[derive(Clone, Copy)]
 pub struct ChaosNumbers {
     pub start: u64,
     pub end: u64,
@@ -114,7 +107,7 @@ pub struct ChaosNumbers {
 
 // A schedule: how many entries its list has, and the generator after its draws.
 #[repr(C)]
-#[derive(Drop)]
+#[derive(Clone, Copy)]
 pub struct ScheduleAnswer {
     pub refusal: u64,
     pub count: u64,
@@ -152,8 +145,7 @@ fn schedule_told(r: Scheduled, next: Rng) -> ScheduleAnswer
 }
 
 // A random fault schedule for servers of one byte each, drawn with a generator of this state and written into a lent list, 32 bytes an entry.
-#[unsafe(no_mangle)]
-pub extern "C" fn sim_chaos_schedule(
+pub fn sim_chaos_schedule(
     servers: &[u8],
     chaos: ChaosNumbers,
     generator: u64,

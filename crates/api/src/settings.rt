@@ -7,7 +7,7 @@ use units::Duration;
 
 // The settings of a simulation.
 #[repr(C)]
-#[derive(Drop)]
+#[derive(Clone, Copy)]
 pub struct SettingsNumbers {
     pub servers: u64,
     pub heartbeat_interval: u64,
@@ -29,7 +29,7 @@ pub struct SettingsNumbers {
 
 // The capacities, by document 01's letters L, P, M, Q, W and H.
 #[repr(C)]
-#[derive(Drop)]
+#[derive(Clone, Copy)]
 pub struct LimitsNumbers {
     pub log_indexes: u64,
     pub payload: u64,

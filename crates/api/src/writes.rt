@@ -7,13 +7,7 @@ ghost use Rattle.answers.specs.Answers.{done_no, done_yes};
 use answers::DoneAnswer;
 
 // Term and vote written; the flag says whether there is a vote.
-#[unsafe(no_mangle)]
-pub extern "C" fn sim_write_hard_state(
-    area: &mut [u8],
-    term: u64,
-    present: u64,
-    vote: u64,
-) -> DoneAnswer
+pub fn sim_write_hard_state(area: &mut [u8], term: u64, present: u64, vote: u64) -> DoneAnswer
     ensures { (result, area.new) ≡ call done_no done_yes area.old (write_hard_state_call (record { 0 = term }) present vote) }
 {
     let g = state_gate::gate(area);
@@ -21,8 +15,7 @@ pub extern "C" fn sim_write_hard_state(
 }
 
 // An entry put at an index of the log.
-#[unsafe(no_mangle)]
-pub extern "C" fn sim_write_put(
+pub fn sim_write_put(
     area: &mut [u8],
     index: u64,
     term: u64,
@@ -36,8 +29,7 @@ pub extern "C" fn sim_write_put(
 }
 
 // The log truncated from an index on.
-#[unsafe(no_mangle)]
-pub extern "C" fn sim_write_truncate(area: &mut [u8], from: u64) -> DoneAnswer
+pub fn sim_write_truncate(area: &mut [u8], from: u64) -> DoneAnswer
     ensures { (result, area.new) ≡ call done_no done_yes area.old (write_truncate_call (record { 0 = from })) }
 {
     let g = state_gate::gate(area);

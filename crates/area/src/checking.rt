@@ -7,6 +7,7 @@ use layout::marked::Kind;
 use protocol::{Role, Status};
 use state::Capacity;
 use state_records::{PayloadOption, ViolationOption};
+use std::io;
 use units::{LogIndex, NodeId, NodeOption, SimTime, Term};
 
 // The first payload applied at index 1, in order.
@@ -147,7 +148,7 @@ fn status_checked(area: &mut [u8]) -> bool {
 }
 
 // A put of the first server, asked with all writes and then seen by itself.
-fn write_checked_lem(area: &mut [u8]) -> bool {
+fn write_checked(area: &mut [u8]) -> bool {
     let g = state_gate::gate(area);
     let f = g.capacity;
     let limits = f.limits;
@@ -194,16 +195,16 @@ fn matching_asked(area: &mut [u8]) -> bool {
 }
 
 // Payloads applied.
-pub fn payloads(area: &mut [u8]) {
-    report(b"applied", applied(area));
-    report(b"applied read", applied_read(area));
-    report(b"applied otherwise", applied_otherwise(area));
-    report(b"violation", violation_read(area));
+pub fn payloads(rt: &impl Print, area: &mut [u8]) -> io::Result<()> {
+    report(rt, "applied", applied(area))?;
+    report(rt, "applied read", applied_read(area))?;
+    report(rt, "applied otherwise", applied_otherwise(area))?;
+    report(rt, "violation", violation_read(area))
 }
 
 // Statuses, writes, pairs of logs.
-pub fn rest(area: &mut [u8]) {
-    report(b"status", status_checked(area));
-    report(b"write", write_checked_lem(area));
-    report(b"log matching", matching_asked(area));
+pub fn rest(rt: &impl Print, area: &mut [u8]) -> io::Result<()> {
+    report(rt, "status", status_checked(area))?;
+    report(rt, "write", write_checked(area))?;
+    report(rt, "log matching", matching_asked(area))
 }

@@ -3,6 +3,7 @@ use crate::{accepted, report};
 use network::Network;
 use rng::Rng;
 use state::OpenInput;
+use std::io;
 use units::SimTime;
 
 // The time.
@@ -130,18 +131,18 @@ fn settings_read(area: &[u8]) -> bool {
 }
 
 // The settings and the run.
-pub fn runs(area: &mut [u8]) {
-    report(b"settings", settings_read(area));
-    report(b"now", now_set(area));
-    report(b"workload", workload_set(area));
-    report(b"gaps", gaps_set(area));
+pub fn runs(rt: &impl Print, area: &mut [u8]) -> io::Result<()> {
+    report(rt, "settings", settings_read(area))?;
+    report(rt, "now", now_set(area))?;
+    report(rt, "workload", workload_set(area))?;
+    report(rt, "gaps", gaps_set(area))
 }
 
 // The network, the metrics, the open input.
-pub fn rest(area: &mut [u8]) {
-    report(b"next proposal", proposal_set(area));
-    report(b"events taken", events_set(area));
-    report(b"network", network_set(area));
-    report(b"metrics", metrics_set(area));
-    report(b"open input", open_set(area));
+pub fn rest(rt: &impl Print, area: &mut [u8]) -> io::Result<()> {
+    report(rt, "next proposal", proposal_set(area))?;
+    report(rt, "events taken", events_set(area))?;
+    report(rt, "network", network_set(area))?;
+    report(rt, "metrics", metrics_set(area))?;
+    report(rt, "open input", open_set(area))
 }

@@ -1,22 +1,20 @@
 // One array with a state laid out in it, and every function that stands under a call made on it: after each the gate accepts the area, and
 // what was written is read again.
-ghost use Rattle.std.specs.Prelude.{◌≡◌, length};
+#![tactic(auto)]
 
-use libc::STDOUT_FILENO;
+ghost use Rattle.std.specs.Prelude.{◌≡◌, length};
 
 mod header; // settings, the run, the network, the metrics, the open input
 mod servers; // a server's state, its keys, its disk
 mod tables; // the queue, clients, replies, confirmations
 mod checking; // what the checks ask and write
 
+use std::io;
+
 // Writes that the area was accepted after a change and what was read is right, or that not.
-fn report(name: &[u8], holds: bool) {
-    io::write_all(STDOUT_FILENO, name);
-    if holds {
-        io::write_all(STDOUT_FILENO, b" ok\n");
-    } else {
-        io::write_all(STDOUT_FILENO, b" failed\n");
-    }
+fn report(rt: &impl Print, name: &str, holds: bool) -> io::Result<()> {
+    let verdict = if holds { "ok" } else { "failed" };
+    println!(rt; "{name} {verdict}")
 }
 
 // Whether the gate accepts an area.
@@ -58,17 +56,17 @@ fn lay_out(area: &mut [u8])
     words::store(area, 624, 1);
 }
 
-fn main() {
+fn main(rt: HostRuntime) -> io::Result<()> {
     let mut area = [0u8; 6424];
-    report(b"nothing laid out", !accepted(&area));
+    report(&rt, "nothing laid out", !accepted(&area))?;
     lay_out(&mut area);
-    report(b"laid out", accepted(&area));
-    header::runs(&mut area);
-    header::rest(&mut area);
-    servers::states(&mut area);
-    servers::disks(&mut area);
-    tables::events(&mut area);
-    tables::records(&mut area);
-    checking::payloads(&mut area);
-    checking::rest(&mut area);
+    report(&rt, "laid out", accepted(&area))?;
+    header::runs(&rt, &mut area)?;
+    header::rest(&rt, &mut area)?;
+    servers::states(&rt, &mut area)?;
+    servers::disks(&rt, &mut area)?;
+    tables::events(&rt, &mut area)?;
+    tables::records(&rt, &mut area)?;
+    checking::payloads(&rt, &mut area)?;
+    checking::rest(&rt, &mut area)
 }

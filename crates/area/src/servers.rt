@@ -4,9 +4,10 @@ ghost use Rattle.state.specs.Changes.{Inside};
 
 use crate::{accepted, report};
 use client::ClientKey;
-use raft_log::Place;
 use protocol::{Role, Status};
+use raft_log::Place;
 use state::{Capacity, ServerState, StatusOption};
+use std::io;
 use storage::HardState;
 use units::{LogIndex, NodeId, NodeOption, Term, TermOption};
 
@@ -205,17 +206,17 @@ fn entry_back(area: &mut [u8], f: Capacity) -> bool
 }
 
 // The state and the keys.
-pub fn states(area: &mut [u8]) {
-    report(b"server", server_set(area));
-    report(b"leader", leader_read(area));
-    report(b"keys", keys_set(area));
-    report(b"keys cleared", keys_cleared(area));
+pub fn states(rt: &impl Print, area: &mut [u8]) -> io::Result<()> {
+    report(rt, "server", server_set(area))?;
+    report(rt, "leader", leader_read(area))?;
+    report(rt, "keys", keys_set(area))?;
+    report(rt, "keys cleared", keys_cleared(area))
 }
 
 // The disk.
-pub fn disks(area: &mut [u8]) {
-    report(b"writes", writes_set(area));
-    report(b"entry", entry_read(area));
-    report(b"sync", synced(area));
-    report(b"crash", crashed(area));
+pub fn disks(rt: &impl Print, area: &mut [u8]) -> io::Result<()> {
+    report(rt, "writes", writes_set(area))?;
+    report(rt, "entry", entry_read(area))?;
+    report(rt, "sync", synced(area))?;
+    report(rt, "crash", crashed(area))
 }

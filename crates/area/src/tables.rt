@@ -11,6 +11,7 @@ use queue::Event;
 use state::Capacity;
 use state_queue::NextEvent;
 use state_records::{ConfirmationOption, ReplyOption};
+use std::io;
 use units::{LogIndex, NodeId, SimTime};
 
 // A message at 9 and one at 8: the second leaves first, with its bytes.
@@ -165,16 +166,16 @@ fn discarded_read(area: &[u8]) -> bool {
 }
 
 // The queue.
-pub fn events(area: &mut [u8]) {
-    report(b"events", events_pushed(area));
-    report(b"event taken", event_taken(area));
-    report(b"first sends", sends_pushed(area));
+pub fn events(rt: &impl Print, area: &mut [u8]) -> io::Result<()> {
+    report(rt, "events", events_pushed(area))?;
+    report(rt, "event taken", event_taken(area))?;
+    report(rt, "first sends", sends_pushed(area))
 }
 
 // The clients, the replies, the confirmations, the discarded entries.
-pub fn records(area: &mut [u8]) {
-    report(b"client", client_set(area));
-    report(b"reply", reply_appended(area));
-    report(b"confirmation", confirmation_appended(area));
-    report(b"discarded", discarded_read(area));
+pub fn records(rt: &impl Print, area: &mut [u8]) -> io::Result<()> {
+    report(rt, "client", client_set(area))?;
+    report(rt, "reply", reply_appended(area))?;
+    report(rt, "confirmation", confirmation_appended(area))?;
+    report(rt, "discarded", discarded_read(area))
 }

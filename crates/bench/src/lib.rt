@@ -1,4 +1,6 @@
 // What the benchmark measures, exported for C, each function under the contract of the one that it calls.
+#![tactic(auto)]
+
 ghost use Rattle.std.specs.Prelude.{◌≡◌, [], ◌+◌, ◌*◌, ◌≤◌, ◌<◌, length};
 ghost use Rattle.laws.specs.Decides.{Decides};
 ghost use Rattle.protocol.specs.declared.Timer.TheVariants.{Election};

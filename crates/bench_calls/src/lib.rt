@@ -1,4 +1,6 @@
 // What stands behind the gate of every call, exported so that it can be measured without the gate, each under the contract of the function that it calls.
+#![tactic(auto)]
+
 ghost use Rattle.answers.specs.Answers.{done_no, done_yes, opened_no, opened_yes, asked_yes, sealed_no, sealed_yes, status_no, status_yes, hard_state_no, hard_state_yes, log_no, log_yes, leader_no, leader_yes, applied_no, applied_yes, metrics_no, metrics_yes, sent_by_no, sent_by_yes, reply_no, reply_yes, confirmation_no, confirmation_yes, violation_no, violation_yes, run_no, run_yes, settings_no, settings_yes};
 ghost use Rattle.api.specs.Given.{settings_given, limits_given};
 ghost use Rattle.model.specs.Calls.{check_log_matching_call, check_durability_call, output_send, output_set_timer, output_cancel_timer, output_apply, output_confirmed, output_lost, propose, fire_timer, confirm_leadership, schedule, start, seal, end, write_hard_state_call, write_put_call, write_truncate_call};
@@ -26,7 +28,7 @@ use state::{Capacity, Gate};
 
 // The counts of an area that the gate let through.
 #[repr(C)]
-#[derive(Drop)]
+#[derive(Clone, Copy)]
 pub struct CountsNumbers {
     pub servers: u64,
     pub clients: u64,

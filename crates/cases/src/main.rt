@@ -1,27 +1,25 @@
 // Document 01's cases, each computed by the code and compared with what it must be.
+#![tactic(auto)]
+
 ghost use Rattle.std.specs.Prelude.{◌≤◌, length};
 
 use checks::violations::{Detail, Tally};
 use checks::{Check, violations};
 use checks_log_matching::MismatchOption;
-use libc::STDOUT_FILENO;
 use network::Network;
 use queue::{Event, table};
 use record::PayloadShape;
 use rng::{Bounded, Rng};
 use seeds::Stream;
+use std::io;
 use storage::write::Written;
 use storage::{HardState, StorageState, write};
 use units::{Duration, LogIndex, NodeId, NodeOption, SimTime, Term};
 
 // Writes that a case holds, or that it does not.
-fn report(name: &[u8], holds: bool) {
-    io::write_all(STDOUT_FILENO, name);
-    if holds {
-        io::write_all(STDOUT_FILENO, b" ok\n");
-    } else {
-        io::write_all(STDOUT_FILENO, b" failed\n");
-    }
+fn report(rt: &impl Print, name: &str, holds: bool) -> io::Result<()> {
+    let verdict = if holds { "ok" } else { "failed" };
+    println!(rt; "{name} {verdict}")
 }
 
 // 1 for true.
@@ -224,38 +222,44 @@ fn first_32_kept(v: &mut [u8]) -> bool {
     (kept == 32) & (total == 33)
 }
 
-fn main() {
+// The cases of numbers and records.
+fn report_numbers(rt: &impl Print) -> io::Result<()> {
     let draw = rng::drawn_u64(Rng::new(0));
-    report(b"C1", draw.next.state == 0x9E37_79B9_7F4A_7C15);
+    report(rt, "C1", draw.next.state == 0x9E37_79B9_7F4A_7C15)?;
     let below = rng::drawn_below(Rng::new(0), 1);
     let drawn = below.value;
-    report(b"C2", is_value(drawn, 0));
+    report(rt, "C2", is_value(drawn, 0))?;
     let server = Stream::Server {
         id: NodeId(1),
         incarnation: 0,
     };
-    report(b"C3", server.tag() == 0x0500_0000_0000_0001);
-    report(
-        b"C4",
-        record::hard_state_bytes(Term(0), NodeOption::None) == 7,
-    );
+    report(rt, "C3", server.tag() == 0x0500_0000_0000_0001)?;
+    let state = record::hard_state_bytes(Term(0), NodeOption::None);
+    report(rt, "C4", state == 7)?;
     let command = PayloadShape::Command { length: 12 };
-    report(
-        b"C5",
-        record::put_bytes(LogIndex(1), Term(1), command) == 21,
-    );
-    report(b"C6", record::truncate_bytes(LogIndex(128)) == 7);
+    let put = record::put_bytes(LogIndex(1), Term(1), command);
+    report(rt, "C5", put == 21)?;
+    report(rt, "C6", record::truncate_bytes(LogIndex(128)) == 7)
+}
+
+// The cases of logs, disks, queues, links and violations.
+fn report_tables(rt: &impl Print) -> io::Result<()> {
     let mut places = [0u8; 128];
-    report(b"C7", gaps_close(&mut places));
+    report(rt, "C7", gaps_close(&mut places))?;
     let mut disk = [0u8; 336];
-    report(b"C8", crash_forgets(&mut disk));
+    report(rt, "C8", crash_forgets(&mut disk))?;
     let mut events = [0u8; 168];
-    report(b"C9", earliest_first(&mut events));
+    report(rt, "C9", earliest_first(&mut events))?;
     let two_groups = Network::new(Duration(0), Rng::new(0)).partition(3 + 256 * 6);
-    report(b"C10", blocked_pairs(two_groups) == 7);
+    report(rt, "C10", blocked_pairs(two_groups) == 7)?;
     let mut one = [0u8; 64];
     let mut other = [0u8; 64];
-    report(b"C11", mismatch_at_2(&mut one, &mut other));
+    report(rt, "C11", mismatch_at_2(&mut one, &mut other))?;
     let mut kept = [0u8; 2048];
-    report(b"C12", first_32_kept(&mut kept));
+    report(rt, "C12", first_32_kept(&mut kept))
+}
+
+fn main(rt: HostRuntime) -> io::Result<()> {
+    report_numbers(&rt)?;
+    report_tables(&rt)
 }

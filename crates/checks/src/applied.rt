@@ -9,7 +9,7 @@ use units::LogIndex;
 
 // A payload against the first applied at its index: the same; another, which breaks state machine safety; none, and the place is the next
 // free one; or the place is further on.
-#[derive(Drop)]
+#[derive(Clone, Copy)]
 pub enum AppliedSeen {
     Same,
     Other,

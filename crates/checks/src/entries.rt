@@ -13,7 +13,7 @@ use layout::{marked, rows};
 use units::{LogIndex, Term};
 
 // An entry against the first seen under its index and term: the same payload; another, which breaks unique entries; or none.
-#[derive(Drop)]
+#[derive(Clone, Copy)]
 pub enum EntrySeen {
     Same,
     Other,

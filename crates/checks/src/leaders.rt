@@ -12,7 +12,7 @@ use layout::rows::Found;
 use units::{NodeId, Term};
 
 // A leader against the first of its term: the same server; another, which breaks election safety; or none.
-#[derive(Drop)]
+#[derive(Clone, Copy)]
 pub enum LeaderSeen {
     Same,
     Other(NodeId),

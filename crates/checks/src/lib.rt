@@ -1,4 +1,6 @@
 // Safety checks (checks.rs).
+#![tactic(auto)]
+
 ghost use Rattle.std.specs.Prelude.{◌≡◌, ◌+◌};
 ghost use Rattle.checks.specs.Checks.{check_number};
 ghost use Rattle.checks.specs.Asked.{counts_code};
@@ -11,7 +13,7 @@ pub mod entries; // the first payload under each index and term: a table sorted 
 pub mod violations; // violations reported: a table of the first 32
 
 // The properties the simulator checks.
-#[derive(Drop)]
+#[derive(Clone, Copy)]
 pub enum Check {
     // At most one leader per term.
     ElectionSafety,
@@ -50,7 +52,7 @@ impl Check {
 }
 
 // The leader of a term: the first server seen to lead it.
-#[derive(Drop)]
+#[derive(Clone, Copy)]
 pub struct TermLeader {
     pub term: Term,
     pub server: NodeId,

@@ -13,7 +13,7 @@ use layout::rows;
 use units::SimTime;
 
 // The numbers of a violation's text, in its order.
-#[derive(Drop)]
+#[derive(Clone, Copy)]
 pub enum Detail {
     One(u64),
     Two(u64, u64),
@@ -22,7 +22,7 @@ pub enum Detail {
 }
 
 // A violation: when it was seen, the check's number, how many numbers its text has, and these; those that are not there are zero.
-#[derive(Drop)]
+#[derive(Clone, Copy)]
 pub struct Violation {
     pub time: SimTime,
     pub check: u64,
@@ -35,7 +35,7 @@ pub struct Violation {
 }
 
 // How many violations are kept and how many there were, after a report; or the total has no 64 bits.
-#[derive(Drop)]
+#[derive(Clone, Copy)]
 pub enum Tally {
     Counted { kept: usize, total: u64 },
     Past64Bits,

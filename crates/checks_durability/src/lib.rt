@@ -1,5 +1,7 @@
 // Durability (check_durability of checks.rs): by the end of a run every server has applied every acknowledged command. The question only
 // counts; each violation is then reported by itself, the replies in order and then the servers.
+#![tactic(auto)]
+
 ghost use Rattle.std.specs.Prelude.{◌≡◌, ◌+◌, ◌*◌, ◌≤◌, length, take};
 ghost use Rattle.layout.specs.Marked.{words_for};
 ghost use Rattle.checks_durability.specs.Durability.{total_code, AsksDurability};
@@ -10,7 +12,7 @@ pub mod servers; // the servers against the highest acknowledged index
 
 // The answer to the question: document 01's number, 0, or 10 where the total of violations would not fit 64 bits; how many violations are
 // to be reported; and the highest acknowledged index, or 0.
-#[derive(Drop)]
+#[derive(Clone, Copy)]
 pub struct DurabilityAsked {
     pub code: u64,
     pub reports: u64,

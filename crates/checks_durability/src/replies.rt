@@ -11,7 +11,7 @@ use layout::rows;
 use units::{LogIndex, SimTime};
 
 // A command whose reply reached its client: when it was first sent, when the reply came, the index at which it was applied, and its key.
-#[derive(Drop)]
+#[derive(Clone, Copy)]
 pub struct Reply {
     pub sent: SimTime,
     pub received: SimTime,
@@ -21,7 +21,7 @@ pub struct Reply {
 }
 
 // The new count; or there is no room for one more, and nothing changed.
-#[derive(Drop)]
+#[derive(Clone, Copy)]
 pub enum Appending {
     Appended(usize),
     Full,

@@ -1,5 +1,7 @@
 // Log matching (checks.rs): two logs that hold a term at one index hold the same entries before it. Logs are lent as their regions (log), each of
 // n places with payloads of up to p bytes.
+#![tactic(auto)]
+
 ghost use Rattle.std.specs.Prelude.{◌≡◌, ◌+◌, ◌*◌, ◌≤◌, min, length};
 ghost use Rattle.laws.specs.Lists.{is_some};
 ghost use Rattle.units.specs.Types.{term_option};
@@ -13,14 +15,14 @@ use units::{LogIndex, Term, TermOption};
 pub mod pairs; // every pair of logs, and mismatches reported
 
 // An index, if there is one.
-#[derive(Drop)]
+#[derive(Clone, Copy)]
 enum IndexOption {
     None,
     Some(LogIndex),
 }
 
 // How two logs break log matching: a term that both hold at an index, and an earlier index at which they differ.
-#[derive(Drop)]
+#[derive(Clone, Copy)]
 pub enum MismatchOption {
     None,
     Some {

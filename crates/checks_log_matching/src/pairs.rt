@@ -15,7 +15,7 @@ use units::{NodeId, SimTime};
 
 // The answer to the question: document 01's number, 0, or 10 where the total of violations would not fit 64 bits; and how many pairs are to
 // be reported.
-#[derive(Drop)]
+#[derive(Clone, Copy)]
 pub struct MatchingAsked {
     pub code: u64,
     pub reports: u64,

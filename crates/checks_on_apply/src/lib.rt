@@ -1,6 +1,8 @@
 // A server applied a payload (on_apply of checks.rs): apply order first, then state machine safety. This asks what is to be reported
 // and whether the payload is kept, over the region of applied payloads; the caller acts (`checks::violations::keep`,
 // `checks::applied::append`).
+#![tactic(auto)]
+
 ghost use Rattle.std.specs.Prelude.{◌≡◌, ◌+◌, ◌*◌, ◌≤◌, length};
 ghost use Rattle.layout.specs.Marked.{words_for};
 ghost use Rattle.checks_on_apply.specs.OnApply.{AsksApply};
@@ -10,7 +12,7 @@ use units::LogIndex;
 
 // 0, or 10 where the payloads have no room or the total no 64 bits; whether another index was expected, whether another payload was applied
 // at the index before, and whether the payload goes to the next free place.
-#[derive(Drop)]
+#[derive(Clone, Copy)]
 pub struct ApplyAsked {
     pub code: u64,
     pub late: bool,
@@ -34,7 +36,7 @@ pub fn on_apply(
     requires content_len { length content.now ≡ 8 * (1 + words_for p) }
     ensures { AsksApply
         (record {
-          applied = applied.entry.now;
+          applied = applied.now;
           count = n;
           room = room;
           longest = p;

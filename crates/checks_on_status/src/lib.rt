@@ -1,6 +1,8 @@
 // A server's status after an input (on_status of checks.rs): election safety, and leader completeness of a new leader's log. This asks what
 // is to be reported and whether the leader is kept, over the regions of leaders, of a log and of applied payloads; the caller acts
 // (`checks::violations::keep`, `checks::leaders::insert`), and keeps for each server the term that it leads.
+#![tactic(auto)]
+
 ghost use Rattle.std.specs.Prelude.{◌≡◌, ◌+◌, ◌*◌, ◌≤◌, ◌<◌, length};
 ghost use Rattle.units.specs.Types.{term_option};
 ghost use Rattle.layout.specs.Marked.{words_for};
@@ -14,7 +16,7 @@ use units::{NodeId, Term, TermOption};
 
 // 0, or 10 where the leaders have no room or the total no 64 bits; whether the server leads; whether another led its term first, and which,
 // or 0; whether it is the term's first leader; whether its log lacks an applied payload, and the first index at which it does, or 0.
-#[derive(Drop)]
+#[derive(Clone, Copy)]
 pub struct StatusAsked {
     pub code: u64,
     pub leads: bool,

@@ -1,5 +1,7 @@
 // A server has written at indexes (on_write of checks.rs): unique entries. This asks what is to be reported and which entries are new, over
 // the regions of entries seen and of a log; the caller acts (`checks::violations::keep`, `checks::entries::insert`), index by index.
+#![tactic(auto)]
+
 ghost use Rattle.std.specs.Prelude.{◌≡◌, ◌+◌, ◌*◌, ◌≤◌, ◌<◌, length};
 ghost use Rattle.layout.specs.Marked.{words_for};
 ghost use Rattle.checks_on_write.specs.OnWrite.{ReadsTerm, AsksWrite};
@@ -12,7 +14,7 @@ use storage::waiting::Shape;
 use units::{LogIndex, Term, TermOption};
 
 // The term of the entry at an index, or 0; whether another payload was seen under both, and whether none was.
-#[derive(Drop)]
+#[derive(Clone, Copy)]
 pub struct WriteAsked {
     pub term: Term,
     pub other: bool,
@@ -76,7 +78,7 @@ pub fn on_write(
 // ---- every put of the waiting writes
 
 // 0, or 10 where the entries have no room or the total no 64 bits; how many entries are new, and how many reports are due.
-#[derive(Drop)]
+#[derive(Clone, Copy)]
 pub struct WritesAsked {
     pub code: u64,
     pub added: u64,
@@ -84,7 +86,7 @@ pub struct WritesAsked {
 }
 
 // A write asked: the place of its index among the marks, whether it gives a report, and whether its entry was not seen before all writes.
-#[derive(Drop)]
+#[derive(Clone, Copy)]
 struct PutAsked {
     place: usize,
     other: bool,
@@ -169,7 +171,7 @@ pub fn on_writes(
     requires p_in_bounds_3 { 8 * (n * (3 + words_for p)) ≤ length seen.now }
     ensures { AsksWrites
         (record {
-          waiting = waiting.entry.now;
+          waiting = waiting.now;
           writes = count;
           log = log.now;
           places = l;

@@ -1,1 +1,2 @@
 // Claims about lists of calls, proved of the definitions: one induction, on states and on an area's bytes.
+#![tactic(auto)]

@@ -1,4 +1,6 @@
 // Client commands (client.rs): the bytes at the start of a command that identify it.
+#![tactic(auto)]
+
 ghost use Rattle.std.specs.Prelude.{◌≡◌, ◌++◌, ◌≤◌, max, length, drop};
 ghost use Rattle.client.specs.Key.{encode, decode};
 
@@ -6,14 +8,14 @@ ghost use Rattle.client.specs.Key.{encode, decode};
 pub const DIRECT: u32 = 4294967295;
 
 // What identifies a command: the client's number and the command's sequence number.
-#[derive(Drop)]
+#[derive(Clone, Copy)]
 pub struct ClientKey {
     pub client: u32,
     pub seq: u64,
 }
 
 // The key of a command, if it has one.
-#[derive(Drop)]
+#[derive(Clone, Copy)]
 pub enum Decoded {
     Key(ClientKey),
     None,

@@ -22,21 +22,21 @@ use protocol::RequestId;
 use units::LogIndex;
 
 // A read index that may be absent: the server stopped leading before its leadership was confirmed.
-#[derive(Drop)]
+#[derive(Clone, Copy)]
 pub enum IndexOption {
     None,
     Some(LogIndex),
 }
 
 // The answer to a request: the read index, or none.
-#[derive(Drop)]
+#[derive(Clone, Copy)]
 pub struct Confirmation {
     pub request: RequestId,
     pub read_index: IndexOption,
 }
 
 // The words of a read index: 1 where there is one, and the index.
-#[derive(Drop)]
+#[derive(Clone, Copy)]
 struct Numbers {
     flag: u64,
     index: u64,

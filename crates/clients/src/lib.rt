@@ -1,4 +1,6 @@
 // The clients of a simulation (`clients` of simulation.rs): rows of 8 words, in the order of their numbers. The caller keeps the count n.
+#![tactic(auto)]
+
 ghost use Rattle.std.specs.Prelude.{◌≡◌, ◌+◌, ◌*◌, ◌≤◌, ◌<◌, length, drop};
 ghost use Rattle.laws.specs.Decides.{Decides};
 ghost use Rattle.words.specs.Words.{W};
@@ -21,14 +23,14 @@ use units::SimTime;
 pub mod confirmations; // the answers to requests to confirm leadership
 
 // The command that a client waits for, if there is one: its sequence number, and when it was first sent.
-#[derive(Drop)]
+#[derive(Clone, Copy)]
 pub enum OutstandingOption {
     None,
     Some { seq: u64, first_sent: SimTime },
 }
 
 // A client: the place of the server it sends to next, its next sequence number, its last attempt, and the command that it waits for.
-#[derive(Drop)]
+#[derive(Clone, Copy)]
 pub struct Client {
     pub target: u64,
     pub next_seq: u64,
@@ -37,7 +39,7 @@ pub struct Client {
 }
 
 // The words of an outstanding command: 1 where there is one, its sequence number, and when it was first sent.
-#[derive(Drop)]
+#[derive(Clone, Copy)]
 struct Numbers {
     flag: u64,
     seq: u64,

@@ -1,4 +1,6 @@
 // Settings and limits of a simulation (config.rs, SimConfig of simulation.rs): document 01's questions 1, 2 and 3, and the area's length.
+#![tactic(auto)]
+
 ghost use Rattle.std.specs.Prelude.{◌≡◌, ◌+◌, ◌*◌, ◌≤◌, ◌^◌};
 ghost use Rattle.config.specs.Config.{validate, accepts, validity_number};
 ghost use Rattle.config.specs.Limits.{within, servers_fit, duration_fits, durations_fit, limits_fit, settings_fit, counts_fit, judge, judged_number, area_length, InLimits};
@@ -6,7 +8,7 @@ ghost use Rattle.config.specs.Limits.{within, servers_fit, duration_fits, durati
 use units::Duration;
 
 // Settings shared by both algorithms.
-#[derive(Drop)]
+#[derive(Clone, Copy)]
 pub struct Config {
     // How often a leader sends heartbeats.
     pub heartbeat_interval: Duration,
@@ -21,7 +23,7 @@ pub struct Config {
 }
 
 // Whether the settings can be used together: the first problem found, or that there is none.
-#[derive(Drop)]
+#[derive(Clone, Copy)]
 pub enum Validity {
     Valid,
     // election_timeout_min must be positive
@@ -82,7 +84,7 @@ impl Config {
 }
 
 // Settings for one simulation.
-#[derive(Drop)]
+#[derive(Clone, Copy)]
 pub struct SimConfig {
     // Number of servers. Their ids are 1 to this number.
     pub servers: u64,
@@ -107,7 +109,7 @@ pub struct SimConfig {
 }
 
 // The capacities of a simulation, by document 01's letters.
-#[derive(Drop)]
+#[derive(Clone, Copy)]
 pub struct Limits {
     // L: log indexes
     pub log_indexes: u64,
@@ -124,7 +126,7 @@ pub struct Limits {
 }
 
 // The answer to questions 1, 2 and 3: accepted, or the first that is answered no.
-#[derive(Drop)]
+#[derive(Clone, Copy)]
 pub enum Judged {
     Accepted,
     // 1: are there 1 to 8 servers?

@@ -1,11 +1,13 @@
 // Faults: scheduled changes to servers and the network (faults.rs).
+#![tactic(auto)]
+
 ghost use Rattle.std.specs.Prelude.{◌≡◌, ◌≤◌};
 ghost use Rattle.faults.specs.Fault.{fault_kind, fault_first, fault_second, only, fault_of, in_cluster, groups_in, targets_known, within_limits, fault_in_range};
 
 use units::{Duration, NodeId};
 
 // A change to the simulated environment.
-#[derive(Drop)]
+#[derive(Clone, Copy)]
 pub enum Fault {
     // Stop a server between inputs.
     Crash(NodeId),
@@ -34,7 +36,7 @@ pub enum Fault {
 }
 
 // A fault, or that three numbers are not those of one.
-#[derive(Drop)]
+#[derive(Clone, Copy)]
 pub enum FaultOption {
     None,
     Some(Fault),

@@ -1,4 +1,6 @@
 // A random fault schedule (faults.rs): its draws and its entries, one fault at a time.
+#![tactic(auto)]
+
 ghost use Rattle.std.specs.Prelude.{◌≡◌, true, [], ◌+◌, ◌-◌, ◌*◌, ◌^◌, ◌≤◌, ◌<◌, min, length};
 ghost use Rattle.faults_chaos.specs.Schedule.{uniform, pick_server, pick_other, no_groups, groups_word, deal, split, start_and_end, blocked_link, crash, crash_during_input, partition, block_link, loss, duplication, crash_leader, slower, fault_of_kind, one_fault, generate, known_ids, times_in_range, chaos_schedule};
 ghost use Rattle.faults_chaos.specs.Answers.{Times, ids_of, duration_drawn, server_drawn, other_drawn, Small, with_bit, deal_one, dealt_of, held_word};
@@ -9,14 +11,14 @@ use rng::Rng;
 use units::{Duration, NodeId, NodeOption, SimTime};
 
 // A fault and when it happens.
-#[derive(Drop)]
+#[derive(Clone, Copy)]
 pub struct Timed {
     pub time: SimTime,
     pub fault: Fault,
 }
 
 // Settings for a random fault schedule.
-#[derive(Drop)]
+#[derive(Clone, Copy)]
 pub struct ChaosConfig {
     // The earliest time a fault may start.
     pub start: SimTime,
@@ -29,21 +31,21 @@ pub struct ChaosConfig {
 }
 
 // A duration drawn, and the generator after the draw.
-#[derive(Drop)]
+#[derive(Clone, Copy)]
 pub struct DrawnDuration {
     pub duration: Duration,
     pub next: Rng,
 }
 
 // A server drawn, and the generator after the draw.
-#[derive(Drop)]
+#[derive(Clone, Copy)]
 pub struct DrawnServer {
     pub server: NodeId,
     pub next: Rng,
 }
 
 // The other end of a blocked link, or that it did not come; the number of draws, and the generator after them.
-#[derive(Drop)]
+#[derive(Clone, Copy)]
 pub struct DrawnOther {
     pub other: NodeOption,
     pub draws: u64,
@@ -51,7 +53,7 @@ pub struct DrawnOther {
 }
 
 // The word of two groups of servers, the number of draws, and the generator after them.
-#[derive(Drop)]
+#[derive(Clone, Copy)]
 pub struct DrawnGroups {
     pub groups: u64,
     pub draws: u64,
@@ -59,7 +61,7 @@ pub struct DrawnGroups {
 }
 
 // A group of servers as bits: all of it, all but its last server, and its last server alone.
-#[derive(Drop)]
+#[derive(Clone, Copy)]
 struct Group {
     all: u64,
     before: u64,
@@ -67,7 +69,7 @@ struct Group {
 }
 
 // Two groups that servers are drawn into, and the generator after the draws.
-#[derive(Drop)]
+#[derive(Clone, Copy)]
 struct Dealt {
     first: Group,
     second: Group,
@@ -75,7 +77,7 @@ struct Dealt {
 }
 
 // The entries of one fault, or that no second server came for a blocked link.
-#[derive(Drop)]
+#[derive(Clone, Copy)]
 pub enum Entries {
     NoSecondServer,
     One(Timed),
@@ -83,7 +85,7 @@ pub enum Entries {
 }
 
 // The entries of one fault, the number of draws, and the generator after them.
-#[derive(Drop)]
+#[derive(Clone, Copy)]
 pub struct DrawnFault {
     pub entries: Entries,
     pub draws: u64,
@@ -91,7 +93,7 @@ pub struct DrawnFault {
 }
 
 // A schedule that is not written yet: the number of its entries and of its draws, and the generator after them; or why there is none.
-#[derive(Drop)]
+#[derive(Clone, Copy)]
 pub enum Planned {
     // There are no servers, or more than 8.
     ServerCount,

@@ -1,5 +1,7 @@
 // A random fault schedule (chaos_schedule of faults.rs), written into a lent list: entries of 32 bytes, a fault's time, its kind and its
 // two numbers, in order of time, equal times as generated. What the list has behind them stays.
+#![tactic(auto)]
+
 ghost use Rattle.std.specs.Prelude.{◌≡◌, ◌+◌, ◌*◌, ◌/◌, ◌≤◌, ◌<◌, length};
 ghost use Rattle.faults_chaos.specs.Schedule.{chaos_schedule};
 ghost use Rattle.faults_chaos.specs.Answers.{ids_of, count_of};
@@ -14,7 +16,7 @@ use rng::Rng;
 use units::{Duration, SimTime};
 
 // A fault of the list: its time and its numbers.
-#[derive(Drop)]
+#[derive(Clone, Copy)]
 struct Listed {
     time: SimTime,
     kind: u64,
@@ -23,14 +25,14 @@ struct Listed {
 }
 
 // A schedule's answer: the number of a refusal (1, 7, 9, 10 or 11), or how many entries were written and how many draws were made.
-#[derive(Drop)]
+#[derive(Clone, Copy)]
 pub enum Scheduled {
     Refused(u64),
     Made { count: u64, draws: u64 },
 }
 
 // A schedule's answer, and the generator after it.
-#[derive(Drop)]
+#[derive(Clone, Copy)]
 pub struct DrawnSchedule {
     pub value: Scheduled,
     pub next: Rng,

@@ -15,7 +15,7 @@ use crate::rows::Found;
 use client::ClientKey;
 
 // What putting a key in answers: how many keys there are then, or that there is no room for it.
-#[derive(Drop)]
+#[derive(Clone, Copy)]
 pub enum Inserting {
     Inserted(usize),
     Full,

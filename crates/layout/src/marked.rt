@@ -35,7 +35,7 @@ pub fn rest_ok(s: &[u8], n: usize, p: usize) -> bool
 // ---- payloads
 
 // A payload's kind, and the length of a command.
-#[derive(Drop)]
+#[derive(Clone, Copy)]
 pub enum Kind {
     Noop,
     Command(usize),

@@ -131,7 +131,7 @@ pub fn place2(s: &[u8], n: usize, w: usize, a: u64, b: u64) -> usize
 }
 
 // Where a key is, or where it would be.
-#[derive(Drop)]
+#[derive(Clone, Copy)]
 pub enum Found {
     At(usize),
     Absent(usize),

@@ -1,4 +1,6 @@
 // The leader of a cluster (simulation.rs, leader), chosen from status records.
+#![tactic(auto)]
+
 ghost use Rattle.std.specs.Prelude.{◌≡◌, length};
 ghost use Rattle.leader.specs.Leader.{not_below, better, or_follower, reported_of, zip_reported, leader};
 
@@ -6,14 +8,14 @@ use protocol::{Role, RoleOption, Status};
 use units::{LogIndex, NodeId, NodeOption, Term};
 
 // A running server's status.
-#[derive(Drop)]
+#[derive(Clone, Copy)]
 pub struct Reported {
     pub id: NodeId,
     pub status: Status,
 }
 
 // The server that leads the highest term, with that term, if any.
-#[derive(Drop)]
+#[derive(Clone, Copy)]
 pub enum LeaderOption {
     None,
     Some { id: NodeId, term: Term },

@@ -1,4 +1,6 @@
 // Measurements (metrics.rs).
+#![tactic(auto)]
+
 ghost use Rattle.std.specs.Prelude.{◌≡◌, true, ◌+◌, ◌^◌, ◌≤◌, ltb};
 ghost use Rattle.laws.specs.Bools.{pick};
 ghost use Rattle.metrics.specs.Metrics.{no_metrics, add, totals_fit, record_send, sent_by, deliver_to_leader, record_sync, record_reply, counted, counters_fit, counted_number};
@@ -6,7 +8,7 @@ ghost use Rattle.metrics.specs.Metrics.{no_metrics, add, totals_fit, record_send
 use units::NodeId;
 
 // Message totals.
-#[derive(Drop)]
+#[derive(Clone, Copy)]
 pub struct Counts {
     pub messages: u64,
     // Zero when byte counting is off.
@@ -15,7 +17,7 @@ pub struct Counts {
 }
 
 // Counters for one run.
-#[derive(Drop)]
+#[derive(Clone, Copy)]
 pub struct Metrics {
     // Every message sent between servers.
     pub sent: Counts,
@@ -32,7 +34,7 @@ pub struct Metrics {
 }
 
 // The metrics with something more counted; unchanged where a counter would pass 64 bits.
-#[derive(Drop)]
+#[derive(Clone, Copy)]
 pub struct Counted {
     pub fits: bool,
     pub metrics: Metrics,

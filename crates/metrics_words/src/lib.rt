@@ -1,5 +1,7 @@
 // The counters of a run in a region of 31 words: the totals of all messages, those of each of the eight servers, and four counters. Totals are three
 // words: messages, bytes, entries.
+#![tactic(auto)]
+
 ghost use Rattle.std.specs.Prelude.{◌≡◌, ◌+◌, ◌*◌, ◌≤◌, length, drop};
 ghost use Rattle.std.proofs.lemmas.List.Edits.{sets};
 ghost use Rattle.laws.specs.Decides.{Decides};

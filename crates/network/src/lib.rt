@@ -1,4 +1,6 @@
 // The simulated network between servers (network.rs), without drop rules.
+#![tactic(auto)]
+
 ghost use Rattle.std.specs.Prelude.{◌≡◌, ◌+◌, ◌-◌, ◌*◌, ◌^◌, ◌≤◌, ◌<◌};
 ghost use Rattle.network.specs.Network.{new, delay, chance, link, route, delivered, in_group, elsewhere, separated, partition, block, unblock, heal_links, set_loss, set_duplication, set_delay_factor, heal_all, link_within, links_within, network_in_range, DelaysFit, Bounds};
 
@@ -6,7 +8,7 @@ use rng::Rng;
 use units::{Duration, NodeId};
 
 // Network conditions between servers.
-#[derive(Drop)]
+#[derive(Clone, Copy)]
 pub struct Network {
     pub base_delay: Duration,
     pub loss_ppm: u32,
@@ -18,14 +20,14 @@ pub struct Network {
 }
 
 // The delay of a second copy, if the network delivers one.
-#[derive(Drop)]
+#[derive(Clone, Copy)]
 pub enum Duplicate {
     None,
     After(Duration),
 }
 
 // What happens to a message.
-#[derive(Drop)]
+#[derive(Clone, Copy)]
 pub enum Route {
     Dropped,
     Delivered {
@@ -35,7 +37,7 @@ pub enum Route {
 }
 
 // A route, the number of draws that it took, and the network after them.
-#[derive(Drop)]
+#[derive(Clone, Copy)]
 pub struct Routed {
     pub route: Route,
     pub draws: u64,
@@ -43,14 +45,14 @@ pub struct Routed {
 }
 
 // A message's delay, and the network after its draw.
-#[derive(Drop)]
+#[derive(Clone, Copy)]
 pub struct Delayed {
     pub delay: Duration,
     pub network: Network,
 }
 
 // Whether something of a probability happens, the number of draws that this took, and the network after them.
-#[derive(Drop)]
+#[derive(Clone, Copy)]
 pub struct Chance {
     pub happens: bool,
     pub draws: u64,

@@ -1,5 +1,7 @@
 // The network in a region of 5 words: loss, duplication, delay factor, blocked links, the generator's state. The base delay is the
 // settings' one-way delay and is not stored.
+#![tactic(auto)]
+
 ghost use Rattle.std.specs.Prelude.{◌≡◌, ◌+◌, ◌*◌, ◌%◌, ◌^◌, ◌≤◌, length, get_or};
 ghost use Rattle.laws.specs.Bools.{pick};
 ghost use Rattle.laws.specs.Decides.{Decides};

@@ -1,11 +1,13 @@
 // What a server reports and asks for (protocol.rs): timers, requests, roles and status.
+#![tactic(auto)]
+
 ghost use Rattle.std.specs.Prelude.{◌≡◌};
 ghost use Rattle.protocol.specs.Numbers.{timer_number, timer_of, role_number, role_of, leads};
 
 use units::{LogIndex, NodeOption, Term};
 
 // The timers a server can set.
-#[derive(Drop)]
+#[derive(Clone, Copy)]
 pub enum Timer {
     Election,
     Heartbeat,
@@ -24,7 +26,7 @@ impl Timer {
 }
 
 // A timer, or none where a number is no timer's.
-#[derive(Drop)]
+#[derive(Clone, Copy)]
 pub enum TimerOption {
     None,
     Some(Timer),
@@ -42,11 +44,11 @@ pub fn timer_of(n: u64) -> TimerOption
 }
 
 // Identifies a request to confirm leadership. Chosen by the host.
-#[derive(Drop)]
+#[derive(Clone, Copy)]
 pub struct RequestId(pub u64);
 
 // A server's role.
-#[derive(Drop)]
+#[derive(Clone, Copy)]
 pub enum Role {
     Follower,
     Candidate,
@@ -78,7 +80,7 @@ impl Role {
 }
 
 // A role, or none where a number is no role's.
-#[derive(Drop)]
+#[derive(Clone, Copy)]
 pub enum RoleOption {
     None,
     Some(Role),
@@ -97,7 +99,7 @@ pub fn role_of(n: u64) -> RoleOption
 }
 
 // A server's state as it reports it.
-#[derive(Drop)]
+#[derive(Clone, Copy)]
 pub struct Status {
     pub role: Role,
     pub term: Term,

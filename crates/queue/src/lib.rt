@@ -1,4 +1,6 @@
 // The event queue (queue.rs) and the events in it (simulation.rs Event).
+#![tactic(auto)]
+
 use faults::Fault;
 use protocol::Timer;
 use units::{LogIndex, NodeId, NodeOption};
@@ -8,7 +10,7 @@ pub mod range; // the ranges of an event
 pub mod table; // the queue as a table
 
 // What happens next. A message's bytes stand beside its event.
-#[derive(Drop)]
+#[derive(Clone, Copy)]
 pub enum Event {
     Start {
         slot: u64,

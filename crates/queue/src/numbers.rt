@@ -9,7 +9,7 @@ use protocol::{Timer, TimerOption};
 use units::{LogIndex, NodeId, NodeOption};
 
 // The numbers of an event.
-#[derive(Drop)]
+#[derive(Clone, Copy)]
 pub struct EventWords {
     pub kind: u64,
     pub a: u64,
@@ -19,7 +19,7 @@ pub struct EventWords {
 }
 
 // An event, or none where numbers are not those of one.
-#[derive(Drop)]
+#[derive(Clone, Copy)]
 pub enum EventOption {
     None,
     Some(Event),

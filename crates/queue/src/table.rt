@@ -54,7 +54,7 @@ fn numbers_in(s: &[u8]) -> EventWords
 }
 
 // The earliest event, and the length of its message.
-#[derive(Drop)]
+#[derive(Clone, Copy)]
 pub struct Earliest {
     pub time: SimTime,
     pub event: Event,

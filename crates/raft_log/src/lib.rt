@@ -1,6 +1,8 @@
 // A log of a fixed number n of places (consensus/storage.rs) in a region of bytes: place i holds the entry at index i + 1, or none. A place is
 // a row of 2 + ⌈p/8⌉ words, where p is the greatest length of a command: the payload (layout, marked.rt), whose first word is 0 where no
 // entry is, and then the term. A reader whose answer is right of whatever rows the bytes say speaks of `rows_in`.
+#![tactic(auto)]
+
 ghost use Rattle.std.specs.Prelude.{◌≡◌, ◌+◌, ◌-◌, ◌*◌, ◌≤◌, ◌<◌, length, drop};
 ghost use Rattle.laws.specs.Decides.{Decides};
 ghost use Rattle.units.specs.Types.{payload_of};
@@ -15,7 +17,7 @@ use layout::{marked, rows};
 use units::{LogIndex, Term, TermOption};
 
 // What stands at an index: nothing, or an entry of either kind with its term, and the length of a command.
-#[derive(Drop)]
+#[derive(Clone, Copy)]
 pub enum Place {
     None,
     Noop { term: Term },

@@ -1,11 +1,13 @@
 // The size of each write of a server in its write-ahead log (record_bytes of storage.rs): postcard lengths from leading zero bits.
+#![tactic(auto)]
+
 ghost use Rattle.std.specs.Prelude.{◌≡◌, ◌+◌, ◌≤◌, ◌^◌, length};
 ghost use Rattle.record.specs.Postcard.{varint, option, payload, zeros, hard_state_record, truncate_record, framed, record_bytes, put_bytes, command_length};
 
 use units::{LogIndex, NodeOption, Term};
 
 // The shape of a payload: nothing, or a command of so many bytes.
-#[derive(Drop)]
+#[derive(Clone, Copy)]
 pub enum PayloadShape {
     Noop,
     Command { length: u64 },

@@ -10,7 +10,7 @@ use storage::{HardState, StorageState, write};
 use units::{LogIndex, Term};
 
 // A disk after an operation: whether the operation was made, and of a sync whether there was anything to write, and how many bytes.
-#[derive(Drop)]
+#[derive(Clone, Copy)]
 struct Operated {
     state: StorageState,
     made: bool,
@@ -237,7 +237,7 @@ fn logs_told(disk: &[u8], row: &[u8]) -> bool
 }
 
 // A disk after a row, and whether the row agrees.
-#[derive(Drop)]
+#[derive(Clone, Copy)]
 struct Replayed {
     state: StorageState,
     agrees: bool,

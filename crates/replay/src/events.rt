@@ -9,14 +9,14 @@ use queue::{Event, table};
 use units::{LogIndex, NodeId, SimTime};
 
 // A queue's count after a row, and whether the row agrees.
-#[derive(Drop)]
+#[derive(Clone, Copy)]
 struct Replayed {
     count: usize,
     agrees: bool,
 }
 
 // An event's kind and its four numbers, 0 where it has fewer.
-#[derive(Drop)]
+#[derive(Clone, Copy)]
 struct EventNumbers {
     kind: u64,
     a: u64,

@@ -46,7 +46,7 @@ fn links_are(n: Network, word: u64) -> bool {
 }
 
 // A network after a row, and whether the row agrees.
-#[derive(Drop)]
+#[derive(Clone, Copy)]
 struct Replayed {
     network: Network,
     agrees: bool,

@@ -1,6 +1,7 @@
 // Replays recorded answers of the Rust's modules (data/, made by host/record): each row is computed again and compared. One line a file.
-ghost use Rattle.std.specs.Prelude.{◌+◌, ◌^◌, ◌≤◌, ◌<◌};
-ghost use Rattle.io.specs.Counts.{IsPrefixLen};
+#![tactic(auto)]
+
+ghost use Rattle.std.specs.Prelude.{◌≡◌, ◌+◌, ◌^◌, ◌≤◌, ◌<◌, IfOk, vec_len};
 ghost use Rattle.network.specs.Network.{DelaysFit};
 ghost use Rattle.record.specs.Postcard.{command_length};
 
@@ -13,15 +14,17 @@ mod settings; // settings and limits
 
 use client::Decoded;
 use config::{Config, Validity};
-use libc::STDOUT_FILENO;
 use network::{Duplicate, Network, Route};
 use record::PayloadShape;
 use rng::{Bounded, Rng};
 use seeds::Stream;
+use std::io::Read;
+use std::rt::Files;
+use std::{fs, io};
 use units::{Duration, LogIndex, NodeId, NodeOption, Term};
 
 // A file of rows that are compared one by one.
-#[derive(Drop)]
+#[derive(Clone, Copy)]
 enum File {
     Draws,
     Below,
@@ -230,7 +233,7 @@ fn record_agrees(row: &[u8]) -> bool {
 }
 
 // A route as four numbers: delivered, delay, copied, the copy's delay.
-#[derive(Drop)]
+#[derive(Clone, Copy)]
 struct Fate {
     delivered: u64,
     delay: u64,
@@ -300,7 +303,8 @@ fn conditions(
     }
 }
 
-// One-way delay, loss, duplication, factor, 1 where the link is blocked, state; delivered, delay, copied, the copy's delay, draws, next state.
+// One-way delay, loss, duplication, factor, 1 where the link is blocked, state; delivered, delay, copied, the copy's delay, draws, next
+// state.
 fn route_agrees(row: &[u8]) -> bool {
     if row.len() != 96 {
         return false;
@@ -351,7 +355,7 @@ fn agrees(file: File, row: &[u8]) -> bool {
 }
 
 // How many rows were compared, how many of them differ, and the first that does, counted from 1, or 0.
-#[derive(Drop)]
+#[derive(Clone, Copy)]
 struct Tally {
     rows: u64,
     differ: u64,
@@ -412,92 +416,94 @@ fn compared(file: File, s: &[u8]) -> Tally {
     tally
 }
 
-fn report(name: &[u8], t: Tally) {
-    io::write_all(STDOUT_FILENO, name);
-    io::write_all(STDOUT_FILENO, b": ");
-    io::print_decimal(STDOUT_FILENO, t.rows);
-    io::write_all(STDOUT_FILENO, b" rows, ");
-    io::print_decimal(STDOUT_FILENO, t.differ);
-    io::write_all(STDOUT_FILENO, b" differ");
-    if t.differ != 0 {
-        io::write_all(STDOUT_FILENO, b", the first is row ");
-        io::print_decimal(STDOUT_FILENO, t.first);
+// Writes what the comparison of a file gave.
+fn report(rt: &impl Print, name: &str, t: Tally) -> io::Result<()> {
+    let rows = t.rows;
+    let differ = t.differ;
+    print!(rt; "{name}: {rows} rows, {differ} differ")?;
+    if differ != 0 {
+        let first = t.first;
+        print!(rt; ", the first is row {first}")?;
     }
-    io::write_all(STDOUT_FILENO, b"\n");
+    println!(rt;)
 }
 
-// Reads a file to the front of a buffer; nothing where it cannot be opened.
-fn read(path: &[u8], buffer: &mut [u8]) -> usize
-    ensures { IsPrefixLen result buffer.new }
+// Reads a file into a buffer, in place of what it held; gives how many bytes.
+fn read(rt: &impl Files, path: &str, buffer: &mut Vec<u8>) -> io::Result<usize>
+    ensures { IfOk result (λ n. n ≡ vec_len buffer.new) }
 {
-    let file = os::open_read(path);
-    if file < 0 {
-        os::fail(path);
-        return 0;
-    }
-    let n = io::read_full(file, buffer);
-    libc::close(file);
-    n
+    buffer.clear();
+    let mut file = fs::open(rt, path)?;
+    file.read_to_end(buffer)
 }
 
 // Reads and compares one file.
-fn replay(name: &[u8], path: &[u8], file: File, buffer: &mut [u8]) {
-    let n = read(path, buffer);
-    report(name, compared(file, &buffer[..n]));
+fn replay(
+    rt: &(impl Files + Print),
+    name: &str,
+    path: &str,
+    file: File,
+    buffer: &mut Vec<u8>,
+) -> io::Result<()> {
+    read(rt, path, buffer)?;
+    report(rt, name, compared(file, buffer))
 }
 
-fn replay_links(buffer: &mut [u8]) {
-    let n = read(b"links.bin", buffer);
-    report(b"links", links::compared(&buffer[..n]));
+fn replay_links(rt: &(impl Files + Print), buffer: &mut Vec<u8>) -> io::Result<()> {
+    read(rt, "links.bin", buffer)?;
+    report(rt, "links", links::compared(buffer))
 }
 
-fn replay_queue(buffer: &mut [u8]) {
-    let n = read(b"queue.bin", buffer);
+fn replay_queue(rt: &(impl Files + Print), buffer: &mut Vec<u8>) -> io::Result<()> {
+    read(rt, "queue.bin", buffer)?;
     let mut area = [0u8; 11264];
-    report(b"queue", events::compared(&buffer[..n], &mut area));
+    report(rt, "queue", events::compared(buffer, &mut area))
 }
 
-fn replay_disk(buffer: &mut [u8]) {
-    let n = read(b"disk.bin", buffer);
+fn replay_disk(rt: &(impl Files + Print), buffer: &mut Vec<u8>) -> io::Result<()> {
+    read(rt, "disk.bin", buffer)?;
     let mut disk = [0u8; 1408];
-    report(b"disk", disk::compared(&buffer[..n], &mut disk));
+    report(rt, "disk", disk::compared(buffer, &mut disk))
 }
 
-fn replay_schedules(buffer: &mut [u8]) {
-    let n = read(b"schedules.bin", buffer);
+fn replay_schedules(rt: &(impl Files + Print), buffer: &mut Vec<u8>) -> io::Result<()> {
+    read(rt, "schedules.bin", buffer)?;
     let mut list = [0u8; 2048];
-    report(b"schedules", schedules::compared(&buffer[..n], &mut list));
+    report(rt, "schedules", schedules::compared(buffer, &mut list))
 }
 
-fn main() {
-    let mut buffer = io::large_buffer();
-    replay(b"draws", b"draws.bin", File::Draws, &mut buffer);
-    replay(b"below", b"below.bin", File::Below, &mut buffer);
-    replay(b"seeds", b"seeds.bin", File::Seeds, &mut buffer);
+fn main(rt: HostRuntime) -> io::Result<()> {
+    let mut rows = Vec::new(rt.alloc());
+    replay(&rt, "draws", "draws.bin", File::Draws, &mut rows)?;
+    replay(&rt, "below", "below.bin", File::Below, &mut rows)?;
+    replay(&rt, "seeds", "seeds.bin", File::Seeds, &mut rows)?;
     replay(
-        b"client encode",
-        b"client_encode.bin",
+        &rt,
+        "client encode",
+        "client_encode.bin",
         File::ClientEncode,
-        &mut buffer,
-    );
+        &mut rows,
+    )?;
     replay(
-        b"client decode",
-        b"client_decode.bin",
+        &rt,
+        "client decode",
+        "client_decode.bin",
         File::ClientDecode,
-        &mut buffer,
-    );
-    replay(b"config", b"config.bin", File::Config, &mut buffer);
-    replay(b"settings", b"settings.bin", File::Settings, &mut buffer);
-    replay(b"records", b"records.bin", File::Records, &mut buffer);
-    replay(b"routes", b"routes.bin", File::Routes, &mut buffer);
-    replay_links(&mut buffer);
-    replay_queue(&mut buffer);
-    replay_disk(&mut buffer);
+        &mut rows,
+    )?;
+    replay(&rt, "config", "config.bin", File::Config, &mut rows)?;
+    replay(&rt, "settings", "settings.bin", File::Settings, &mut rows)?;
+    replay(&rt, "records", "records.bin", File::Records, &mut rows)?;
+    replay(&rt, "routes", "routes.bin", File::Routes, &mut rows)?;
+    replay_links(&rt, &mut rows)?;
+    replay_queue(&rt, &mut rows)?;
+    replay_disk(&rt, &mut rows)?;
     replay(
-        b"log matching",
-        b"log_matching.bin",
+        &rt,
+        "log matching",
+        "log_matching.bin",
         File::LogMatching,
-        &mut buffer,
-    );
-    replay_schedules(&mut buffer);
+        &mut rows,
+    )?;
+    replay_schedules(&rt, &mut rows)
 }

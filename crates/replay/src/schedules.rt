@@ -123,7 +123,7 @@ fn bytes_agree(list: &[u8], size: usize, read: usize, row: &[u8]) -> bool
 }
 
 // The length of the last head's list, how much of it was read, and whether the row agrees.
-#[derive(Drop)]
+#[derive(Clone, Copy)]
 struct Replayed {
     size: usize,
     read: usize,

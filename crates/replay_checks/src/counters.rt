@@ -121,7 +121,7 @@ fn told(m: Metrics, row: &[u8]) -> bool
 }
 
 // The counters after a row, and whether the row agrees.
-#[derive(Drop)]
+#[derive(Clone, Copy)]
 struct Replayed {
     metrics: Metrics,
     agrees: bool,

@@ -1,17 +1,20 @@
 // Replays recorded answers of checks.rs, metrics.rs and the choice of a leader (data/, made by host/record): each row is computed again and
 // compared. One line a file.
-ghost use Rattle.std.specs.Prelude.{◌+◌, ◌^◌, ◌≤◌, ◌<◌};
-ghost use Rattle.io.specs.Counts.{IsPrefixLen};
+#![tactic(auto)]
+
+ghost use Rattle.std.specs.Prelude.{◌≡◌, ◌+◌, ◌^◌, ◌≤◌, ◌<◌, IfOk, vec_len};
 
 mod leading; // the leader of a list of statuses
 mod counters; // operations on the counters
 mod checking; // the checks, over an area
 mod operations; // one operation of the checks
 
-use libc::STDOUT_FILENO;
+use std::io::Read;
+use std::rt::Files;
+use std::{fs, io};
 
 // How many rows were compared, how many of them differ, and the first that does, counted from 1, or 0.
-#[derive(Drop)]
+#[derive(Clone, Copy)]
 struct Tally {
     rows: u64,
     differ: u64,
@@ -59,53 +62,46 @@ fn tallied(t: Tally, agrees: bool) -> Tally
     }
 }
 
-fn report(name: &[u8], t: Tally) {
-    io::write_all(STDOUT_FILENO, name);
-    io::write_all(STDOUT_FILENO, b": ");
-    io::print_decimal(STDOUT_FILENO, t.rows);
-    io::write_all(STDOUT_FILENO, b" rows, ");
-    io::print_decimal(STDOUT_FILENO, t.differ);
-    io::write_all(STDOUT_FILENO, b" differ");
-    if t.differ != 0 {
-        io::write_all(STDOUT_FILENO, b", the first is row ");
-        io::print_decimal(STDOUT_FILENO, t.first);
+// Writes what the comparison of a file gave.
+fn report(rt: &impl Print, name: &str, t: Tally) -> io::Result<()> {
+    let rows = t.rows;
+    let differ = t.differ;
+    print!(rt; "{name}: {rows} rows, {differ} differ")?;
+    if differ != 0 {
+        let first = t.first;
+        print!(rt; ", the first is row {first}")?;
     }
-    io::write_all(STDOUT_FILENO, b"\n");
+    println!(rt;)
 }
 
-// Reads a file to the front of a buffer; nothing where it cannot be opened.
-fn read(path: &[u8], buffer: &mut [u8]) -> usize
-    ensures { IsPrefixLen result buffer.new }
+// Reads a file into a buffer, in place of what it held; gives how many bytes.
+fn read(rt: &impl Files, path: &str, buffer: &mut Vec<u8>) -> io::Result<usize>
+    ensures { IfOk result (λ n. n ≡ vec_len buffer.new) }
 {
-    let file = os::open_read(path);
-    if file < 0 {
-        os::fail(path);
-        return 0;
-    }
-    let n = io::read_full(file, buffer);
-    libc::close(file);
-    n
+    buffer.clear();
+    let mut file = fs::open(rt, path)?;
+    file.read_to_end(buffer)
 }
 
-fn replay_leaders(buffer: &mut [u8]) {
-    let n = read(b"leader.bin", buffer);
-    report(b"leader", leading::compared(&buffer[..n]));
+fn replay_leaders(rt: &(impl Files + Print), buffer: &mut Vec<u8>) -> io::Result<()> {
+    read(rt, "leader.bin", buffer)?;
+    report(rt, "leader", leading::compared(buffer))
 }
 
-fn replay_metrics(buffer: &mut [u8]) {
-    let n = read(b"metrics.bin", buffer);
-    report(b"metrics", counters::compared(&buffer[..n]));
+fn replay_metrics(rt: &(impl Files + Print), buffer: &mut Vec<u8>) -> io::Result<()> {
+    read(rt, "metrics.bin", buffer)?;
+    report(rt, "metrics", counters::compared(buffer))
 }
 
-fn replay_checks(buffer: &mut [u8]) {
-    let n = read(b"checks.bin", buffer);
+fn replay_checks(rt: &(impl Files + Print), buffer: &mut Vec<u8>) -> io::Result<()> {
+    read(rt, "checks.bin", buffer)?;
     let mut area = [0u8; 7880];
-    report(b"checks", checking::compared(&buffer[..n], &mut area));
+    report(rt, "checks", checking::compared(buffer, &mut area))
 }
 
-fn main() {
-    let mut buffer = [0u8; 131072];
-    replay_leaders(&mut buffer);
-    replay_metrics(&mut buffer);
-    replay_checks(&mut buffer);
+fn main(rt: HostRuntime) -> io::Result<()> {
+    let mut rows = Vec::new(rt.alloc());
+    replay_leaders(&rt, &mut rows)?;
+    replay_metrics(&rt, &mut rows)?;
+    replay_checks(&rt, &mut rows)
 }

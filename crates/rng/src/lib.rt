@@ -1,23 +1,25 @@
 // Deterministic random numbers (crates/consensus/src/rng.rs): the generator SplitMix64 of Steele, Lea and Flood, "Fast Splittable
 // Pseudorandom Number Generators", OOPSLA 2014.
+#![tactic(auto)]
+
 ghost use Rattle.std.specs.Prelude.{◌≡◌, ◌+◌, ◌-◌, ◌*◌, ◌/◌, ◌%◌, ◌^◌, ◌<◌, ◌≤◌};
 ghost use Rattle.rng.specs.Rng.{Parts, new, next_u64, under, below, bounded_number, below_number};
 
 // A seeded SplitMix64 generator.
-#[derive(Drop)]
+#[derive(Clone, Copy)]
 pub struct Rng {
     pub state: u64,
 }
 
 // A draw: its value, and the generator after it.
-#[derive(Drop)]
+#[derive(Clone, Copy)]
 pub struct Drawn {
     pub value: u64,
     pub next: Rng,
 }
 
 // A number below a bound, or that the bound is zero, where the Rust panics.
-#[derive(Drop)]
+#[derive(Clone, Copy)]
 pub enum Bounded {
     Value(u64),
     ZeroBound,
@@ -36,7 +38,7 @@ impl Bounded {
 }
 
 // A draw below a bound: its value, and the generator after it.
-#[derive(Drop)]
+#[derive(Clone, Copy)]
 pub struct DrawnBelow {
     pub value: Bounded,
     pub next: Rng,
@@ -46,7 +48,7 @@ pub struct DrawnBelow {
 const HALF: u64 = 0x1_0000_0000;
 
 // A product of 128 bits, in two parts of 64 bits.
-#[derive(Drop)]
+#[derive(Clone, Copy)]
 struct Wide {
     high: u64,
     low: u64,

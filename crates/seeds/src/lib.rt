@@ -1,4 +1,6 @@
 // Independent random streams derived from one seed (seeds.rs).
+#![tactic(auto)]
+
 ghost use Rattle.std.specs.Prelude.{◌≡◌};
 ghost use Rattle.seeds.specs.Seeds.{tag, stream_seed, stream_rng};
 
@@ -6,7 +8,7 @@ use rng::Rng;
 use units::NodeId;
 
 // A part of the simulation that draws random numbers.
-#[derive(Drop)]
+#[derive(Clone, Copy)]
 pub enum Stream {
     // Fault schedules.
     Faults,

@@ -1,5 +1,7 @@
 // An entry applied (apply of simulation.rs), behind the gate: it is checked, the server's next index to apply is the one behind it, and where
 // the server had accepted it from a client, the reply is sent.
+#![tactic(auto)]
+
 ghost use Rattle.std.specs.Prelude.{◌≡◌, ◌*◌, ◌≤◌, ◌<◌, length};
 ghost use Rattle.units.specs.Types.{payload_of};
 ghost use Rattle.model.specs.Calls.{output_apply};
@@ -31,7 +33,7 @@ use state::{Capacity, Gate, ServerState};
 use units::{LogIndex, NodeId};
 
 // What applying asks before question 10: 0, or the refusal; the place of the server.
-#[derive(Drop)]
+#[derive(Clone, Copy)]
 pub struct Asked {
     pub code: u64,
     pub slot: u64,

@@ -1,5 +1,7 @@
 // A client sends its outstanding command (client_attempt of simulation.rs): a delay is drawn, and the command's arrival and its timeout are
 // pushed.
+#![tactic(auto)]
+
 ghost use Rattle.std.specs.Prelude.{◌≡◌, ◌<◌};
 ghost use Rattle.clients.specs.Clients.{client_of};
 ghost use Rattle.state.specs.Changes.{Inside, Reads, Changes};

@@ -1,4 +1,6 @@
 // The checks on request (check_log_matching and check_durability of simulation.rs), behind the gate.
+#![tactic(auto)]
+
 ghost use Rattle.state.specs.Changes.{Inside, Reads};
 ghost use Rattle.sim_checks.specs.Steps.{closed_of};
 

@@ -1,5 +1,7 @@
 // The events of clients (simulation.rs), over an area: for each, whether the state that it gives fits, and what it does. Whether it fits is
 // asked before the event is taken: the time that it brings and the places that the queue then has are arguments.
+#![tactic(auto)]
+
 ghost use Rattle.std.specs.Prelude.{◌≡◌, ◌<◌};
 ghost use Rattle.state.specs.Changes.{Reads, Changes};
 ghost use Rattle.sim_outputs.specs.Outputs.{Passed};

@@ -22,7 +22,7 @@ use state::Capacity;
 use units::{NodeOption, SimTime};
 
 // The place of a server, if it is known.
-#[derive(Drop)]
+#[derive(Clone, Copy)]
 pub enum SlotOption {
     None,
     Some(u64),

@@ -15,7 +15,7 @@ use units::NodeId;
 // ---- propose
 
 // What a direct proposal will do, or the refusal.
-#[derive(Drop)]
+#[derive(Clone, Copy)]
 pub struct ProposalAsked {
     pub code: u64,
     // The place of the server, and whether it runs.

@@ -1,4 +1,6 @@
 // The direct calls (propose, fire_timer, confirm_leadership of simulation.rs), behind the gate: each opens an input of a server that runs.
+#![tactic(auto)]
+
 ghost use Rattle.std.specs.Prelude.{◌≡◌, ◌<◌};
 ghost use Rattle.model.specs.Calls.{fire_timer};
 ghost use Rattle.state.specs.Changes.{Inside, Gated};
@@ -14,7 +16,7 @@ use units::NodeId;
 pub mod asked; // a proposal, leadership to be confirmed
 
 // What a direct call asks of its server: 0, or the refusal; its place, and whether it runs.
-#[derive(Drop)]
+#[derive(Clone, Copy)]
 pub struct DirectAsked {
     pub code: u64,
     pub slot: u64,

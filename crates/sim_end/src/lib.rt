@@ -1,5 +1,7 @@
 // The end of an input (finish_input of simulation.rs), behind the gate: the status checks, the status and the gaps of the log, a refused
 // client's redirect, and what is owed.
+#![tactic(auto)]
+
 ghost use Rattle.std.specs.Prelude.{◌≡◌, true, ◌<◌};
 ghost use Rattle.model.specs.Calls.{role_of, node_option, end};
 ghost use Rattle.state.specs.Parts.{open_of};

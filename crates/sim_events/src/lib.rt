@@ -1,5 +1,7 @@
 // What an event does once it is taken (process of simulation.rs), over an area: the state after it, and the input that it opens. Whether
 // that state fits is asked before the event is taken.
+#![tactic(auto)]
+
 ghost use Rattle.std.specs.Prelude.{◌≡◌, [], ◌<◌};
 ghost use Rattle.queue.specs.declared.Event.TheVariants.{Start, Timer as TimerEvent};
 ghost use Rattle.state.specs.Changes.{Inside, Reads, Changes};

@@ -1,4 +1,6 @@
 // Faults that happen (apply_fault of simulation.rs): whether the state that one gives fits, and what it does.
+#![tactic(auto)]
+
 ghost use Rattle.std.specs.Prelude.{◌≡◌, true};
 ghost use Rattle.faults.specs.Fault.{fault_in_range};
 ghost use Rattle.state.specs.Changes.{Inside, Reads};

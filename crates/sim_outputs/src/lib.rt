@@ -1,4 +1,6 @@
 // The output calls that set timers and answer leadership checks (carry_out of simulation.rs), behind the gate, and what all output calls share.
+#![tactic(auto)]
+
 ghost use Rattle.std.specs.Prelude.{◌≡◌};
 ghost use Rattle.sim_outputs.specs.Outputs.{Passed, IsSender, asks_code, Sums};
 
@@ -8,7 +10,7 @@ pub mod timers; // a timer set or cancelled
 pub mod confirmations; // leadership confirmed or lost
 
 // A sum that may pass 64 bits.
-#[derive(Drop)]
+#[derive(Clone, Copy)]
 pub struct Sum {
     pub fits: bool,
     // The sum where it fits, else 0.
@@ -16,14 +18,14 @@ pub struct Sum {
 }
 
 // The server of the open input, by its place, and whether outputs belong to that input.
-#[derive(Drop)]
+#[derive(Clone, Copy)]
 pub struct Sender {
     pub ready: bool,
     pub slot: u64,
 }
 
 // What a timer's call will write, or its refusal.
-#[derive(Drop)]
+#[derive(Clone, Copy)]
 pub struct TimerPlan {
     pub code: u64,
     pub slot: u64,

@@ -1,5 +1,7 @@
 // Servers started and stopped, and what is owed after an input (start_server, stop_server, restart_server of simulation.rs, and its two loops
 // that start servers).
+#![tactic(auto)]
+
 ghost use Rattle.std.specs.Prelude.{◌≡◌};
 ghost use Rattle.state.specs.Parts.{owed_in};
 ghost use Rattle.sim_owed.specs.Servers.{owed_of, kind_of, place_of};
@@ -8,7 +10,7 @@ pub mod servers; // servers started, stopped and restarted
 pub mod closes; // what goes on once an input is closed
 
 // What is left of a loop over the servers once the open input is closed: nothing; the construction, or a HealAll, from a place on.
-#[derive(Drop)]
+#[derive(Clone, Copy)]
 pub enum Owed {
     Nothing,
     Construction(u64),

@@ -1,4 +1,6 @@
 // The reads of one server (storage, status, applied and sent_by of simulation.rs), behind the gate.
+#![tactic(auto)]
+
 ghost use Rattle.std.specs.Prelude.{◌≡◌, ◌-◌, ◌<◌};
 ghost use Rattle.std.proofs.Math.Option.{some};
 ghost use Rattle.model.specs.Reads.{read_hard_state, read_log, read_status, read_applied, read_sent_by};
@@ -8,16 +10,16 @@ ghost use Rattle.answers.specs.Answers.{nodePresent, nodeId, hard_state_no, hard
 ghost use Rattle.sim_reads.specs.Servers.{AsksServer, log_read, status_given, sent_at, entry_given, EntryRead};
 
 use answers::{AppliedAnswer, EntryAnswer, HardStateAnswer, LogAnswer, SentByAnswer, StatusAnswer};
-use raft_log::Place;
 use metrics::Counts;
 use protocol::Status;
+use raft_log::Place;
 use state::{Capacity, Gate, StatusOption};
 use state_disk::LogNumbers;
 use storage::HardState;
 use units::{LogIndex, NodeId, NodeOption};
 
 // What a read asks of its server: 0, or 7; the server's place.
-#[derive(Drop)]
+#[derive(Clone, Copy)]
 pub struct ServerAsked {
     pub code: u64,
     pub slot: u64,

@@ -1,4 +1,6 @@
 // The reads of what a run reports (violations, metrics and applied payloads of simulation.rs), behind the gate.
+#![tactic(auto)]
+
 ghost use Rattle.std.specs.Prelude.{◌≡◌};
 ghost use Rattle.model.specs.Reads.{read_violation, read_metrics};
 ghost use Rattle.state.specs.Changes.{Inside, Gated, Reads};

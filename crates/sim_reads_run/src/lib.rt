@@ -1,4 +1,6 @@
 // The reads of the run as a whole (leader, replies, confirmations, violations, metrics and the rest of simulation.rs), behind the gate.
+#![tactic(auto)]
+
 ghost use Rattle.std.specs.Prelude.{◌≡◌};
 ghost use Rattle.model.specs.Reads.{read_leader, read_run, read_settings, read_reply, read_confirmation};
 ghost use Rattle.state.specs.Changes.{Inside, Gated, Reads};

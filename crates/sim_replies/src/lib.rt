@@ -1,5 +1,7 @@
 // What a server sends to a client (simulation.rs): the client's key goes, one network delay is drawn, and an event reaches the client so much
 // later. The redirect of a refused proposal is one such event.
+#![tactic(auto)]
+
 ghost use Rattle.std.specs.Prelude.{◌≡◌, ◌<◌};
 ghost use Rattle.state.specs.Changes.{Inside, Changes, Reads};
 ghost use Rattle.sim_replies.specs.Replies.{

@@ -8,7 +8,7 @@ ghost use Rattle.sim_schedule.specs.Given.{targets_of, targets_in, within_of, As
 use faults::{Fault, FaultOption};
 
 // What is asked of the fault.
-#[derive(Drop)]
+#[derive(Clone, Copy)]
 pub struct FaultAsked {
     // Whether every server that it names is in the cluster.
     pub known: bool,

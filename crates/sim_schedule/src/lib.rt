@@ -1,4 +1,6 @@
 // A fault scheduled (schedule of simulation.rs), behind the gate.
+#![tactic(auto)]
+
 ghost use Rattle.std.specs.Prelude.{◌≡◌, max};
 ghost use Rattle.model.specs.Calls.{schedule};
 ghost use Rattle.state.specs.Changes.{Inside, Gated};
@@ -15,7 +17,7 @@ use units::SimTime;
 pub mod given; // the fault of the call's numbers
 
 // What scheduling a fault will push, or the refusal.
-#[derive(Drop)]
+#[derive(Clone, Copy)]
 pub struct SchedulePlan {
     pub code: u64,
     pub time: u64,

@@ -1,5 +1,7 @@
 // The seal of an open input (finish_input of simulation.rs, up to its outputs), behind the gate: the input of a server whose crash flag is
 // set is cut, else its writes are synced.
+#![tactic(auto)]
+
 ghost use Rattle.std.specs.Prelude.{◌≡◌, ◌<◌};
 ghost use Rattle.model.specs.Calls.{seal};
 ghost use Rattle.state.specs.Changes.{Inside, Gated, Reads};
@@ -15,7 +17,7 @@ use state::{Capacity, Gate, OpenInput};
 pub mod cuts; // a seal that cuts
 
 // What a seal will do, or its refusal: whether it cuts, how it ends if it does not, and the numbers of the sealed input.
-#[derive(Drop)]
+#[derive(Clone, Copy)]
 pub struct SealPlan {
     pub code: u64,
     pub cuts: bool,

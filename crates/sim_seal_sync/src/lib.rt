@@ -1,5 +1,7 @@
 // A seal that does not cut (finish_input of simulation.rs, up to its outputs): each written index is checked, the waiting writes are synced,
 // and a sync that writes something is counted.
+#![tactic(auto)]
+
 ghost use Rattle.std.specs.Prelude.{◌≡◌, ◌<◌};
 ghost use Rattle.state.specs.Changes.{Inside, Changes, Reads};
 ghost use Rattle.sim_seal_sync.specs.Syncs.{write_checked_at, writes_checked_at, CountsSync, sync_counted, sync_test, SyncsInput};

@@ -1,5 +1,7 @@
 // A message sent (Output::Send of simulation.rs), behind the gate: it is counted, the network draws its fate, and it is pushed as often as it
 // arrives, a second copy before the original.
+#![tactic(auto)]
+
 ghost use Rattle.std.specs.Prelude.{◌≡◌, true, ◌≤◌, length};
 ghost use Rattle.network.specs.declared.Route.TheVariants.{Delivered};
 ghost use Rattle.model.specs.Calls.{output_send};
@@ -30,14 +32,14 @@ use state::{Capacity, Gate};
 use units::{Duration, NodeId, SimTime};
 
 // What a sending asks before anything is drawn: 0, or the refusal; the sender's id.
-#[derive(Drop)]
+#[derive(Clone, Copy)]
 pub struct SendAsked {
     pub code: u64,
     pub from: u64,
 }
 
 // When a message arrives, and its second copy.
-#[derive(Drop)]
+#[derive(Clone, Copy)]
 pub enum Mail {
     Dropped,
     Once { at: u64 },
@@ -45,14 +47,14 @@ pub enum Mail {
 }
 
 // The mail, if its times have 64 bits.
-#[derive(Drop)]
+#[derive(Clone, Copy)]
 pub struct MailPlan {
     pub fits: bool,
     pub mail: Mail,
 }
 
 // What a sending will push and count, or question 10's number.
-#[derive(Drop)]
+#[derive(Clone, Copy)]
 pub struct SendPlan {
     pub code: u64,
     pub bytes: u64,

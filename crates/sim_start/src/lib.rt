@@ -1,5 +1,7 @@
 // A simulation begins (with_observer of simulation.rs): questions 1 to 4 and 10, then the whole content of the new state, and its first input
 // or events.
+#![tactic(auto)]
+
 ghost use Rattle.std.specs.Prelude.{◌≡◌, ◌≤◌, ◌<◌, length};
 ghost use Rattle.model.specs.Calls.{start};
 ghost use Rattle.state.specs.Call.{starting};

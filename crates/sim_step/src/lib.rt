@@ -1,4 +1,6 @@
 // One event, taken at or before a deadline (run_until_condition of simulation.rs), behind the gate.
+#![tactic(auto)]
+
 ghost use Rattle.std.specs.Prelude.{◌≤◌, ◌<◌, length};
 ghost use Rattle.state.specs.Changes.{Inside, Gated, Reads, Changes};
 ghost use Rattle.sim_outputs.specs.Outputs.{Passed};

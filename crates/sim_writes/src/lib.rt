@@ -1,4 +1,6 @@
 // The writes of the open input (set_hard_state, put and truncate of storage.rs, by a server's node), behind the gate.
+#![tactic(auto)]
+
 ghost use Rattle.std.specs.Prelude.{◌≡◌, ◌≤◌, ◌<◌};
 ghost use Rattle.model.specs.Calls.{write_hard_state_call, write_put_call, write_truncate_call};
 ghost use Rattle.state.specs.Changes.{Inside, Gated};
@@ -12,7 +14,7 @@ use storage::HardState;
 use units::{LogIndex, NodeId, NodeOption, Term};
 
 // What a write asks of the phase: 0, or 6; the place of the open input's server.
-#[derive(Drop)]
+#[derive(Clone, Copy)]
 pub struct WritingAsked {
     pub code: u64,
     pub slot: u64,

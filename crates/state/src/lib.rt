@@ -1,5 +1,7 @@
 // The state of a simulation in one lent area: the structs of fixed size that lie in it. What lies where is said by specs/Sizes.antt and
 // specs/Area.antt, and in docs/LAYOUT.md.
+#![tactic(auto)]
+
 pub mod sizes; // how long the parts are and where they begin
 pub mod header; // the structs of the header
 pub mod server; // the fixed part of a server's block
@@ -10,7 +12,7 @@ use rng::Rng;
 use units::{SimTime, TermOption};
 
 // The counts that say how long everything is: servers, clients, and the six limits.
-#[derive(Drop)]
+#[derive(Clone, Copy)]
 pub struct Capacity {
     pub servers: u64,
     pub clients: u64,
@@ -18,7 +20,7 @@ pub struct Capacity {
 }
 
 // The numbers of the run.
-#[derive(Drop)]
+#[derive(Clone, Copy)]
 pub struct Run {
     pub seed: u64,
     pub now: SimTime,
@@ -32,7 +34,7 @@ pub struct Run {
 }
 
 // How many rows the tables hold, and how many violations there were.
-#[derive(Drop)]
+#[derive(Clone, Copy)]
 pub struct TableCounts {
     pub queue: u64,
     pub seen: u64,
@@ -45,14 +47,14 @@ pub struct TableCounts {
 }
 
 // A status that may be absent.
-#[derive(Drop)]
+#[derive(Clone, Copy)]
 pub enum StatusOption {
     None,
     Some(Status),
 }
 
 // A server without its storage and its pending keys, of which it has the count.
-#[derive(Drop)]
+#[derive(Clone, Copy)]
 pub struct ServerState {
     pub status: StatusOption,
     pub incarnation: u64,
@@ -65,7 +67,7 @@ pub struct ServerState {
 }
 
 // The phase with its open input, in the numbers of specs/Parts.antt; what a phase does not have is 0.
-#[derive(Drop)]
+#[derive(Clone, Copy)]
 pub struct OpenInput {
     // 0 closed, 1 writing, 2 sending.
     pub phase: u64,
@@ -86,7 +88,7 @@ pub struct OpenInput {
 }
 
 // What the gate answers: 4, 5, or 0 and the counts of the state that lies in the area.
-#[derive(Drop)]
+#[derive(Clone, Copy)]
 pub struct Gate {
     pub refusal: u64,
     pub capacity: Capacity,

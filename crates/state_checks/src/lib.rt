@@ -1,4 +1,6 @@
 // What the checks write, over the whole area: a violation kept, an entry seen, a leader of a term, an applied payload.
+#![tactic(auto)]
+
 ghost use Rattle.std.specs.Prelude.{◌≡◌, true, ◌+◌, ◌*◌, ◌≤◌, ◌<◌, length};
 ghost use Rattle.units.specs.Types.{payload_of};
 ghost use Rattle.layout.specs.Tables.{Becomes, append};

@@ -1,4 +1,6 @@
 // The storage of one server of the state that an area holds, by the server's place from 0 on: writes, sync, crash, and reads of its log.
+#![tactic(auto)]
+
 ghost use Rattle.std.specs.Prelude.{◌+◌, ◌*◌, ◌≤◌, ◌<◌, length};
 ghost use Rattle.units.specs.Types.{payload_of};
 ghost use Rattle.storage.specs.Storage.{write_hard_state, write_put, write_truncate};
@@ -12,7 +14,7 @@ use storage::{HardState, StorageState, replay, write};
 use units::{LogIndex, Term};
 
 // Where a server's storage lies, in bytes: its fixed part from `block` on, and its disk (both logs and the waiting writes) between the others.
-#[derive(Drop)]
+#[derive(Clone, Copy)]
 pub struct DiskPlace {
     pub block: usize,
     pub from: usize,
@@ -20,21 +22,21 @@ pub struct DiskPlace {
 }
 
 // Where a server's log lies as written so far, in bytes.
-#[derive(Drop)]
+#[derive(Clone, Copy)]
 pub struct LogPlace {
     pub from: usize,
     pub to: usize,
 }
 
 // What a sync has to do: whether there is anything to write, and how many bytes.
-#[derive(Drop)]
+#[derive(Clone, Copy)]
 pub struct SyncTold {
     pub wrote: bool,
     pub bytes: u64,
 }
 
 // A log as written so far: how many entries it has, its last index, and how many indexes below it hold no entry.
-#[derive(Drop)]
+#[derive(Clone, Copy)]
 pub struct LogNumbers {
     pub count: u64,
     pub last: LogIndex,

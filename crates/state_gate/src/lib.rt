@@ -1,4 +1,6 @@
 // Questions 4 and 5 of a lent area: whether there is room for a state, and whether its bytes are the content of one.
+#![tactic(auto)]
+
 ghost use Rattle.std.specs.Prelude.{◌≡◌};
 ghost use Rattle.words.specs.Words.{W};
 ghost use Rattle.state.specs.Parts.{capacity_in};

@@ -1,4 +1,6 @@
 // Whether the bytes of a server's block are the content of a server, and the blocks of all servers.
+#![tactic(auto)]
+
 ghost use Rattle.std.specs.Prelude.{◌≡◌, ◌*◌, ◌≤◌, length};
 ghost use Rattle.words.specs.Words.{W};
 ghost use Rattle.state.specs.Sizes.{block_words, Within};

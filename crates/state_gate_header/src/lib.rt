@@ -1,4 +1,6 @@
 // Whether the parts of an area's header are contents: counts and offsets, settings, network, metrics, the open input, violations.
+#![tactic(auto)]
+
 ghost use Rattle.std.specs.Prelude.{◌≡◌, ◌≤◌, length};
 ghost use Rattle.words.specs.Words.{W};
 ghost use Rattle.state.specs.Parts.{capacity_in};

@@ -1,5 +1,7 @@
 // The parts of fixed size of the state that an area holds, read and written in place: settings, the numbers of the run, the network, the
 // metrics, the open input, the counts of rows.
+#![tactic(auto)]
+
 ghost use Rattle.std.specs.Prelude.{◌≡◌};
 ghost use Rattle.state.specs.Parts.{open_of};
 ghost use Rattle.state.specs.Area.{run_of, counts_of};

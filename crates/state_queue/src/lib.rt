@@ -1,4 +1,6 @@
 // The event queue of the state that an area holds, read and written in place.
+#![tactic(auto)]
+
 ghost use Rattle.std.specs.Prelude.{◌≤◌, ◌<◌, length};
 ghost use Rattle.state.specs.Changes.{Inside, Changes, Reads};
 ghost use Rattle.state_queue.specs.Events.{
@@ -22,7 +24,7 @@ use units::SimTime;
 // ---- what is read
 
 // The first event of the queue, if there is one.
-#[derive(Drop)]
+#[derive(Clone, Copy)]
 pub enum NextEvent {
     None,
     Some(Earliest),

@@ -1,4 +1,6 @@
 // The clients of the state that an area holds, and what its run keeps for the report, read and written in place.
+#![tactic(auto)]
+
 ghost use Rattle.std.specs.Prelude.{◌≡◌, ◌+◌, ◌*◌, ◌≤◌, ◌<◌, length};
 ghost use Rattle.layout.specs.Marked.{words_for};
 ghost use Rattle.clients.specs.Clients.{client_of};
@@ -37,35 +39,35 @@ use state::{Capacity, sizes};
 use units::LogIndex;
 
 // A reply that may be absent.
-#[derive(Drop)]
+#[derive(Clone, Copy)]
 pub enum ReplyOption {
     None,
     Some(Reply),
 }
 
 // A confirmation that may be absent.
-#[derive(Drop)]
+#[derive(Clone, Copy)]
 pub enum ConfirmationOption {
     None,
     Some(Confirmation),
 }
 
 // A violation that may be absent.
-#[derive(Drop)]
+#[derive(Clone, Copy)]
 pub enum ViolationOption {
     None,
     Some(Violation),
 }
 
 // A payload's kind, of a payload that may be absent.
-#[derive(Drop)]
+#[derive(Clone, Copy)]
 pub enum PayloadOption {
     None,
     Some(Kind),
 }
 
 // A sum, and whether it has 64 bits; 0 where it has not.
-#[derive(Drop)]
+#[derive(Clone, Copy)]
 pub struct Sum {
     pub fits: bool,
     pub value: u64,

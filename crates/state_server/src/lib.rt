@@ -1,5 +1,7 @@
 // One server of the state that an area holds, by its place from 0 on: its status, counters and flags, and its pending keys; and the leader of
 // all servers.
+#![tactic(auto)]
+
 ghost use Rattle.std.specs.Prelude.{◌≡◌, ◌+◌, ◌*◌, ◌<◌, length};
 ghost use Rattle.model.specs.Simulation.{leader_of};
 ghost use Rattle.state.specs.Parts.{bool_number};

@@ -1,6 +1,8 @@
 // Persistent state (consensus/storage.rs, sim/storage.rs): a server's term, vote and log, current and durable, and the writes not yet synced.
 // A disk is one region that the caller lends: the current log and the durable log, of `places` places each, and `rows` rows of waiting
 // writes, side by side; p is the greatest length of a command. What has a fixed size goes by value.
+#![tactic(auto)]
+
 ghost use Rattle.std.specs.Prelude.{◌≡◌, ◌+◌, ◌*◌, ◌^◌, ◌≤◌, ◌<◌, length};
 ghost use Rattle.storage.specs.Stores.{disk_bytes, Syncs, Crashes};
 
@@ -12,7 +14,7 @@ use layout::rows;
 use units::{NodeOption, Term};
 
 // The persistent state other than the log.
-#[derive(Drop)]
+#[derive(Clone, Copy)]
 pub struct HardState {
     pub term: Term,
     // The candidate this server voted for in the term.
@@ -20,7 +22,7 @@ pub struct HardState {
 }
 
 // A server's storage without its region: both hard states, the count of waiting writes, and the entries discarded.
-#[derive(Drop)]
+#[derive(Clone, Copy)]
 pub struct StorageState {
     pub current: HardState,
     pub durable: HardState,
@@ -29,7 +31,7 @@ pub struct StorageState {
 }
 
 // The answer of a sync: whether there was anything to write, and how many bytes.
-#[derive(Drop)]
+#[derive(Clone, Copy)]
 pub struct Synced {
     pub state: StorageState,
     pub wrote: bool,

@@ -16,7 +16,7 @@ use layout::{marked, rows};
 use units::{LogIndex, NodeId, NodeOption, Term};
 
 // A write without the bytes of its command: a put has its payload's kind, 0 or 1, and the length of a command.
-#[derive(Drop)]
+#[derive(Clone, Copy)]
 pub enum Shape {
     HardState(HardState),
     Put {

@@ -13,7 +13,7 @@ use raft_log::Place;
 use units::{LogIndex, Term};
 
 // The answer of a write: the state after it; or why nothing has changed.
-#[derive(Drop)]
+#[derive(Clone, Copy)]
 pub enum Written {
     Done(StorageState),
     // There is no room for another waiting write.

@@ -1,6 +1,8 @@
-// Replays recorded traces of runs (data/, made by host/record): each call is made again, and its answer, the bytes that it wrote, and the lent bytes that it must leave
-// are compared. One line a file.
-ghost use Rattle.std.specs.Prelude.{◌≡◌, ◌+◌, ◌^◌, ◌≤◌, ◌<◌, length};
+// Replays recorded traces of runs (data/, made by host/record): each call is made again, and its answer, the bytes that it wrote, and the
+// lent bytes that it must leave are compared. One line a file.
+#![tactic(auto)]
+
+ghost use Rattle.std.specs.Prelude.{◌≡◌, ◌+◌, ◌^◌, ◌≤◌, ◌<◌, IfOk, length, vec_len};
 
 mod row; // a row's parts
 mod told; // answers compared
@@ -8,7 +10,9 @@ mod calls; // calls that change a run
 mod reads; // reads
 mod schedules; // random fault schedules
 
-use libc::STDOUT_FILENO;
+use std::io::Read;
+use std::rt::Files;
+use std::{fs, io};
 
 // Makes the call of a row, with a buffer of this length where it takes one, and answers whether its answer is the row's.
 fn called(call: u64, given: &[u8], answer: &[u8], area: &mut [u8], longest: usize) -> bool
@@ -80,7 +84,7 @@ fn agrees(call: u64, rest: &[u8], area: &mut [u8], longest: usize) -> bool
 }
 
 // What is lent to a call: an area with the 64 bytes past it, and a buffer; their lengths.
-#[derive(Drop)]
+#[derive(Clone, Copy)]
 struct Lent {
     size: usize,
     longest: usize,
@@ -141,7 +145,7 @@ fn lent_at(call: u64, rest: &[u8], lent: Lent, area: &mut [u8]) -> Lent
 }
 
 // How many calls were made and differ, and the place and number of the first that does.
-#[derive(Drop)]
+#[derive(Clone, Copy)]
 struct Tally {
     calls: u64,
     differ: u64,
@@ -190,20 +194,24 @@ fn clamped(count: u64, room: usize) -> usize
     }
 }
 
-// Reads the next row to the front of a buffer: how many bytes it has, 0 at the end of the file.
-fn read_row(file: i32, row: &mut [u8]) -> usize
-    ensures { result ≤ length row.new }
+// The bytes of the longest row.
+const LONGEST_ROW: usize = 8192;
+
+// Reads the next row into a buffer, in place of what it held; gives how many bytes it has, 0 at the end of the file.
+fn read_row<F: Read>(file: &mut F, row: &mut Vec<u8>) -> io::Result<usize>
+    ensures { IfOk result (λ n. n ≤ vec_len row.new) }
 {
-    let mut head = [0u8; 8];
-    if io::read_full(file, &mut head) < 8 {
-        return 0;
+    row.clear();
+    if file.by_ref().take(8).read_to_end(row)? < 8 {
+        return Ok(0);
     }
-    let size = clamped(words::load(&head, 0), row.len());
-    io::read_full(file, &mut row[0..size])
+    let size = clamped(words::load(row, 0), LONGEST_ROW);
+    row.clear();
+    file.by_ref().take(size as u64).read_to_end(row)
 }
 
 // What is lent after a row, and whether all was as the row has it.
-#[derive(Drop)]
+#[derive(Clone, Copy)]
 struct Made {
     lent: Lent,
     same: bool,
@@ -228,8 +236,8 @@ fn turn(row: &[u8], lent: Lent, area: &mut [u8]) -> Made
 }
 
 // Makes the calls of a file, at most a million.
-fn replayed(file: i32, row: &mut [u8], area: &mut [u8]) -> Tally
-    requires { (length row.old ≡ 8192) × (length area.old ≡ 131072) }
+fn replayed<F: Read>(file: &mut F, row: &mut Vec<u8>, area: &mut [u8]) -> io::Result<Tally>
+    requires { length area.old ≡ 131072 }
 {
     let mut tally = Tally {
         calls: 0,
@@ -242,74 +250,76 @@ fn replayed(file: i32, row: &mut [u8], area: &mut [u8]) -> Tally
         longest: 0,
     };
     while tally.calls < 1000000 {
-        let n = read_row(file, row);
+        let n = read_row(file, row)?;
         if n == 0 {
-            return tally;
+            return Ok(tally);
         }
         let made = turn(&row[0..n], lent, area);
         lent = made.lent;
         tally = tallied(tally, row::number(row, 0), made.same);
     }
-    tally
+    Ok(tally)
 }
 
-fn report(name: &[u8], t: Tally) {
-    io::write_all(STDOUT_FILENO, name);
-    io::write_all(STDOUT_FILENO, b": ");
-    io::print_decimal(STDOUT_FILENO, t.calls);
-    io::write_all(STDOUT_FILENO, b" calls, ");
-    io::print_decimal(STDOUT_FILENO, t.differ);
-    io::write_all(STDOUT_FILENO, b" differ");
-    if 0 < t.differ {
-        io::write_all(STDOUT_FILENO, b", the first at row ");
-        io::print_decimal(STDOUT_FILENO, t.place);
-        io::write_all(STDOUT_FILENO, b", call ");
-        io::print_decimal(STDOUT_FILENO, t.first);
+// Writes what the replay of a file gave.
+fn report(rt: &impl Print, name: &str, t: Tally) -> io::Result<()> {
+    let calls = t.calls;
+    let differ = t.differ;
+    print!(rt; "{name}: {calls} calls, {differ} differ")?;
+    if 0 < differ {
+        let place = t.place;
+        let first = t.first;
+        print!(rt; ", the first at row {place}, call {first}")?;
     }
-    io::write_all(STDOUT_FILENO, b"\n");
+    println!(rt;)
 }
 
 // Replays one file.
-fn replay(name: &[u8], path: &[u8], row: &mut [u8], area: &mut [u8])
-    requires { (length row.old ≡ 8192) × (length area.old ≡ 131072) }
+fn replay(
+    rt: &(impl Files + Print),
+    name: &str,
+    path: &str,
+    row: &mut Vec<u8>,
+    area: &mut [u8],
+) -> io::Result<()>
+    requires { length area.old ≡ 131072 }
 {
-    let file = os::open_read(path);
-    if file < 0 {
-        os::fail(path);
-        return;
-    }
-    report(name, replayed(file, row, area));
-    libc::close(file);
+    let mut file = fs::open(rt, path)?;
+    report(rt, name, replayed(&mut file, row, area)?)
 }
 
-fn main() {
-    let mut row = [0u8; 8192];
+fn main(rt: HostRuntime) -> io::Result<()> {
+    let mut row = Vec::new(rt.alloc());
     let mut area = [0u8; 131072];
-    replay(b"hostile-1", b"hostile-1.bin", &mut row, &mut area);
-    replay(b"hostile-31", b"hostile-31.bin", &mut row, &mut area);
-    replay(b"raft-20", b"raft-20.bin", &mut row, &mut area);
+    replay(&rt, "hostile-1", "hostile-1.bin", &mut row, &mut area)?;
+    replay(&rt, "hostile-31", "hostile-31.bin", &mut row, &mut area)?;
+    replay(&rt, "raft-20", "raft-20.bin", &mut row, &mut area)?;
     replay(
-        b"vote-not-saved-45",
-        b"vote-not-saved-45.bin",
+        &rt,
+        "vote-not-saved-45",
+        "vote-not-saved-45.bin",
         &mut row,
         &mut area,
-    );
+    )?;
     replay(
-        b"term-not-saved-6",
-        b"term-not-saved-6.bin",
+        &rt,
+        "term-not-saved-6",
+        "term-not-saved-6.bin",
         &mut row,
         &mut area,
-    );
+    )?;
     replay(
-        b"applies-early-9",
-        b"applies-early-9.bin",
+        &rt,
+        "applies-early-9",
+        "applies-early-9.bin",
         &mut row,
         &mut area,
-    );
+    )?;
     replay(
-        b"truncates-too-far-44",
-        b"truncates-too-far-44.bin",
+        &rt,
+        "truncates-too-far-44",
+        "truncates-too-far-44.bin",
         &mut row,
         &mut area,
-    );
+    )
 }

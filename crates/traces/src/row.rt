@@ -1,4 +1,5 @@
-// A row of a trace behind the call's number: its arguments, then its answer. Numbers are words; bytes are their length and then words of eight bytes, zeros at the end.
+// A row of a trace behind the call's number: its arguments, then its answer. Numbers are words; bytes are their length and then words of
+// eight bytes, zeros at the end.
 ghost use Rattle.std.specs.Prelude.{◌+◌, ◌*◌, ◌≤◌, length};
 
 use api::settings::{LimitsNumbers, SettingsNumbers};
@@ -13,7 +14,7 @@ pub fn number(s: &[u8], i: usize) -> u64 {
 }
 
 // A part of a row.
-#[derive(Drop)]
+#[derive(Clone, Copy)]
 pub struct Span {
     pub from: usize,
     pub to: usize,

@@ -1,43 +1,45 @@
 // Identifiers, terms, log indexes and simulated time (types.rs, time.rs): numbers that never stand in for each other.
+#![tactic(auto)]
+
 ghost use Rattle.std.specs.Prelude.{◌≡◌};
 ghost use Rattle.units.specs.Time.{plus, minus, sum_number, plus_number};
 
 // Identifies a server.
-#[derive(Drop)]
+#[derive(Clone, Copy)]
 pub struct NodeId(pub u64);
 
 // A server that may be absent: the Rust's Option<NodeId>, as in a vote or a leader hint.
-#[derive(Drop)]
+#[derive(Clone, Copy)]
 pub enum NodeOption {
     None,
     Some(NodeId),
 }
 
 // An election term.
-#[derive(Drop)]
+#[derive(Clone, Copy)]
 pub struct Term(pub u64);
 
 // A term that may be absent: the Rust's Option<Term>, as in the term that a server leads.
-#[derive(Drop)]
+#[derive(Clone, Copy)]
 pub enum TermOption {
     None,
     Some(Term),
 }
 
 // A position in the log. The first entry has index 1.
-#[derive(Drop)]
+#[derive(Clone, Copy)]
 pub struct LogIndex(pub u64);
 
 // A point in simulated time: nanoseconds since the start.
-#[derive(Drop)]
+#[derive(Clone, Copy)]
 pub struct SimTime(pub u64);
 
 // A length of time in nanoseconds.
-#[derive(Drop)]
+#[derive(Clone, Copy)]
 pub struct Duration(pub u64);
 
 // The sum of a time and a duration, or that it is past 64 bits.
-#[derive(Drop)]
+#[derive(Clone, Copy)]
 pub enum TimeSum {
     Fits(SimTime),
     Past64Bits,

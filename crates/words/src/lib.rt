@@ -3,6 +3,8 @@
 //
 // Every function that writes says what it leaves as ONE run of stores, `sets entry at bytes` (lib.Seq), so that one set of laws
 // (specs/Sets.antt) serves them all, and one law (`sets_bytes` of specs/Lift.antt) makes a run of bytes a run of words.
+#![tactic(auto)]
+
 ghost use Rattle.std.specs.Prelude.{◌≡◌, ◌+◌, ◌-◌, ◌*◌, ◌^◌, ◌≤◌, ◌<◌, length, get_or, take, drop, replicate};
 ghost use Rattle.std.proofs.lemmas.List.Edits.{sets};
 ghost use Rattle.laws.specs.Decides.{Decides};
