@@ -4,7 +4,8 @@ use Rattle.std.proofs.Math.Path.{refl, ap}
 use Rattle.std.proofs.Common.{sym, ap₂, ◌∙◌, arith}
 use Rattle.std.proofs.Math.ListN.{length}
 use borrow.Author.Tests.{le-leb, lt-leb, lt-ltb, le-ltb}
-use Rattle.laws.specs.Bools.{pick, ◌and◌, and_both}
+use Rattle.laws.specs.Bools.{pick, ◌and◌}
+use Rattle.laws.proofs.BoolLaws.{and_both}
 use Rattle.laws.specs.Decides.{false_true}
 use Rattle.seeds.specs.Seeds.{stream_seed}
 use Rattle.seeds.specs.declared.Stream.{Stream}

@@ -1,46 +1,43 @@
--- The outcome of every call but the reads is fine. Assumes nothing.
+-- The outcome of every call but the reads and the outputs is fine; of the outputs in proofs/Outputs.antt. Assumes nothing.
 use Rattle.std.specs.Prelude.{◌≡◌, true, ℕ, zero, suc, ◌-◌, ◌^◌, length}
 use Rattle.std.proofs.Math.Path.{refl}
-use Rattle.std.proofs.Common.{sym, ◌∙◌, arith}
-use mathlib.Core.List.Memᴰ
+use Rattle.std.proofs.Common.{sym, arith}
 use mathlib.Core.List.{List, [], ◌∷◌}
-use Rattle.std.proofs.Math.Option.{none, some}
-use Rattle.std.proofs.Math.Dec.{leb, ltb, eqb}
+use Rattle.std.proofs.Math.Dec.{leb, eqb}
 use borrow.Author.Tests.{leb-true, ne_eqb}
-use Rattle.laws.specs.Bools.{pick, ◌and◌, cases, and_left, and_right}
+use Rattle.laws.specs.Bools.{pick, ◌and◌, cases, and_left}
+use Rattle.laws.proofs.BoolLaws.{and_right}
 use Rattle.laws.specs.ListLaws.{Each}
 use Rattle.units.specs.Types.{payload_of}
 use Rattle.units.specs.declared.Term.{Term}
 use Rattle.units.specs.declared.LogIndex.{LogIndex}
 use Rattle.units.specs.declared.SimTime.{SimTime}
-use Rattle.units.specs.declared.Duration.{Duration}
 use Rattle.protocol.specs.declared.RequestId.{RequestId}
 use Rattle.config.specs.declared.SimConfig.{SimConfig}
 use Rattle.config.specs.declared.Limits.{Limits}
 use Rattle.config.specs.Limits.{judge, judged_number}
 use Rattle.storage.specs.Storage.{unsynced}
 use Rattle.queue.specs.Queue.{Queue, pop}
-use Rattle.faults.specs.Fault as faults
-use Rattle.model.specs.State.{State, closed, writing, Input, Owed, server_at, id_of}
-use Rattle.model.specs.Simulation.{running, write_at, set_timer, cancel_timer, confirm}
+use Rattle.model.specs.State.{State, closed, writing, Input, Owed, server_at}
+use Rattle.model.specs.Simulation.{running, write_at}
 use Rattle.model.specs.Calls as model
-use Rattle.model.specs.Calls.{Out, done, is_flag, is_accepted, is_payload, in_cluster, timer_of}
-use Rattle.model.specs.Outcome.{WriteCall, OutputCall, start, step, propose, fire_timer, confirm_leadership, schedule, write, seal, output, end, check_log_matching, check_durability, Answer, acted, opened, stepped, asked, sealed, act}
+use Rattle.model.specs.Calls.{is_flag, is_payload, in_cluster, timer_of}
+use Rattle.model.specs.Outcome.{WriteCall, start, step, propose, fire_timer, confirm_leadership, schedule, write, seal, end, check_log_matching, check_durability, Answer, acted, opened, stepped, asked, sealed, act}
 use Rattle.model.specs.Outcome as calls
-use Rattle.book.specs.Book.{Book, write_of, give}
+use Rattle.book.specs.Book.{Book, write_of}
 use Rattle.book.specs.Book as book
 use Rattle.book.specs.Disks.{InLog}
 use Rattle.book.specs.Handed.{ScheduledGiven}
-use Rattle.book.specs.Holds.{Held, nowhere, holds_queue, holds_push, holds_applied, holds_more}
+use Rattle.book.specs.Holds.{Held, nowhere, holds_queue, holds_push, holds_applied}
 use Rattle.book.specs.Invariant.{Phased, waits_in, Inv}
 use Rattle.book.specs.Checked.{log_matching_applied, durability_applied}
 use Rattle.book.specs.Moves as moves
 use Rattle.book.specs.Moves.{moves_process, moves_begin}
-use Rattle.book.specs.Inputs.{held_write, inv_sync, moves_cut, held_message, send_phase, held_set_timer, held_cancel_timer, held_confirm, held_apply, apply_phase, moves_end}
+use Rattle.book.specs.Inputs.{held_write, inv_sync, moves_cut, moves_end}
 use Rattle.book.specs.Outcomes.{Fine, fine, fine_ask, fine_fault, fine_closed, fine_writing, fine_sending}
 
 -- a timer's number is read alike
-timer_read : (kind : ℕ) → timer_of kind ≡ book.timer_of kind
+pub timer_read : (kind : ℕ) → timer_of kind ≡ book.timer_of kind
 timer_read zero = refl
 timer_read (suc zero) = refl
 timer_read (suc (suc kind)) = sym (rw (ne_eqb (suc (suc kind)) 1 (λ e. absurd (omega arith))))
@@ -143,60 +140,7 @@ module _ (b : Book) (s : State) (i : Inv b s.phase s) where
       (λ t. rw t (fine (λ n. absurd (n refl)) (moves_cut b slot input verdict owed s j.held).1))
       (λ t. rw t (cases (unsynced (server_at s slot).storage) (λ u. rw u (fine (λ _. refl) synced)) (λ u. rw u (fine (λ _. refl) synced))))))
 
-  -- ---- outputs and the end
-
-  -- an output comes while a synced input is open; it is fine if the state that it leaves keeps what was handed over besides
-  fine_output : (o : OutputCall) {f : ℕ → Out (Unit {0})}
-      → ((slot : ℕ) → b.server ≡ id_of slot → Held b nowhere s
-      → ((t : State) → t.phase ≡ s.phase → Held (give b o) nowhere t → Fine act b (output o) (done tt t))
-      → Fine act b (output o) (f slot))
-      → Fine act b (output o) (model.output s.phase f)
-  fine_output o h =
-      fine_sending s i (λ slot input verdict owed e j. fine_ask (is_accepted verdict) 6
-      (λ _. h slot j.phased.1 j.held (λ t p l. fine {t = t} (j.phased.0, refl) (rw (p ∙ e) (record { phased = j.phased; held = l })))))
-
-  pub fine_output_send : (to : ℕ) (message : List ℕ) (entries : ℕ) → Fine act b (output (calls.send to message entries)) (model.output_send to message entries s)
-  unfolding model.output_send faults.in_cluster
-  fine_output_send to message entries =
-      let o = calls.send to message entries in
-      fine_output o (λ slot e h left. fine_ask (in_cluster s to) 7
-      (λ f. fine_ask (leb (length message) s.limits.message and ltb entries (2 ^ 32)) 9
-      (λ _. left _ (send_phase s slot (record { 0 = to }) message entries)
-      (held_message (give b o) nowhere slot s (holds_more h _) (record { 0 = to }) message entries (leb-true 1 to (and_left _ _ f)) (Memᴰ.head (rw e))))))
-
-  pub fine_output_set_timer : (timer : ℕ) (duration : Duration) → Fine act b (output (calls.set_timer timer duration)) (model.output_set_timer timer duration s)
-  unfolding model.output_set_timer set_timer
-  fine_output_set_timer timer duration =
-      let o = calls.set_timer timer duration in
-      fine_output o (λ slot e h left. fine_ask (is_flag timer and leb duration.0 (2 ^ 40)) 9
-      (λ _. left _ refl (held_set_timer (give b o) nowhere slot s (holds_more h _) (timer_of timer) duration (Memᴰ.head (rw (e, timer_read timer))))))
-
-  pub fine_output_cancel_timer : (timer : ℕ) → Fine act b (output (calls.cancel_timer timer)) (model.output_cancel_timer timer s)
-  unfolding model.output_cancel_timer cancel_timer
-  fine_output_cancel_timer timer =
-      fine_output (calls.cancel_timer timer) (λ slot e h left. fine_ask (is_flag timer) 9 (λ _. left _ refl (held_cancel_timer b nowhere slot s h (timer_of timer))))
-
-  pub fine_output_apply : (index : LogIndex) (kind : ℕ) (bytes : List ℕ) → Fine act b (output (calls.apply index kind bytes)) (model.output_apply index kind bytes s)
-  unfolding model.output_apply payload_of
-  fine_output_apply index kind bytes =
-      let o = calls.apply index kind bytes in
-      let payload = payload_of kind bytes in
-      fine_output o (λ slot e h left. fine_ask (leb index.0 s.limits.log_indexes) 8
-      (λ _. fine_ask (is_payload s kind bytes) 9
-      (λ _. left _ (apply_phase s slot index payload) (held_apply (give b o) nowhere slot s index payload (Memᴰ.head (rw e)) (holds_more h _)))))
-
-  pub fine_output_confirmed : (request : RequestId) (read_index : LogIndex)
-      → Fine act b (output (calls.confirmed request read_index)) (model.output_confirmed request read_index s)
-  unfolding model.output_confirmed confirm
-  fine_output_confirmed request read_index =
-      let o = calls.confirmed request read_index in
-      fine_output o (λ slot e h left. left _ refl (held_confirm (give b o) nowhere slot s (holds_more h _) request (some read_index) (Memᴰ.head (rw e))))
-
-  pub fine_output_lost : (request : RequestId) → Fine act b (output (calls.lost request)) (model.output_lost request s)
-  unfolding model.output_lost confirm
-  fine_output_lost request =
-      let o = calls.lost request in
-      fine_output o (λ slot e h left. left _ refl (held_confirm (give b o) nowhere slot s (holds_more h _) request none (Memᴰ.head (rw e))))
+  -- ---- the end
 
   pub fine_end : (role : ℕ) (term : Term) (present leader : ℕ) (commit : LogIndex)
       → Fine opened b (end role term present leader commit) (model.end role term present leader commit s)

@@ -102,7 +102,7 @@ pub agrees_writes : {last : ℕ} {d : Disk} {f : Found} (ws : List Write) → Ag
     → Agrees last (apply_writes d ws) (do_writes f ws)
 unfolding apply_writes do_writes
 agrees_writes [] a i = a
-agrees_writes (w ∷ ws) a i = agrees_writes ws (agrees_write w a i.0) i.1
+agrees_writes {last = last} {d = d} {f = f} (w ∷ ws) a i = agrees_writes {d = apply_write d w} ws (agrees_write w a i.0) i.1
 
 pub agrees_empty : (last : ℕ) → Agrees last (empty_disk last) empty
 unfolding entry_at

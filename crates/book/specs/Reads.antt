@@ -4,7 +4,8 @@ use Rattle.std.proofs.Common.{sym, ap, ◌∙◌, arith}
 use Prim.Native.Nat.{ℕ, zero, suc, ◌+◌, ◌-◌, ◌^◌, ◌≤◌}
 use Rattle.std.proofs.Math.ListN.{length}
 use borrow.Author.Tests.{eqb-true, eqb-false, eq-eqb, ne_eqb, leb-true}
-use Rattle.laws.specs.Bools.{pick, cases, and_left, and_right}
+use Rattle.laws.specs.Bools.{pick, cases, and_left}
+use Rattle.laws.proofs.BoolLaws.{and_right}
 use Rattle.laws.specs.Lists.{at}
 use Rattle.laws.specs.ListLaws.{each_get, each_at}
 use Rattle.laws.specs.Decides.{false_true}

@@ -1,29 +1,27 @@
--- Demand 3's sentence: whenever a server starts, first or again, it finds what the book says, got by replaying on an empty log, in order, the writes of its finished inputs
--- since the latest fresh start. Assumes nothing.
-use Rattle.std.specs.Prelude.{◌≡◌, Bool, List, [], ◌∷◌, ℕ, suc, ◌+◌, ◌≤◌, ◌<◌, eqb, leb, ltb, length}
+-- Demand 3's sentence as a claim about lists of calls: whenever a server starts, first or again, it finds what the book says, got by replaying on an empty log, in order, the
+-- writes of its finished inputs since the latest fresh start. Here is what its proof rests on; the theorem is in proofs/Sentence.antt. Assumes nothing.
+use Rattle.std.specs.Prelude.{◌≡◌, Bool, List, [], ℕ, ◌+◌, ◌<◌, eqb, length}
 use Rattle.std.proofs.Math.Path.{refl}
 use Rattle.std.proofs.Common.{sym, ap, subst, ◌∙◌, arith, ltb-true, le-leb}
 use Rattle.std.proofs.Math.Bool.{true, false}
 use Rattle.std.proofs.Math.Option.{Option, none, some}
-use Rattle.laws.specs.Bools.{pick, and_left, and_both}
-use Rattle.laws.specs.Decides.{false_true}
+use Rattle.laws.specs.Bools.{pick, and_left}
+use Rattle.laws.proofs.BoolLaws.{and_both}
 use Rattle.config.specs.declared.SimConfig.{SimConfig}
 use Rattle.config.specs.declared.Limits.{Limits}
 use Rattle.units.specs.declared.NodeId.{NodeId}
 use Rattle.faults.specs.Fault as faults
 use Rattle.storage.specs.Storage.{Write}
-use Rattle.model.specs.State.{State, Phase, closed, writing, sending, Input, Owed, id_of}
-use Rattle.model.specs.Simulation.{Opening, no_input, open_start}
+use Rattle.model.specs.State.{State, Phase, closed, writing, sending, id_of}
+use Rattle.model.specs.Simulation.{no_input, open_start}
 use Rattle.model.specs.Calls.{done, in_cluster}
 use Rattle.model.specs.Fits.{state_fits, phase_fits}
 use Rattle.model.specs.Outcome.{Call, start, step, propose, fire_timer, confirm_leadership, schedule, write, seal, output, end, check_log_matching, check_durability, read, Answer, no, acted, opened, stepped, asked, sealed, got, outcome}
 use Rattle.state.specs.FitsBy.{fits_test, server_count}
-use Rattle.claims.specs.Claim.{Claim, Proof, Does, refuses, gives, Kept, accepted, claimed}
-use Rattle.claims.specs.Areas.{areas}
-use Rattle.claims.specs.OnArea.{on_area}
-use Rattle.book.specs.Book.{Book, Found, Open, not_open, unsealed, sealed_by_sync, found, do_writes, Ending, by_sync, by_cut, whose, opening_of, sealed_by, told_of, enter, note, so_far, Right}
+use Rattle.claims.specs.Claim.{Claim, accepted}
+use Rattle.book.specs.Book.{Book, Found, unsealed, found, do_writes, Ending, by_sync, by_cut, whose, opening_of, sealed_by, told_of, enter, note, Right}
 use Rattle.book.specs.Invariant.{Phased, Inv}
-use Rattle.book.specs.Theorem.{Readable, readable, Goes, goes, goes_start}
+use Rattle.book.specs.Theorem.{Readable, readable, Goes, goes_start}
 
 -- Whenever a call opens a server's start, the reads of hard state, log and every entry of that server are accepted and answer the book.
 abbrev pub finding : Claim
@@ -43,7 +41,7 @@ record JustOpened (b : Book) (server : NodeId) : Type 0 where
   none_waits : b.waiting ≡ []
 
 module _ {server : NodeId} {incarnation seed : ℕ} where
-  no_start : no_input ≡ open_start server incarnation seed → ⊥
+  pub no_start : no_input ≡ open_start server incarnation seed → ⊥
   no_start e = let z : ◌≡◌ {A = ℕ} 0 1 = cc in absurd (omega arith)
 
   -- an answer that opens an input accepts its call
@@ -105,7 +103,7 @@ module _ (b : Book) (t : State) (server : NodeId) (i : Inv b t.phase t) (f : sta
       (readable b t i b.server.0 (open_known b t i j.input f)))
 
 -- a call that goes and opens a start
-opened_found : (b : Book) (t : State) (c : Call) (a : Answer) → Goes b c a t → state_fits t ≡ true → (server : NodeId) (incarnation seed : ℕ) → opening_of a ≡ open_start server incarnation seed
+pub opened_found : (b : Book) (t : State) (c : Call) (a : Answer) → Goes b c a t → state_fits t ≡ true → (server : NodeId) (incarnation seed : ℕ) → opening_of a ≡ open_start server incarnation seed
     → Readable (found (note b c (told_of a)) server) (note b c (told_of a)).last_index t server.0
 unfolding note
 opened_found b t c a g f server incarnation seed e =
@@ -115,20 +113,6 @@ opened_found b t c a g f server incarnation seed e =
     let n : note b c (told_of a) ≡ enter b c (some server) (sealed_by a) = rw (yes, who) in
     found_read (note b c (told_of a)) t server g.1 f (subst (λ (d : Book). JustOpened d server) (sym n) j)
 
--- what a call does
-told : (b : Book) (s t : State) (c : Call) (a : Answer) → Inv b s.phase s → state_fits s ≡ true → Does state_fits s c a t → finding.Right b s c a t × Inv (note b c (told_of a)) t.phase t
-unfolding note
-told b s t c a i f (refuses number) = ((λ server incarnation seed e. absurd (no_start e)), i)
-told b s t c a i f (gives e g) = let x = goes b s i c a t e in (opened_found b t c a x g, x.1)
-
-begun : (b : Book) (s t : State) (config : SimConfig) (limits : Limits) (seed : ℕ) (a : Answer) → outcome (start config limits seed) s ≡ done a t → state_fits t ≡ true
+pub begun : (b : Book) (s t : State) (config : SimConfig) (limits : Limits) (seed : ℕ) (a : Answer) → outcome (start config limits seed) s ≡ done a t → state_fits t ≡ true
     → finding.Right b s (start config limits seed) a t × Inv (note b (start config limits seed) (told_of a)) t.phase t
 begun b s t config limits seed a e g = let x = goes_start b s t config limits seed a e in (opened_found b t (start config limits seed) a x g, x.1)
-
-pub proved : Proof state_fits finding
-proved = record { Holds = λ b s. Inv b s.phase s; begins = begun; goes = told }
-
--- THE SENTENCE, for every list of calls on one area that begins with an accepted start, whatever bytes it held.
-pub sentence : (area : List ℕ) (b : Book) (config : SimConfig) (limits : Limits) (seed : ℕ) (cs : List Call)
-    → accepted (on_area area (start config limits seed)).0 ≡ true → Kept areas finding b area (start config limits seed ∷ cs)
-sentence area b config limits seed cs e = claimed areas finding proved b area config limits seed cs e

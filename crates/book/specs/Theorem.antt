@@ -1,29 +1,24 @@
--- Demand 3: every list of calls that begins with an accepted start is right by the book, whatever was before; on states, and on an area's bytes. Assumes nothing.
-use Rattle.std.specs.Prelude.{◌≡◌, refl, Bool, true, List, [], ◌∷◌, ℕ, leb}
-use Rattle.std.proofs.Common.{sym, ap, ◌∙◌}
+-- Demand 3 as a claim about lists of calls, and what its proof rests on; the theorems are in proofs/Theorem.antt. Assumes nothing.
+use Rattle.std.specs.Prelude.{◌≡◌, refl, Bool, true, ℕ, leb}
+use Rattle.std.proofs.Common.{ap}
 use Rattle.std.proofs.Math.Option.{Option}
-use Rattle.laws.specs.Decides.{false_true}
 use Rattle.config.specs.declared.SimConfig.{SimConfig}
 use Rattle.config.specs.declared.Limits.{Limits}
 use Rattle.units.specs.Types.{Entry}
 use Rattle.storage.specs.declared.HardState.{HardState}
 use Rattle.raft_log.specs.Log.{count, last_index, gaps}
 use Rattle.model.specs.State.{State}
-use Rattle.model.specs.Calls.{Out, done, in_cluster}
-use Rattle.model.specs.Fits.{state_fits}
+use Rattle.model.specs.Calls.{done, in_cluster}
 use Rattle.model.specs.Reads as reads
 use Rattle.model.specs.Reads.{LogRead, named}
-use Rattle.model.specs.Outcome.{WriteCall, OutputCall, ReadCall, read_status, read_hard_state, read_log, read_entry, read_leader, read_applied, read_applied_entry, read_metrics, read_sent_by, read_reply, read_confirmation, read_violation, read_run, read_settings, Call, start, step, propose, fire_timer, confirm_leadership, schedule, write, seal, output, end, check_log_matching, check_durability, read, Answer, no, got, got_hard_state, got_log, got_entry, after, outcome, write_outcome, output_outcome, read_outcome}
+use Rattle.model.specs.Outcome.{WriteCall, ReadCall, read_status, read_hard_state, read_log, read_entry, read_leader, read_applied, read_applied_entry, read_metrics, read_sent_by, read_reply, read_confirmation, read_violation, read_run, read_settings, Call, start, write, read, Answer, no, got, got_hard_state, got_log, got_entry, outcome, write_outcome, read_outcome}
 use Rattle.model.specs.Outcome as calls
-use Rattle.claims.specs.Claim.{Claim, Proof, Does, refuses, gives, Kept, accepted, claimed}
-use Rattle.claims.specs.States.{states}
-use Rattle.claims.specs.Areas.{areas}
-use Rattle.claims.specs.OnArea.{on_area}
+use Rattle.claims.specs.Claim.{Claim, accepted}
 use Rattle.book.specs.Book.{Book, Found, count_up_to, note, told_of, so_far, Right}
 use Rattle.book.specs.Disks.{agrees_count}
 use Rattle.book.specs.Invariant.{Inv}
 use Rattle.book.specs.Outcomes.{given_right}
-use Rattle.book.specs.Answered.{fine_start, fine_step, fine_propose, fine_fire_timer, fine_confirm_leadership, fine_schedule, fine_check_log_matching, fine_check_durability, fine_write_hard_state, fine_write_put, fine_write_truncate, fine_seal, fine_output_send, fine_output_set_timer, fine_output_cancel_timer, fine_output_apply, fine_output_confirmed, fine_output_lost, fine_end}
+use Rattle.book.specs.Answered.{fine_start, fine_write_hard_state, fine_write_put, fine_write_truncate}
 use Rattle.book.specs.Reads.{finds, fine_read_status, fine_read_hard_state, fine_read_log, fine_read_entry, fine_read_leader, fine_read_applied, fine_read_applied_entry, fine_read_metrics, fine_read_sent_by, fine_read_reply, fine_read_confirmation, fine_read_violation, fine_read_run, fine_read_settings}
 
 -- ---- the claim
@@ -63,22 +58,13 @@ abbrev pub Goes : Book → Call → Answer → State → Type 0
 Goes b c a t = (accepted a ≡ true → Right b c a) × Inv (note b c (told_of a)) t.phase t
 
 module _ (b : Book) (s : State) (i : Inv b s.phase s) where
-  goes_write : (w : WriteCall) (a : Answer) (t : State) → write_outcome w s ≡ done a t → Goes b (write w) a t
+  pub goes_write : (w : WriteCall) (a : Answer) (t : State) → write_outcome w s ≡ done a t → Goes b (write w) a t
   unfolding write_outcome
   goes_write (calls.hard_state term present vote) a t e = given_right (λ _. refl) (fine_write_hard_state b s i term present vote) e
   goes_write (calls.put index term kind bytes) a t e = given_right (λ _. refl) (fine_write_put b s i index term kind bytes) e
   goes_write (calls.truncate from) a t e = given_right (λ _. refl) (fine_write_truncate b s i from) e
 
-  goes_output : (o : OutputCall) (a : Answer) (t : State) → output_outcome o s ≡ done a t → Goes b (output o) a t
-  unfolding output_outcome
-  goes_output (calls.send to message entries) a t e = given_right (λ _. refl) (fine_output_send b s i to message entries) e
-  goes_output (calls.set_timer timer duration) a t e = given_right (λ _. refl) (fine_output_set_timer b s i timer duration) e
-  goes_output (calls.cancel_timer timer) a t e = given_right (λ _. refl) (fine_output_cancel_timer b s i timer) e
-  goes_output (calls.apply index kind bytes) a t e = given_right (λ _. refl) (fine_output_apply b s i index kind bytes) e
-  goes_output (calls.confirmed request read_index) a t e = given_right (λ _. refl) (fine_output_confirmed b s i request read_index) e
-  goes_output (calls.lost request) a t e = given_right (λ _. refl) (fine_output_lost b s i request) e
-
-  goes_read : (r : ReadCall) (a : Answer) (t : State) → read_outcome r s ≡ done a t → Goes b (read r) a t
+  pub goes_read : (r : ReadCall) (a : Answer) (t : State) → read_outcome r s ≡ done a t → Goes b (read r) a t
   unfolding read_outcome
   goes_read (read_status server) a t e = given_right (λ _. refl) (fine_read_status b s i server) e
   goes_read (read_hard_state server) a t e = given_right (λ _. refl) (fine_read_hard_state b s i server) e
@@ -95,53 +81,14 @@ module _ (b : Book) (s : State) (i : Inv b s.phase s) where
   goes_read read_run a t e = given_right (λ _. refl) (fine_read_run b s i) e
   goes_read read_settings a t e = given_right (λ _. refl) (fine_read_settings b s i) e
 
-  pub goes : (c : Call) (a : Answer) (t : State) → outcome c s ≡ done a t → Goes b c a t
-  unfolding outcome
-  goes (start config limits seed) a t e = given_right (λ _. refl) (fine_start b config limits seed) e
-  goes (step deadline buffer) a t e = given_right (λ _. refl) (fine_step b s i deadline buffer) e
-  goes (propose server) a t e = given_right (λ _. refl) (fine_propose b s i server) e
-  goes (fire_timer server timer) a t e = given_right (λ _. refl) (fine_fire_timer b s i server timer) e
-  goes (confirm_leadership server request) a t e = given_right (λ _. refl) (fine_confirm_leadership b s i server request) e
-  goes (schedule time kind first second groups) a t e = given_right (λ _. refl) (fine_schedule b s i time kind first second groups) e
-  goes (write w) a t e = goes_write w a t e
-  goes (seal refusal present leader) a t e = given_right (λ _. refl) (fine_seal b s i refusal present leader) e
-  goes (output o) a t e = goes_output o a t e
-  goes (end role term present leader commit) a t e = given_right (λ _. refl) (fine_end b s i role term present leader commit) e
-  goes check_log_matching a t e = given_right (λ _. refl) (fine_check_log_matching b s i) e
-  goes check_durability a t e = given_right (λ _. refl) (fine_check_durability b s i) e
-  goes (read r) a t e = goes_read r a t e
-
 -- a start, whatever was before
 pub goes_start : (b : Book) (s t : State) (config : SimConfig) (limits : Limits) (seed : ℕ) (a : Answer) → outcome (start config limits seed) s ≡ done a t → Goes b (start config limits seed) a t
 unfolding outcome
 goes_start b s t config limits seed a e = given_right (λ _. refl) (fine_start b config limits seed) e
 
 module _ (fits : State → Bool) where
-  -- a call with what it does
-  told : (b : Book) (s t : State) (c : Call) (a : Answer) → Inv b s.phase s → fits s ≡ true → Does fits s c a t → demand3.Right b s c a t × Inv (note b c (told_of a)) t.phase t
-  unfolding note
-  told b s t c a i f (refuses number) = ((λ e. absurd (false_true e), readable b s i), i)
-  told b s t c a i f (gives e g) =
-      let x = goes b s i c a t e in
-      ((x.0, readable (note b c (told_of a)) t x.1), x.1)
-
-  begun : (b : Book) (s t : State) (config : SimConfig) (limits : Limits) (seed : ℕ) (a : Answer) → outcome (start config limits seed) s ≡ done a t → fits t ≡ true
+  pub begun : (b : Book) (s t : State) (config : SimConfig) (limits : Limits) (seed : ℕ) (a : Answer) → outcome (start config limits seed) s ≡ done a t → fits t ≡ true
       → demand3.Right b s (start config limits seed) a t × Inv (note b (start config limits seed) (told_of a)) t.phase t
   begun b s t config limits seed a e g =
       let x = goes_start b s t config limits seed a e in
       ((x.0, readable (note b (start config limits seed) (told_of a)) t x.1), x.1)
-
-  pub proved : Proof fits demand3
-  proved = record { Holds = λ b s. Inv b s.phase s; begins = begun; goes = told }
-
--- ---- the theorems
-
--- DEMAND 3 ON STATES. `fits` is question 10's test, whatever it is; s and b are whatever was before.
-pub theorem : (fits : State → Bool) (s : State) (b : Book) (config : SimConfig) (limits : Limits) (seed : ℕ) (cs : List Call)
-    → accepted (after fits s (start config limits seed)).answer ≡ true → Kept (states fits) demand3 b s (start config limits seed ∷ cs)
-theorem fits s b config limits seed cs e = claimed (states fits) demand3 (proved fits) b s config limits seed cs e
-
--- DEMAND 3 ON BYTES, whatever bytes the area held and whatever book was before.
-pub theorem_area : (area : List ℕ) (b : Book) (config : SimConfig) (limits : Limits) (seed : ℕ) (cs : List Call)
-    → accepted (on_area area (start config limits seed)).0 ≡ true → Kept areas demand3 b area (start config limits seed ∷ cs)
-theorem_area area b config limits seed cs e = claimed areas demand3 (proved state_fits) b area config limits seed cs e

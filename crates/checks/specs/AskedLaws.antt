@@ -4,7 +4,8 @@ use Rattle.std.proofs.Math.Path.{sym}
 use Rattle.std.proofs.Common.{ap, arith, Fits, lt-ltb, le-ltb, le-leb}
 use Rattle.std.specs.Int.{w64}
 use Rattle.std.proofs.lemmas.Bool.{lt-leb}
-use Rattle.laws.specs.Bools.{pick, and_both, and_no, no_and}
+use Rattle.laws.specs.Bools.{pick, no_and}
+use Rattle.laws.proofs.BoolLaws.{and_both, and_no}
 use Rattle.checks.specs.Asked.{counts_code}
 
 module _ (rows room total reports : ℕ) where

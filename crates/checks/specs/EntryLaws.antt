@@ -6,7 +6,8 @@ use Rattle.std.proofs.Math.Option.{Option, none, some}
 use Rattle.std.proofs.lemmas.List.Edits.{sets}
 use Rattle.std.specs.Int.{w64}
 use Rattle.std.proofs.lemmas.Bool.{lt-leb}
-use Rattle.laws.specs.Bools.{pick, ◌and◌, and_both, no_and, and_no, true_and, and_true}
+use Rattle.laws.specs.Bools.{pick, ◌and◌, no_and, and_true}
+use Rattle.laws.proofs.BoolLaws.{and_both, and_no, true_and}
 use Rattle.laws.specs.Decides.{Decides, false_true}
 use Rattle.laws.specs.Order.{pairs, rising, lookup}
 use Rattle.words.specs.Words.{bytes, W, Bytes}

@@ -6,7 +6,8 @@ use Rattle.std.proofs.Math.Option.{Option, none, some}
 use Rattle.std.proofs.lemmas.List.Edits.{sets}
 use Rattle.std.specs.Int.{w64}
 use Rattle.std.proofs.lemmas.Bool.{lt-leb}
-use Rattle.laws.specs.Bools.{pick, and_both, and_no, no_and}
+use Rattle.laws.specs.Bools.{pick, no_and}
+use Rattle.laws.proofs.BoolLaws.{and_both, and_no}
 use Rattle.laws.specs.Decides.{false_true}
 use Rattle.laws.specs.Order.{numbers, rising, lookup}
 use Rattle.words.specs.Words.{bytes, W}

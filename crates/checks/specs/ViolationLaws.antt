@@ -7,7 +7,8 @@ use Rattle.std.proofs.Math.ListN.{length, length-append}
 use Rattle.std.proofs.Math.Seq.{sets}
 use Rattle.std.specs.Int.{w64}
 use borrow.Author.Tests.{lt-ltb, le-ltb, le-leb, lt-leb, not-true, not-false}
-use Rattle.laws.specs.Bools.{◌and◌, every, and_both, and_no, no_and, true_and}
+use Rattle.laws.specs.Bools.{◌and◌, every, no_and}
+use Rattle.laws.proofs.BoolLaws.{and_both, and_no, true_and}
 use Rattle.words.specs.Words.{bytes, W, allz}
 use Rattle.words.specs.Sets.{take_drop}
 use Rattle.units.specs.declared.SimTime.{SimTime}

@@ -1,7 +1,8 @@
 -- Violations as a table (violations.rt): rows of 8 words, the time, the check's number, how many numbers, and five numbers padded with zeros. Assumes nothing.
 use Rattle.std.specs.Prelude.{◌≡◌, refl, Bool, true, List, [], ◌∷◌, map, ℕ, zero, suc, ◌+◌, ◌^◌, ◌≤◌, ◌<◌, ltb, leb, length, get_or}
 use Rattle.std.proofs.Common.{ap, ◌∙◌, arith, ltb-true}
-use Rattle.laws.specs.Bools.{pick, and_left, and_right}
+use Rattle.laws.specs.Bools.{pick, and_left}
+use Rattle.laws.proofs.BoolLaws.{and_right}
 use Rattle.laws.specs.Lists.{list_from}
 use Rattle.units.specs.declared.SimTime.{SimTime}
 use Rattle.layout.specs.Code.{Code, word, pair, iso, such}

@@ -5,7 +5,8 @@ use Rattle.std.proofs.Common.{sym, ap, ◌∙◌, add-zero, arith, length-append
 use Rattle.std.proofs.lemmas.List.Edits.{sets}
 use Rattle.std.specs.Int.{w64}
 use Rattle.std.proofs.lemmas.Bool.{lt-leb}
-use Rattle.laws.specs.Bools.{and_both, and_no, no_and}
+use Rattle.laws.specs.Bools.{no_and}
+use Rattle.laws.proofs.BoolLaws.{and_both, and_no}
 use Rattle.laws.specs.ListLaws.{at_there}
 use Rattle.words.specs.Words.{bytes, W}
 use Rattle.layout.specs.Code.{ok_n}

@@ -4,7 +4,8 @@ use Rattle.std.proofs.Common.{sym, ap, ap₂, ◌∙◌, add-zero, arith, get_or
 use Rattle.std.proofs.Math.Option.{none}
 use Rattle.std.proofs.lemmas.List.Edits.{sets}
 use Rattle.std.specs.Int.{w64}
-use Rattle.laws.specs.Bools.{cases, ◌and◌, and_both, and_no, no_and, true_and, and_true, and_assoc, every}
+use Rattle.laws.specs.Bools.{cases, ◌and◌, no_and, and_true, and_assoc, every}
+use Rattle.laws.proofs.BoolLaws.{and_both, and_no, true_and}
 use Rattle.laws.specs.Lists.{at, same_list}
 use Rattle.laws.specs.ListLaws.{at_there}
 use Rattle.laws.specs.Decides.{false_true}

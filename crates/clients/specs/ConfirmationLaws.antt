@@ -9,7 +9,8 @@ use Prim.Native.Nat.{ℕ, ◌+◌, ◌*◌, ◌≤◌, ◌<◌}
 use Rattle.std.proofs.Math.Seq.{sets}
 use Rattle.std.specs.Int.{w64}
 use Rattle.std.proofs.lemmas.Bool.{lt-leb}
-use Rattle.laws.specs.Bools.{cases, and_both, true_and, and_true, every}
+use Rattle.laws.specs.Bools.{cases, and_true, every}
+use Rattle.laws.proofs.BoolLaws.{and_both, true_and}
 use Rattle.laws.specs.Lists.{same_list}
 use Rattle.laws.specs.ListLaws.{at_there}
 use Rattle.words.specs.Words.{bytes, W}

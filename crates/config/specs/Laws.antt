@@ -4,7 +4,8 @@ use Rattle.std.proofs.Math.Path.{refl}
 use Rattle.std.proofs.Common.{sym, ap, ◌∙◌, mul-le-mul_right, mul-le-mul, arith, lt-ltb, le-ltb, le-leb, leb-true, leb-false, eqb-true, Fits}
 use Rattle.std.proofs.Math.Bool.{true, false}
 use Rattle.std.proofs.lemmas.Bool.{lt-leb, eqb-false, not-true, not-false}
-use Rattle.laws.specs.Bools.{◌and◌, and_both, no_and, and_no, and_left, and_right, code_and, and_assoc, and_true}
+use Rattle.laws.specs.Bools.{◌and◌, no_and, and_left, and_assoc, and_true}
+use Rattle.laws.proofs.BoolLaws.{and_both, and_no, and_right, code_and}
 use Rattle.std.specs.Int.{w64}
 use Rattle.config.specs.declared.Config.{Config}
 use Rattle.config.specs.declared.Validity.{Validity}

@@ -6,7 +6,8 @@ use Rattle.std.proofs.Math.Option.{Option, none, some}
 use Rattle.std.proofs.Math.Dec.{eqb}
 use Rattle.std.proofs.Math.ListN.{length}
 use borrow.Author.Tests.{leb-true, ltb-false}
-use Rattle.laws.specs.Bools.{pick, cases, every, ◌and◌, and_left, and_right, every_get}
+use Rattle.laws.specs.Bools.{pick, cases, every, ◌and◌, and_left}
+use Rattle.laws.proofs.BoolLaws.{and_right, every_get}
 use Rattle.laws.specs.Decides.{false_true}
 use Rattle.laws.specs.Lists.{at}
 use Rattle.units.specs.Types.{Payload, noop, command, Entry}
@@ -36,7 +37,8 @@ use Rattle.queue.specs.declared.Event.{Event}
 use Rattle.queue.specs.declared.Event.TheVariants as event
 use Rattle.model.specs.State.{State, Server, server_at, slot_of, Input, Verdict, Owed, nothing, construction, healing, Phase, closed, writing, sending}
 use Rattle.model.specs.Fits.{state_fits, queue_fits}
-use Rattle.model.specs.Simulation.{Opening, no_input, open_start, open_message, open_timer, open_proposal, open_confirmation, Moved, running, start_server, restart_server, construct_from, heal_from, close_input, apply_fault, client_arrive, deliver, generation_of, process, begin, schedule_fault, cut_input, end_input}
+use Rattle.model.specs.Fields.{with_crash_on_next_input}
+use Rattle.model.specs.Simulation.{on_server, Opening, no_input, open_start, open_message, open_timer, open_proposal, open_confirmation, Moved, running, start_server, restart_server, construct_from, heal_from, close_input, apply_fault, client_arrive, deliver, generation_of, process, begin, schedule_fault, cut_input, end_input}
 use Rattle.model.specs.Calls.{Out, refused, done, ask, while_writing, while_sending, output, with_fault, Stepped, Asked, Sealed, start, stepped, step, propose, fire_timer, confirm_leadership, fault_given, schedule, write_hard_state_call, write_put_call, write_truncate_call, sealed, seal, output_send, output_set_timer, output_cancel_timer, output_apply, output_confirmed, output_lost, end, check_log_matching_call, check_durability_call}
 use Rattle.model.specs.Calls as model
 use Rattle.model.specs.Reads.{named, of_server, read_hard_state, read_log, read_entry, read_applied, applied_at, read_applied_entry, read_reply, read_confirmation}
@@ -91,7 +93,7 @@ quiet_construct s slot = quiet_pick (ltb slot (length s.servers)) _ _ (quiet_sta
 quiet_heal : (s : State) (slot left : ℕ) → input_bytes (heal_from s slot left).opening ≡ []
 unfolding heal_from
 quiet_heal s slot zero = refl
-quiet_heal s slot (suc left) = quiet_pick (running s slot) _ _ (quiet_heal _ (suc slot) left) (quiet_restart _ slot (healing (suc slot)))
+quiet_heal s slot (suc left) = quiet_pick (running s slot) _ _ (quiet_heal (on_server s slot (λ v. with_crash_on_next_input v false)) (suc slot) left) (quiet_restart _ slot (healing (suc slot)))
 
 quiet_close : (s : State) (owed : Owed) → input_bytes (close_input s owed).opening ≡ []
 quiet_close s nothing = refl

@@ -1,21 +1,18 @@
--- Demand 1 and demand 3 of the exported calls, each from what the calls' contracts say. Assumes nothing.
-use Rattle.std.specs.Prelude.{◌≡◌, Bool, true, false, List, [], ◌∷◌, ◌++◌, map, ℕ, ◌≤◌, ◌<◌, eqb, ltb, length}
+-- What demand 1 and demand 3 of the exported calls speak of, and what their proofs rest on; the theorems are in proofs/Demands.antt. Assumes nothing.
+use Rattle.std.specs.Prelude.{◌≡◌, true, false, List, [], ◌∷◌, ◌++◌, ℕ, ◌≤◌, ◌<◌, eqb, ltb, length}
 use Rattle.std.proofs.Math.Path.{refl, ap}
-use Rattle.std.proofs.Common.{sym, ap₂, subst, ◌∙◌, arith, eqb-true, ltb-true}
+use Rattle.std.proofs.Common.{sym, ◌∙◌, arith, eqb-true, ltb-true}
 use Rattle.std.proofs.Math.ListN.{drop}
 use Rattle.std.proofs.lemmas.Bool.{eqb-false}
-use Rattle.laws.specs.Bools.{pick, cases}
+use Rattle.laws.specs.Bools.{cases}
 use Rattle.laws.specs.Decides.{false_true}
 use Rattle.words.specs.Words.{Bytes}
-use Rattle.config.specs.declared.SimConfig.{SimConfig}
-use Rattle.config.specs.declared.Limits.{Limits}
 use Rattle.model.specs.State.{State}
 use Rattle.model.specs.Fits.{state_fits}
 use Rattle.model.specs.Calls.{Out, refused, done, Stepped, Asked, Sealed}
 use Rattle.model.specs.Calls as model
-use Rattle.model.specs.Reads as reads
 use Rattle.model.specs.Outcome as calls
-use Rattle.model.specs.Outcome.{Call, start, step, propose, fire_timer, confirm_leadership, schedule, write, seal, output, end, check_log_matching, check_durability, read, Answer, no, acted, opened, stepped, asked, sealed, got, got_hard_state, got_log, got_entry, got_applied, got_applied_entry, got_reply, got_confirmation, given, act, outcome, write_outcome, output_outcome, read_outcome}
+use Rattle.model.specs.Outcome.{Call, start, step, propose, fire_timer, confirm_leadership, schedule, write, seal, output, end, check_log_matching, check_durability, read, Answer, no, acted, opened, stepped, asked, sealed, got, got_hard_state, got_log, got_entry, got_applied, got_applied_entry, got_reply, got_confirmation, given, act, outcome, write_outcome, output_outcome}
 use Rattle.state.specs.Sizes.{bytes_of}
 use Rattle.state.specs.Area.{capacity_of}
 use Rattle.state.specs.Decode.{gate, decode}
@@ -23,18 +20,16 @@ use Rattle.state.specs.Encode.{encode}
 use Rattle.state.specs.EncodeLaws.{gate_area}
 use Rattle.state.specs.Fitting.{area_fits}
 use Rattle.state.specs.Call.{finish, call, answered, reading, starting}
-use Rattle.claims.specs.Claim.{accepted, Kept}
+use Rattle.claims.specs.Claim.{accepted}
 use Rattle.claims.specs.OnArea.{on_area, same}
-use Rattle.claims.specs.Areas.{areas}
-use Rattle.answers.specs.Answers.{done_no, done_yes, opened_no, opened_yes, asked_yes, stepped_no, stepped_yes, sealed_no, sealed_yes, hard_state_no, hard_state_yes, log_no, log_yes, entry_no, entry_yes, applied_no, applied_yes, applied_entry_no, applied_entry_yes, reply_no, reply_yes, confirmation_no, confirmation_yes}
+use Rattle.answers.specs.Answers.{done_no, done_yes, opened_no, opened_yes, asked_yes, stepped_no, stepped_yes, hard_state_no, hard_state_yes, log_no, log_yes, entry_no, entry_yes, applied_no, applied_yes, applied_entry_no, applied_entry_yes, reply_no, reply_yes, confirmation_no, confirmation_yes}
 use Rattle.answers.specs.Numbers as numbers
 use Rattle.answers.specs.Numbers.{filled, reading_bytes, entry_bytes, applied_bytes}
 use Rattle.book.specs.Book.{Book, note, told_of, Right}
-use Rattle.book.specs.Theorem.{demand3, theorem_area}
-use Rattle.demands.specs.Heard.{heard_done, heard_opened, heard_asked, heard_stepped, heard_sealed, heard_hard_state, heard_log, heard_entry, heard_applied, heard_applied_entry, heard_reply, heard_confirmation}
+use Rattle.demands.specs.Heard.{heard_done, heard_opened, heard_asked, heard_stepped, heard_hard_state, heard_log, heard_entry, heard_applied, heard_applied_entry, heard_reply, heard_confirmation}
 use Rattle.demands.specs.WrittenLaws.{step_filled, entry_filled, applied_filled}
-use Rattle.demands.specs.Returned.{unless_no, Directly, done_heard, opened_heard, asked_heard, stepped_heard, sealed_heard, hard_state_heard, log_heard, entry_heard, applied_heard, applied_entry_heard, reply_heard, confirmation_heard}
-use Rattle.demands.specs.Clean.{Clean, refuses, gives, Any, Quiet, Room, clean_start, clean_step, clean_propose, clean_fire_timer, clean_confirm_leadership, clean_schedule, clean_write_hard_state, clean_write_put, clean_write_truncate, clean_seal, clean_output_send, clean_output_set_timer, clean_output_cancel_timer, clean_output_apply, clean_output_confirmed, clean_output_lost, clean_end, clean_check_log_matching, clean_check_durability, clean_read_hard_state, clean_read_log, clean_read_entry, clean_read_applied, clean_read_applied_entry, clean_read_reply, clean_read_confirmation}
+use Rattle.demands.specs.Returned.{unless_no, Directly, opened_heard, asked_heard, stepped_heard, hard_state_heard, log_heard, entry_heard, applied_heard, applied_entry_heard, reply_heard, confirmation_heard}
+use Rattle.demands.specs.Clean.{Clean, refuses, gives, Any, Quiet, Room}
 use Rattle.demands.specs.Exported.{Made, made_start, made_step, made_propose, made_fire_timer, made_confirm_leadership, made_schedule, made_write_hard_state, made_write_put, made_write_truncate, made_seal, made_output_send, made_output_set_timer, made_output_cancel_timer, made_output_apply, made_output_confirmed, made_output_lost, made_end, made_check_log_matching, made_check_durability, made_read_hard_state, made_read_log, made_read_entry, made_read_applied, made_read_applied_entry, made_read_reply, made_read_confirmation, made_other_read}
 
 -- ---- what is heard of a call is its definition's answer
@@ -48,9 +43,9 @@ open_fits : (b : List ℕ) → Bytes b → eqb (gate b) 0 ≡ true → state_fit
 open_fits b h e = area_fits (gate_area b h (eqb-true (gate b) 0 e))
 
 -- A struct's refusal and its answers, as they are heard with the buffer that was z and was filled by the answer.
-record Hears {A R : Type 0} (xNo : ℕ → R) (xYes : A → R) (f : A → Answer) (heard : R → List ℕ → Answer) (z : List ℕ) (Fine : A → Type 0) : Type 0 where
-  says_no : (n : ℕ) (u : List ℕ) → 0 < n → heard (xNo n) u ≡ no n
-  says_yes : (a : A) → Fine a → heard (xYes a) (filled z (f a)) ≡ f a
+pub record Hears {A R : Type 0} (xNo : ℕ → R) (xYes : A → R) (f : A → Answer) (heard : R → List ℕ → Answer) (z : List ℕ) (Fine : A → Type 0) : Type 0 where
+  pub says_no : (n : ℕ) (u : List ℕ) → 0 < n → heard (xNo n) u ≡ no n
+  pub says_yes : (a : A) → Fine a → heard (xYes a) (filled z (f a)) ≡ f a
 
 module _ {A R : Type 0} {xNo : ℕ → R} {xYes : A → R} {f : A → Answer} {heard : R → List ℕ → Answer} {z : List ℕ} {Fine : A → Type 0} (h : Hears xNo xYes f heard z Fine) (b : List ℕ) where
   hear_finish : (o : Out A) → Clean Fine o
@@ -63,7 +58,7 @@ module _ {A R : Type 0} {xNo : ℕ → R} {xYes : A → R} {f : A → Answer} {h
       (λ t. rw t (ap (λ (x : Answer). (x, b)) (h.says_no 10 _ (omega arith))))
 
   module _ (d : State → Out A) where
-    hear_call : Bytes b → ((s : State) → state_fits s ≡ true → Clean Fine (d s))
+    pub hear_call : Bytes b → ((s : State) → state_fits s ≡ true → Clean Fine (d s))
         → (heard (call xNo xYes b d).0 (filled z (call no same b (λ s. given f (d s))).0), (call xNo xYes b d).1) ≡ call no same b (λ s. given f (d s))
     unfolding call
     hear_call y c =
@@ -71,7 +66,7 @@ module _ {A R : Type 0} {xNo : ℕ → R} {xYes : A → R} {f : A → Answer} {h
         (λ t. rw t (hear_finish (d (decode b)) (c (decode b) (open_fits b y t))))
         (λ t. rw t (ap (λ (a : Answer). (a, b)) (h.says_no (gate b) _ (shut (gate b) t))))
 
-    hear_read : Bytes b → ((s : State) → state_fits s ≡ true → Clean Fine (d s))
+    pub hear_read : Bytes b → ((s : State) → state_fits s ≡ true → Clean Fine (d s))
         → heard (reading xNo xYes b d) (filled z (reading no same b (λ s. given f (d s)))) ≡ reading no same b (λ s. given f (d s))
     unfolding reading
     hear_read y c =
@@ -83,7 +78,7 @@ module _ {A R : Type 0} {xNo : ℕ → R} {xYes : A → R} {f : A → Answer} {h
         by (refused n) (refuses _ l) = h.says_no n _ (ltb-true 0 n l)
         by (done a s) (gives y) = h.says_yes a y
 
-  hear_start : (o : Out A) → Clean Fine o
+  pub hear_start : (o : Out A) → Clean Fine o
       → (heard (starting xNo xYes b o).0 (filled z (starting no same b (given f o)).0), (starting xNo xYes b o).1) ≡ starting no same b (given f o)
   unfolding starting
   hear_start (refused n) (refuses _ l) = ap (λ (a : Answer). (a, b)) (h.says_no n _ (ltb-true 0 n l))
@@ -93,98 +88,50 @@ module _ {A R : Type 0} {xNo : ℕ → R} {xYes : A → R} {f : A → Answer} {h
       (λ t. rw t (hear_finish (done a s) y))
 
 -- the structs
-hears_done : Hears done_no done_yes act (λ r u. heard_done r) [] Any
+pub hears_done : Hears done_no done_yes act (λ r u. heard_done r) [] Any
 hears_done = record { says_no = λ n u l. unless_no n _ l; says_yes = λ a y. refl }
 
-hears_opened : Hears opened_no opened_yes opened (λ r u. heard_opened r) [] Quiet
+pub hears_opened : Hears opened_no opened_yes opened (λ r u. heard_opened r) [] Quiet
 hears_opened = record { says_no = λ n u l. unless_no n _ l; says_yes = opened_heard }
 
-hears_asked : Hears opened_no asked_yes asked (λ r u. heard_asked r) [] Directly
+pub hears_asked : Hears opened_no asked_yes asked (λ r u. heard_asked r) [] Directly
 hears_asked = record { says_no = λ n u l. unless_no n _ l; says_yes = asked_heard }
 
-hears_stepped : (z : List ℕ) → Hears stepped_no stepped_yes stepped heard_stepped z (Room (length z))
+pub hears_stepped : (z : List ℕ) → Hears stepped_no stepped_yes stepped heard_stepped z (Room (length z))
 unfolding numbers.bytes_of
 hears_stepped z = record { says_no = λ n u l. unless_no n _ l; says_yes = λ s w. stepped_heard s z w.bytes }
 
-hears_sealed : Hears sealed_no sealed_yes sealed (λ r u. heard_sealed r) [] (λ x. Quiet x.opening)
-hears_sealed = record { says_no = λ n u l. unless_no n _ l; says_yes = sealed_heard }
-
-hears_hard_state : Hears hard_state_no hard_state_yes (λ x. got (got_hard_state x)) (λ r u. heard_hard_state r) [] Any
+pub hears_hard_state : Hears hard_state_no hard_state_yes (λ x. got (got_hard_state x)) (λ r u. heard_hard_state r) [] Any
 hears_hard_state = record { says_no = λ n u l. unless_no n _ l; says_yes = λ h y. hard_state_heard h }
 
-hears_log : Hears log_no log_yes (λ x. got (got_log x)) (λ r u. heard_log r) [] Any
+pub hears_log : Hears log_no log_yes (λ x. got (got_log x)) (λ r u. heard_log r) [] Any
 hears_log = record { says_no = λ n u l. unless_no n _ l; says_yes = λ l y. log_heard l }
 
-hears_entry : (z : List ℕ) → Hears entry_no entry_yes (λ x. got (got_entry x)) heard_entry z (λ e. length (entry_bytes e) ≤ length z)
+pub hears_entry : (z : List ℕ) → Hears entry_no entry_yes (λ x. got (got_entry x)) heard_entry z (λ e. length (entry_bytes e) ≤ length z)
 unfolding numbers.bytes_of reading_bytes
 hears_entry z = record { says_no = λ n u l. unless_no n _ l; says_yes = λ e l. entry_heard e z l }
 
-hears_applied : Hears applied_no applied_yes (λ x. got (got_applied x)) (λ r u. heard_applied r) [] Any
+pub hears_applied : Hears applied_no applied_yes (λ x. got (got_applied x)) (λ r u. heard_applied r) [] Any
 hears_applied = record { says_no = λ n u l. unless_no n _ l; says_yes = λ n y. applied_heard n }
 
-hears_applied_entry : (z : List ℕ) → Hears applied_entry_no applied_entry_yes (λ x. got (got_applied_entry x)) heard_applied_entry z (λ p. length (applied_bytes p) ≤ length z)
+pub hears_applied_entry : (z : List ℕ) → Hears applied_entry_no applied_entry_yes (λ x. got (got_applied_entry x)) heard_applied_entry z (λ p. length (applied_bytes p) ≤ length z)
 unfolding numbers.bytes_of reading_bytes
 hears_applied_entry z = record { says_no = λ n u l. unless_no n _ l; says_yes = λ p l. applied_entry_heard p z l }
 
-hears_reply : Hears reply_no reply_yes (λ x. got (got_reply x)) (λ r u. heard_reply r) [] Any
+pub hears_reply : Hears reply_no reply_yes (λ x. got (got_reply x)) (λ r u. heard_reply r) [] Any
 hears_reply = record { says_no = λ n u l. unless_no n _ l; says_yes = λ r y. reply_heard r }
 
-hears_confirmation : Hears confirmation_no confirmation_yes (λ x. got (got_confirmation x)) (λ r u. heard_confirmation r) [] Any
+pub hears_confirmation : Hears confirmation_no confirmation_yes (λ x. got (got_confirmation x)) (λ r u. heard_confirmation r) [] Any
 hears_confirmation = record { says_no = λ n u l. unless_no n _ l; says_yes = λ c y. confirmation_heard c }
 
 -- a call by its struct and its bytes
-acts : {A R : Type 0} {xNo : ℕ → R} {xYes : A → R} {f : A → Answer} {heard : R → Answer} {Fine : A → Type 0} → Hears xNo xYes f (λ r u. heard r) [] Fine
+pub acts : {A R : Type 0} {xNo : ℕ → R} {xYes : A → R} {f : A → Answer} {heard : R → Answer} {Fine : A → Type 0} → Hears xNo xYes f (λ r u. heard r) [] Fine
     → (b b' : List ℕ) (d : State → Out A) (r : R) → Bytes b → ((s : State) → Clean Fine (d s)) → (r, b') ≡ call xNo xYes b d → (heard r, b') ≡ call no same b (λ s. given f (d s))
 acts {R = R} {heard = heard} h b b' d r y c e = ap (λ (p : R × List ℕ). (heard p.0, p.1)) e ∙ hear_call h b d y (λ s t. c s)
 
-tells : {A R : Type 0} {xNo : ℕ → R} {xYes : A → R} {f : A → Answer} {heard : R → Answer} {Fine : A → Type 0} → Hears xNo xYes f (λ r u. heard r) [] Fine
+pub tells : {A R : Type 0} {xNo : ℕ → R} {xYes : A → R} {f : A → Answer} {heard : R → Answer} {Fine : A → Type 0} → Hears xNo xYes f (λ r u. heard r) [] Fine
     → (b : List ℕ) (d : State → Out A) (r : R) → Bytes b → ((s : State) → Clean Fine (d s)) → r ≡ reading xNo xYes b d → ◌≡◌ {A = Answer × List ℕ} (heard r, b) (reading no same b (λ s. given f (d s)), b)
 tells {heard = heard} h b d r y c e = ap (λ (a : Answer). (a, b)) (ap heard e ∙ hear_read h b d y (λ s t. c s))
-
--- What is heard of an exported call, and the area after it, are what its definition on the area's bytes gives.
-pub made_is : {b z b' z' : List ℕ} {c : Call} {a : Answer} → Bytes b → Made b z b' z' c a → (a, b') ≡ on_area b c
-unfolding on_area outcome write_outcome output_outcome read_outcome
-made_is {b} {z} {b'} {z'} y (made_start {config = config} {limits = limits} {seed = seed} e) =
-    ap (λ (p : _ × List ℕ). (heard_opened p.0, p.1)) e ∙ hear_start hears_opened b (model.start config limits seed) (clean_start config limits seed)
-made_is {b} {z} y (made_step {deadline = deadline} {r = r} e ez) =
-    ap₂ (λ (p : _ × List ℕ) (u : List ℕ). (heard_stepped p.0 u, p.1)) e (ez ∙ sym (step_filled b z deadline)) ∙ hear_call (hears_stepped z) b (model.step deadline (length z)) y (λ s t. clean_step s deadline (length z) t)
-made_is {b} {z} {b'} y (made_propose {server = server} {r = r} e) = acts hears_asked b b' (model.propose server) r y (λ s. clean_propose s server) e
-made_is {b} {z} {b'} y (made_fire_timer {server = server} {timer = timer} {r = r} e) = acts hears_opened b b' (model.fire_timer server timer) r y (λ s. clean_fire_timer s server timer) e
-made_is {b} {z} {b'} y (made_confirm_leadership {server = server} {request = q} {r = r} e) =
-    acts hears_asked b b' (model.confirm_leadership server q) r y (λ s. clean_confirm_leadership s server q) e
-made_is {b} {z} {b'} y (made_schedule {time = time} {kind = kind} {first = first} {second = second} {groups = groups} {r = r} e) =
-    acts hears_done b b' (model.schedule time kind first second groups) r y (λ s. clean_schedule s time kind first second groups) e
-made_is {b} {z} {b'} y (made_write_hard_state {term = term} {present = present} {vote = vote} {r = r} e) =
-    acts hears_done b b' (model.write_hard_state_call term present vote) r y (λ s. clean_write_hard_state s term present vote) e
-made_is {b} {z} {b'} y (made_write_put {index = index} {term = term} {kind = kind} {bytes = bytes} {r = r} e) =
-    acts hears_done b b' (model.write_put_call index term kind bytes) r y (λ s. clean_write_put s index term kind bytes) e
-made_is {b} {z} {b'} y (made_write_truncate {from = from} {r = r} e) = acts hears_done b b' (model.write_truncate_call from) r y (λ s. clean_write_truncate s from) e
-made_is {b} {z} {b'} y (made_seal {refusal = refusal} {present = present} {leader = leader} {r = r} e) =
-    acts hears_sealed b b' (model.seal refusal present leader) r y (λ s. clean_seal s refusal present leader) e
-made_is {b} {z} {b'} y (made_output_send {to = to} {message = message} {entries = entries} {r = r} e) =
-    acts hears_done b b' (model.output_send to message entries) r y (λ s. clean_output_send s to message entries) e
-made_is {b} {z} {b'} y (made_output_set_timer {timer = timer} {after = after} {r = r} e) =
-    acts hears_done b b' (model.output_set_timer timer after) r y (λ s. clean_output_set_timer s timer after) e
-made_is {b} {z} {b'} y (made_output_cancel_timer {timer = timer} {r = r} e) = acts hears_done b b' (model.output_cancel_timer timer) r y (λ s. clean_output_cancel_timer s timer) e
-made_is {b} {z} {b'} y (made_output_apply {index = index} {kind = kind} {bytes = bytes} {r = r} e) =
-    acts hears_done b b' (model.output_apply index kind bytes) r y (λ s. clean_output_apply s index kind bytes) e
-made_is {b} {z} {b'} y (made_output_confirmed {request = q} {index = index} {r = r} e) =
-    acts hears_done b b' (model.output_confirmed q index) r y (λ s. clean_output_confirmed s q index) e
-made_is {b} {z} {b'} y (made_output_lost {request = q} {r = r} e) = acts hears_done b b' (model.output_lost q) r y (λ s. clean_output_lost s q) e
-made_is {b} {z} {b'} y (made_end {role = role} {term = term} {present = present} {leader = leader} {commit = commit} {r = r} e) =
-    acts hears_opened b b' (model.end role term present leader commit) r y (λ s. clean_end s role term present leader commit) e
-made_is {b} {z} {b'} y (made_check_log_matching {r = r} e) = acts hears_done b b' model.check_log_matching_call r y clean_check_log_matching e
-made_is {b} {z} {b'} y (made_check_durability {r = r} e) = acts hears_done b b' model.check_durability_call r y clean_check_durability e
-made_is {b} y (made_read_hard_state {server = server} {r = r} e) = tells hears_hard_state b (reads.read_hard_state server) r y (λ s. clean_read_hard_state s server) e
-made_is {b} y (made_read_log {server = server} {r = r} e) = tells hears_log b (reads.read_log server) r y (λ s. clean_read_log s server) e
-made_is {b} {z} y (made_read_entry {server = server} {index = index} {r = r} e ez) =
-    ap (λ (a : Answer). (a, b)) (ap₂ heard_entry e (ez ∙ sym (entry_filled b z server index)) ∙ hear_read (hears_entry z) b (reads.read_entry server index (length z)) y (λ s t. clean_read_entry s server index (length z) t))
-made_is {b} y (made_read_applied {server = server} {r = r} e) = tells hears_applied b (reads.read_applied server) r y (λ s. clean_read_applied s server) e
-made_is {b} {z} y (made_read_applied_entry {index = index} {r = r} e ez) =
-    ap (λ (a : Answer). (a, b)) (ap₂ heard_applied_entry e (ez ∙ sym (applied_filled b z index)) ∙ hear_read (hears_applied_entry z) b (reads.read_applied_entry index (length z)) y (λ s t. clean_read_applied_entry s index (length z) t))
-made_is {b} y (made_read_reply {place = place} {r = r} e) = tells hears_reply b (reads.read_reply place) r y (λ s. clean_read_reply s place) e
-made_is {b} y (made_read_confirmation {place = place} {r = r} e) = tells hears_confirmation b (reads.read_confirmation place) r y (λ s. clean_read_confirmation s place) e
-made_is y (made_other_read r) = refl
 
 -- ---- demand 1
 
@@ -204,7 +151,7 @@ module _ {A : Type 0} (f : A → Answer) (yes : (a : A) → accepted (f a) ≡ t
   start_kept (done a s) e = cases (ltb (length b) (bytes_of (capacity_of s))) (λ t. rw t refl) (λ t. rw t (finish_kept (done a s) (rw t at e)))
 
 -- a call that is refused on an area's bytes leaves them
-area_kept : (b : List ℕ) (c : Call) → accepted (on_area b c).0 ≡ false → (on_area b c).1 ≡ b
+pub area_kept : (b : List ℕ) (c : Call) → accepted (on_area b c).0 ≡ false → (on_area b c).1 ≡ b
 unfolding on_area outcome write_outcome output_outcome
 area_kept b (start config limits seed) e = start_kept opened (λ a. refl) b (model.start config limits seed) e
 area_kept b (step deadline buffer) e = call_kept stepped (λ a. refl) b (model.step deadline buffer) e
@@ -239,7 +186,7 @@ nothing_filled z (sealed s) e = absurd (false_true (sym e))
 nothing_filled z (got x) e = absurd (false_true (sym e))
 
 -- the lent buffer after a call that is refused
-buffer_kept : {b z b' z' : List ℕ} {c : Call} {a : Answer} → Made b z b' z' c a → accepted (on_area b c).0 ≡ false → z' ≡ z
+pub buffer_kept : {b z b' z' : List ℕ} {c : Call} {a : Answer} → Made b z b' z' c a → accepted (on_area b c).0 ≡ false → z' ≡ z
 unfolding on_area
 buffer_kept {b} {z} (made_step {deadline = deadline} e ez) k = ez ∙ sym (step_filled b z deadline) ∙ nothing_filled z _ k
 buffer_kept {b} {z} (made_read_entry {server = server} {index = index} e ez) k = ez ∙ sym (entry_filled b z server index) ∙ nothing_filled z _ k
@@ -269,13 +216,6 @@ buffer_kept (made_read_reply e) k = refl
 buffer_kept (made_read_confirmation e) k = refl
 buffer_kept (made_other_read r) k = refl
 
--- Demand 1: whatever the arguments and the bytes are, a call that is refused has changed no byte that was lent to it.
-pub demand_1 : {b z b' z' : List ℕ} {c : Call} {a : Answer} → Bytes b → Made b z b' z' c a → accepted a ≡ false → (b' ≡ b) × (z' ≡ z)
-demand_1 {b} {c = c} y m e =
-    let i = made_is y m in
-    let k : accepted (on_area b c).0 ≡ false = sym (ap (λ (p : Answer × List ℕ). accepted p.0) i) ∙ e in
-    (ap (λ (p : Answer × List ℕ). p.1) i ∙ area_kept b c k, buffer_kept m k)
-
 -- ---- demand 3
 
 -- Exported calls made one after the other on one area, each getting the bytes as the last one left them, with what was heard of each.
@@ -287,23 +227,3 @@ pub data Makes : List ℕ → List (Call × Answer) → Type 0 where
 unfoldable pub AllRight : Book → List (Call × Answer) → Type 0
 AllRight n [] = Unit {0}
 AllRight n (x ∷ xs) = (accepted x.1 ≡ true → Right n x.0 x.1) × AllRight (note n x.0 (told_of x.1)) xs
-
-kept_right : (n : Book) (b : List ℕ) (xs : List (Call × Answer)) → Makes b xs → Kept areas demand3 n b (map (λ (x : Call × Answer). x.0) xs) → AllRight n xs
-unfolding AllRight Kept
-kept_right n b [] none_made k = tt
-kept_right n b ((c, a) ∷ xs) (then_made {b' = b'} y m more) k =
-    let i : (a, b') ≡ on_area b c = made_is y m in
-    let ea : (on_area b c).0 ≡ a = sym (ap (λ (p : Answer × List ℕ). p.0) i) in
-    let eb : (on_area b c).1 ≡ b' = sym (ap (λ (p : Answer × List ℕ). p.1) i) in (
-      λ t. subst (λ (x : Answer). Right n c x) ea (k.0.0 (ap accepted ea ∙ t)),
-      kept_right (note n c (told_of a)) b' xs more
-          (subst (λ (x : Answer). Kept areas demand3 (note n c (told_of x)) b' (map (λ (x : Call × Answer). x.0) xs)) ea
-          (subst (λ (v : List ℕ). Kept areas demand3 (note n c (told_of (on_area b c).0)) v (map (λ (x : Call × Answer). x.0) xs)) eb k.1)),
-    )
-
--- Demand 3: of every list of exported calls on one area that begins with an accepted start, whatever bytes it held, every accepted call is right by the book.
-pub demand_3 : (n : Book) (b : List ℕ) (config : SimConfig) (limits : Limits) (seed : ℕ) (a : Answer) (xs : List (Call × Answer))
-    → Makes b ((start config limits seed, a) ∷ xs) → accepted a ≡ true → AllRight n ((start config limits seed, a) ∷ xs)
-demand_3 n b config limits seed a xs (then_made y m more) t =
-    kept_right n b ((start config limits seed, a) ∷ xs) (then_made y m more)
-    (theorem_area b n config limits seed (map (λ (x : Call × Answer). x.0) xs) (ap (λ (p : Answer × List ℕ). accepted p.0) (sym (made_is y m)) ∙ t))

@@ -1,10 +1,9 @@
--- What is heard of a struct is the answer whose numbers it has: of a refusal, and of every answer whose bytes the buffer holds. Assumes nothing.
-use Rattle.std.specs.Prelude.{◌≡◌, refl, Bool, true, false, List, [], ◌∷◌, ◌++◌, ℕ, zero, suc, ◌+◌, ◌≤◌, ◌<◌, eqb, length, take, drop}
+-- What is heard of a struct is the answer whose numbers it has: of a refusal, and of every answer whose bytes the buffer holds; of a seal in proofs/Returned.antt. Assumes nothing.
+use Rattle.std.specs.Prelude.{◌≡◌, refl, Bool, true, false, List, [], ℕ, ◌+◌, ◌≤◌, ◌<◌, eqb, length, take, drop}
 use Rattle.std.proofs.Common.{sym, ap, ap₂, ◌∙◌, arith, ne_eqb}
 use Rattle.std.proofs.Math.Option.{Option, none, some}
 use Rattle.std.proofs.lemmas.List.Edits.{sets, sets-eq}
 use Rattle.std.proofs.Math.Seq.{take-append_seam}
-use Rattle.laws.specs.Bools.{pick}
 use Rattle.units.specs.Types.{Payload, noop, command, Entry}
 use Rattle.units.specs.declared.NodeOption.{NodeOption}
 use Rattle.units.specs.declared.NodeOption.TheVariants as node
@@ -16,13 +15,13 @@ use Rattle.storage.specs.declared.HardState.{HardState}
 use Rattle.checks_durability.specs.declared.replies.Reply.{Reply}
 use Rattle.model.specs.State.{Confirmation}
 use Rattle.model.specs.Simulation.{Opening, no_input, open_start, open_message, open_timer, open_proposal, open_confirmation}
-use Rattle.model.specs.Calls.{timer_of, Asked, Stepped, Sealed, Sealing, synced, nothing_to_sync, cut, sealing_number}
+use Rattle.model.specs.Calls.{timer_of, Asked, Stepped}
 use Rattle.model.specs.Calls as model
-use Rattle.model.specs.Outcome.{Answer, no, acted, opened, stepped, asked, sealed, got, got_hard_state, got_log, got_entry, got_applied, got_applied_entry, got_reply, got_confirmation}
+use Rattle.model.specs.Outcome.{Answer, no, acted, opened, stepped, asked, got, got_hard_state, got_log, got_entry, got_applied, got_applied_entry, got_reply, got_confirmation}
 use Rattle.model.specs.Reads.{LogRead}
-use Rattle.answers.specs.Answers.{nodePresent, nodeId, payload_kind, commandBytes, done_yes, input_of, opened_yes, asked_yes, stepped_yes, sealed_yes, hard_state_yes, log_yes, entry_yes, applied_yes, applied_entry_yes, reply_yes, confirmation_yes}
+use Rattle.answers.specs.Answers.{nodePresent, nodeId, payload_kind, commandBytes, done_yes, input_of, opened_yes, asked_yes, stepped_yes, hard_state_yes, log_yes, entry_yes, applied_yes, applied_entry_yes, reply_yes, confirmation_yes}
 use Rattle.answers.specs.Numbers.{input_bytes, entry_bytes, applied_bytes}
-use Rattle.demands.specs.Heard.{unless, behind, node_heard, payload_heard, opening_heard, heard_done, heard_opened, heard_asked, heard_stepped, sealing_heard, heard_sealed, heard_hard_state, heard_log, heard_entry, heard_applied, heard_applied_entry, heard_reply, heard_confirmation}
+use Rattle.demands.specs.Heard.{unless, behind, node_heard, payload_heard, opening_heard, heard_done, heard_opened, heard_asked, heard_stepped, heard_hard_state, heard_log, heard_entry, heard_applied, heard_applied_entry, heard_reply, heard_confirmation}
 
 -- a refusal's number
 pub unless_no : (n : ℕ) (a : Answer) → 0 < n → unless n a ≡ no n
@@ -37,11 +36,6 @@ node_heard_lem (node.Some id) = refl
 timer_heard : (t : Timer) → timer_of (timer_number t) ≡ t
 timer_heard Election = refl
 timer_heard Heartbeat = refl
-
-sealing_heard_lem : (x : Sealing) → sealing_heard (sealing_number x) ≡ x
-sealing_heard_lem synced = refl
-sealing_heard_lem nothing_to_sync = refl
-sealing_heard_lem cut = refl
 
 -- bytes at the front of a buffer
 pub front : (z xs : List ℕ) → length xs ≤ length z → take (length xs) (sets z 0 xs) ≡ xs
@@ -61,7 +55,7 @@ opening_heard_lem (open_proposal server client seq) u e = refl
 opening_heard_lem (open_confirmation server request) u e = refl
 
 -- an input without bytes needs no buffer
-quiet_heard : (o : Opening) → input_bytes o ≡ [] → opening_heard (input_of o) [] ≡ o
+pub quiet_heard : (o : Opening) → input_bytes o ≡ [] → opening_heard (input_of o) [] ≡ o
 quiet_heard o e = opening_heard_lem o [] (ap (λ (xs : List ℕ). take (length xs) []) e ∙ sym e)
 
 -- ---- calls that act
@@ -87,9 +81,6 @@ stepped_heard s z l = ap₂ (λ (d : Bool) (o : Opening). stepped (record { due 
     due_heard : (d : Bool) → eqb (Rattle.answers.specs.Answers.flag d) 1 ≡ d
     due_heard true = refl
     due_heard false = refl
-
-pub sealed_heard : (s : Sealed) → input_bytes s.opening ≡ [] → heard_sealed (sealed_yes s) ≡ sealed s
-sealed_heard s e = ap₂ (λ (x : Sealing) (o : Opening). sealed (record { sealing = x; opening = o })) (sealing_heard_lem s.sealing) (quiet_heard s.opening e)
 
 -- ---- reads
 

@@ -8,7 +8,8 @@ use native.Mathlib.Omega.{arith}
 use Rattle.std.proofs.Math.Dec.{ltb, eqb}
 use Rattle.std.proofs.Math.ListN.{get_or-eq_default}
 use borrow.Author.Tests.{eq-eqb, ne_eqb, ltb-true, eqb-true}
-use Rattle.laws.specs.Bools.{first_true, second_true, ◌and◌, no_and, true_and, code_and}
+use Rattle.laws.specs.Bools.{first_true, second_true, ◌and◌, no_and}
+use Rattle.laws.proofs.BoolLaws.{true_and, code_and}
 use Rattle.units.specs.declared.NodeId.{NodeId}
 use Rattle.faults.specs.declared.Fault.{Fault}
 use Rattle.faults.specs.declared.Fault.TheVariants.{Crash, CrashDuringNextInput, Restart, CrashLeader, Partition, Block, Unblock, HealLinks, SetLoss, SetDuplication, SetDelayFactor, HealAll}

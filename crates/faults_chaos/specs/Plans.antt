@@ -11,7 +11,8 @@ use native.Mathlib.Omega.{arith}
 use Rattle.std.proofs.Math.Dec.{leb}
 use Rattle.std.proofs.Math.ListN.{length, length-append}
 use borrow.Author.Tests.{lt-ltb, le-ltb, le-leb, lt-leb, leb-true}
-use Rattle.laws.specs.Bools.{pick, pick_both, ◌and◌, and_left, and_right, and_both, and_no, no_and, and_assoc, true_and, code_and}
+use Rattle.laws.specs.Bools.{pick, pick_both, ◌and◌, and_left, no_and, and_assoc}
+use Rattle.laws.proofs.BoolLaws.{and_right, and_both, and_no, true_and, code_and}
 use Rattle.laws.specs.Order.{Order, numbers, push_by, push_all, sort_by}
 use Rattle.units.specs.declared.NodeId.{NodeId}
 use Rattle.units.specs.declared.SimTime.{SimTime}

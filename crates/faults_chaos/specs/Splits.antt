@@ -6,7 +6,8 @@ use Rattle.std.proofs.lemmas.Nat.{or_lt}
 use Rattle.std.proofs.Math.Dec.{leb}
 use Rattle.std.proofs.Math.Pow.{pow-lt}
 use borrow.Author.Tests.{eq-eqb, ne_eqb, leb-true}
-use Rattle.laws.specs.Bools.{pick, pick_both, ◌and◌, and_left, and_right, every_get}
+use Rattle.laws.specs.Bools.{pick, pick_both, ◌and◌, and_left}
+use Rattle.laws.proofs.BoolLaws.{and_right, every_get}
 use Rattle.units.specs.declared.NodeId.{NodeId}
 use Rattle.rng.specs.Rng.{under}
 use Rattle.rng.specs.declared.Rng.{Rng}

@@ -6,7 +6,7 @@ use native.Mathlib.Omega.{arith}
 use Rattle.std.specs.Int.{w64}
 use Rattle.std.proofs.lemmas.List.{length-replicate, replicate-append-replicate}
 use Rattle.std.proofs.lemmas.List.Edits.{sets}
-use Rattle.laws.specs.Bools.{and_both}
+use Rattle.laws.proofs.BoolLaws.{and_both}
 use Rattle.laws.specs.Order.{numbers, push_by}
 use Rattle.words.specs.Words.{bytes, W}
 use Rattle.words.specs.Sets.{cut, sets_at}

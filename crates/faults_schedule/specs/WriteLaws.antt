@@ -6,7 +6,8 @@ use mathlib.Core.List.{List, [], ◌∷◌, ◌++◌, map, append-nil}
 use Rattle.std.specs.Int.{w64}
 use Rattle.std.proofs.Math.ListN.{length}
 use Rattle.std.proofs.lemmas.List.{length-map}
-use Rattle.laws.specs.Bools.{pick, cases, ◌and◌, and_left, and_right}
+use Rattle.laws.specs.Bools.{pick, cases, ◌and◌, and_left}
+use Rattle.laws.proofs.BoolLaws.{and_right}
 use Rattle.laws.specs.Order.{Order, numbers, chain, push_by, push_all, sort_by}
 use Rattle.units.specs.declared.SimTime.{SimTime}
 use Rattle.units.specs.declared.Duration.{Duration}

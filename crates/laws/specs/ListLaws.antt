@@ -1,14 +1,14 @@
--- Elements by place, equal lists, and what holds of each element, by its place, and how it is kept as the list changes. Assumes nothing.
+-- Elements by place, and what holds of each element, by its place, and how it is kept as the list changes. Assumes nothing.
 use Rattle.std.specs.Prelude.{◌≡◌, Bool, length, get_or, drop}
 use Rattle.std.proofs.Math.Path.{refl, subst}
-use Rattle.std.proofs.Common.{sym, ap, ap₂, ◌∙◌, add-one, arith, drop-cons, eqb-true, eq-eqb}
+use Rattle.std.proofs.Common.{sym, ap, ◌∙◌, add-one, arith, drop-cons}
 use Rattle.std.proofs.Math.Bool.{true, false}
 use mathlib.Core.List.{List, [], ◌∷◌, ◌++◌}
 use Rattle.std.proofs.Math.Option.{none, some}
 use Prim.Native.Nat.{ℕ, zero, suc, ◌+◌, ◌≤◌, ◌<◌}
-use Rattle.laws.specs.Bools.{pick, and_left, and_right, and_both}
+use Rattle.laws.specs.Bools.{pick}
 use Rattle.laws.specs.Decides.{false_true}
-use Rattle.laws.specs.Lists.{modify, is_some, at, same_list}
+use Rattle.laws.specs.Lists.{modify, is_some, at}
 use Rattle.laws.specs.Order.{Order, push_by}
 
 -- ---- the element at a place
@@ -29,20 +29,6 @@ module _ {A : Type 0} where
   -- from place i on: what stands there, and the rest, as a turn of a loop has it
   pub drop_next : (x : List A) (i : ℕ) (d : A) → i < length x → drop i x ≡ get_or x i d ∷ drop (i + 1) x
   drop_next x i d h = drop-cons x i d h ∙ ap (λ (k : ℕ). get_or x i d ∷ drop k x) (sym (add-one i))
-
--- ---- equal lists
-
-pub list_itself : (a : List ℕ) → same_list a a ≡ true
-unfolding same_list
-list_itself [] = refl
-list_itself (x ∷ a) = and_both _ _ (eq-eqb x x refl) (list_itself a)
-
-pub list_equal : (a b : List ℕ) → same_list a b ≡ true → a ≡ b
-unfolding same_list
-list_equal [] [] h = refl
-list_equal [] (y ∷ b) h = absurd (false_true h)
-list_equal (x ∷ a) [] h = absurd (false_true h)
-list_equal (x ∷ a) (y ∷ b) h = ap₂ (λ (u : ℕ) (v : List ℕ). u ∷ v) (eqb-true x y (and_left _ _ h)) (list_equal a b (and_right _ _ h))
 
 -- ---- what holds of each element
 

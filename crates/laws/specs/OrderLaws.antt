@@ -1,51 +1,17 @@
--- What a row put into a list in order, pushed into it or taken out of it makes of the tests of its rows and of its length. Assumes nothing.
+-- What a row put into a list in order, pushed into it or taken out of it makes of its length. Assumes nothing.
 use Rattle.std.specs.Prelude.{◌≡◌, Bool}
 use Rattle.std.proofs.Math.Path.{refl, ap}
 use Rattle.std.proofs.Math.Bool.{true, false}
 use mathlib.Core.List.{List, [], ◌∷◌}
 use Rattle.std.proofs.Math.Option.{Option, none, some}
-use Prim.Native.Nat.{ℕ, suc, ◌+◌, ◌≤◌}
+use Prim.Native.Nat.{suc, ◌+◌, ◌≤◌}
 use native.Mathlib.Omega.{arith}
 use Rattle.std.proofs.Math.ListN.{length}
-use Rattle.laws.specs.Bools.{pick, every, and_left, and_right, and_both}
+use Rattle.laws.specs.Bools.{pick}
 use Rattle.laws.specs.Lists.{is_some}
 use Rattle.laws.specs.Order.{Order, insert_by, push_by, remove_by, lookup}
 
 module _ {K T : Type 0} (O : Order K) (key : T → K) where
-  -- ---- a test of every row
-
-  module _ (p : T → Bool) where
-    pub every_insert : (a : T) (x : List T) → p a ≡ true → every p x ≡ true → every p (insert_by O key a x) ≡ true
-    unfolding insert_by
-    every_insert a [] h k = and_both _ _ h refl
-    every_insert a (b ∷ x) h k = by (O.before (key b) (key a)) (O.before (key a) (key b)) (every_insert a x h (and_right _ _ k))
-      where
-        by : (s t : Bool) → every p (insert_by O key a x) ≡ true → every p (pick s (b ∷ insert_by O key a x) (pick t (a ∷ b ∷ x) (b ∷ x))) ≡ true
-        by true t more = and_both _ _ (and_left _ _ k) more
-        by false true more = and_both _ _ h k
-        by false false more = k
-
-    pub every_push : (a : T) (x : List T) → p a ≡ true → every p x ≡ true → every p (push_by O key a x) ≡ true
-    unfolding push_by
-    every_push a [] h k = and_both _ _ h refl
-    every_push a (b ∷ x) h k = by (O.before (key a) (key b)) (every_push a x h (and_right _ _ k))
-      where
-        by : (t : Bool) → every p (push_by O key a x) ≡ true → every p (pick t (a ∷ b ∷ x) (b ∷ push_by O key a x)) ≡ true
-        by true more = and_both _ _ h k
-        by false more = and_both _ _ (and_left _ _ k) more
-
-    pub every_remove : (k : K) (x : List T) → every p x ≡ true → every p (remove_by O key k x) ≡ true
-    unfolding remove_by
-    every_remove k [] h = refl
-    every_remove k (b ∷ x) h = by (O.before (key b) k) (O.before k (key b)) (every_remove k x (and_right _ _ h))
-      where
-        by : (s t : Bool) → every p (remove_by O key k x) ≡ true → every p (pick s (b ∷ remove_by O key k x) (pick t (b ∷ x) x)) ≡ true
-        by true t more = and_both _ _ (and_left _ _ h) more
-        by false true more = h
-        by false false more = and_right _ _ h
-
-  -- ---- the length
-
   -- one more, unless a row with its key is there
   pub length_insert : (a : T) (x : List T) → length (insert_by O key a x) ≡ pick (is_some (lookup O key (key a) x)) (length x) (length x + 1)
   unfolding insert_by lookup

@@ -5,7 +5,8 @@ use Rattle.std.specs.Prelude.{◌≡◌, refl, Bool, true, false, List, [], ◌�
 use Rattle.std.proofs.Common.{sym, ap, ◌∙◌, append_assoc, zero-mul, suc-mul, add_comm, arith, length-append, length-drop, take-append-drop, take_at, drop_at, drop-drop, length-take-le, leb-true, le-leb, ltb-true, lt-ltb, eqb-true, eq-eqb, ne_eqb}
 use Rattle.std.proofs.Math.Option.{Option, none, some}
 use Rattle.std.proofs.lemmas.List.{length-replicate}
-use Rattle.laws.specs.Bools.{pick, ◌and◌, and_left, and_right, and_both, every}
+use Rattle.laws.specs.Bools.{pick, ◌and◌, and_left, every}
+use Rattle.laws.proofs.BoolLaws.{and_right, and_both}
 use Rattle.words.specs.Words.{Fit, allz}
 use Rattle.words.specs.Numbers.{each_append, each_drop, each_zeros}
 use Rattle.words.specs.Zero.{allz_zeros, zeros_allz}

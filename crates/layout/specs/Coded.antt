@@ -1,7 +1,8 @@
 -- The code of a type whose values are told by numbers: the values that fit, and the numbers that pass a test, are each other's. Assumes nothing.
 use Rattle.std.specs.Prelude.{◌≡◌, Bool, true, ◌++◌, drop}
 use Rattle.std.proofs.Common.{ap, ◌∙◌}
-use Rattle.laws.specs.Bools.{◌and◌, and_left, and_right, and_both}
+use Rattle.laws.specs.Bools.{◌and◌, and_left}
+use Rattle.laws.proofs.BoolLaws.{and_right, and_both}
 use Rattle.layout.specs.Code.{Code}
 
 -- numbers A of a value B, and the value of numbers

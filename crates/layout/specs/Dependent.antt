@@ -2,7 +2,8 @@
 -- others where what is not stored follows from a content being good. Assumes nothing.
 use Rattle.std.specs.Prelude.{◌≡◌, refl, Bool, true, List, [], ◌∷◌, ◌++◌, ℕ, ◌+◌, ◌≤◌, length, drop}
 use Rattle.std.proofs.Common.{sym, ap, ap₂, subst, ◌∙◌, append_assoc, arith, length-append, length-drop, drop_at, drop-drop}
-use Rattle.laws.specs.Bools.{◌and◌, and_left, and_right, and_both, every}
+use Rattle.laws.specs.Bools.{◌and◌, and_left, every}
+use Rattle.laws.proofs.BoolLaws.{and_right, and_both}
 use Rattle.words.specs.Words.{Fit}
 use Rattle.words.specs.Numbers.{each_append, each_drop}
 use Rattle.layout.specs.Code.{Code}

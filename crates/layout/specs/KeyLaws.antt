@@ -4,7 +4,8 @@ use Rattle.std.proofs.Common.{sym, ap, ◌∙◌, add-zero, arith, get_or-drop, 
 use Rattle.std.proofs.lemmas.List.Edits.{sets}
 use Rattle.std.specs.Int.{w64}
 use Rattle.std.proofs.lemmas.Bool.{lt-leb}
-use Rattle.laws.specs.Bools.{pick, and_both, and_no}
+use Rattle.laws.specs.Bools.{pick}
+use Rattle.laws.proofs.BoolLaws.{and_both, and_no}
 use Rattle.laws.specs.Order.{pairs, rising}
 use Rattle.words.specs.Words.{bytes, W}
 use Rattle.client.specs.declared.ClientKey.{ClientKey}

@@ -6,7 +6,8 @@ use Rattle.std.proofs.Common.{sym, ap₂, ◌∙◌, arith, drop_at, length-take
 use mathlib.Core.List.{List, [], ◌∷◌, ◌++◌}
 use Rattle.std.proofs.Math.ListN.{length, take, length-append, length-drop, length-replicate, take-append-drop}
 use Rattle.std.proofs.Math.Seq.{take_at}
-use Rattle.laws.specs.Bools.{◌and◌, and_left, and_right, and_both, every}
+use Rattle.laws.specs.Bools.{◌and◌, and_left, every}
+use Rattle.laws.proofs.BoolLaws.{and_right, and_both}
 use Rattle.words.specs.Words.{bytes, W, Fit, Bytes, allz}
 use Rattle.words.specs.Numbers.{each_append, each_take, each_drop, each_zeros}
 use Rattle.words.specs.Zero.{allz_zeros, zeros_allz}

@@ -10,7 +10,8 @@ use Rattle.std.proofs.lemmas.List.{length-replicate}
 use Rattle.std.proofs.lemmas.List.Edits.{sets}
 use Rattle.std.proofs.Math.Seq.{take_at}
 use Rattle.std.proofs.lemmas.Bool.{lt-leb}
-use Rattle.laws.specs.Bools.{◌and◌, no_and, true_and}
+use Rattle.laws.specs.Bools.{◌and◌, no_and}
+use Rattle.laws.proofs.BoolLaws.{true_and}
 use Rattle.laws.specs.Decides.{Decides, decided}
 use Rattle.words.specs.Words.{bytes, bytes_of, W, Bytes, allz}
 use Rattle.words.specs.Sets.{sets_append, sets_all}

@@ -7,7 +7,8 @@ use Rattle.std.proofs.Math.ListN.{length}
 use Rattle.std.proofs.lemmas.List.Edits.{sets}
 use Rattle.std.proofs.Math.Seq.{length-sets}
 use Rattle.std.proofs.lemmas.Bool.{not-true, not-false}
-use Rattle.laws.specs.Bools.{and_left, and_right, and_both}
+use Rattle.laws.specs.Bools.{and_left}
+use Rattle.laws.proofs.BoolLaws.{and_right, and_both}
 use Rattle.words.specs.Words.{bytes, W, Bytes}
 use Rattle.words.specs.Sets.{sets_at, sets_lent, length_part, part_part, cut}
 use Rattle.words.specs.Numbers.{each_drop}

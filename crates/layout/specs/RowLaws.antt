@@ -11,7 +11,8 @@ use Rattle.std.proofs.Math.ListN.{length, get_or, drop}
 use Rattle.std.proofs.lemmas.List.Edits.{sets}
 use Rattle.std.proofs.Math.Seq.{get_or-drop}
 use borrow.Author.Tests.{lt-ltb, le-ltb, le-leb, lt-leb, eq-eqb, ne_eqb, not-true, not-false}
-use Rattle.laws.specs.Bools.{◌and◌, and_no, no_and, true_and}
+use Rattle.laws.specs.Bools.{◌and◌, no_and}
+use Rattle.laws.proofs.BoolLaws.{and_no, true_and}
 use Rattle.laws.specs.ListLaws.{drop_next}
 use Rattle.words.specs.Words.{W, allz}
 use Rattle.words.specs.Lift.{length_w}

@@ -9,7 +9,8 @@ use Rattle.std.proofs.Math.Nat.{suc-mul}
 use Rattle.std.proofs.Math.ListN.{length, take, drop, replicate, length-append}
 use Rattle.std.proofs.lemmas.List.{length-replicate, replicate-append-replicate, set_split}
 use Rattle.std.proofs.Math.Seq.{sets, split_at, length-sets}
-use Rattle.laws.specs.Bools.{and_left, and_right, and_both, every, every_append, every_get}
+use Rattle.laws.specs.Bools.{and_left, every}
+use Rattle.laws.proofs.BoolLaws.{and_right, and_both, every_append, every_get}
 use Rattle.words.specs.Words.{bytes}
 use Rattle.words.specs.Sets.{sets_at, part_at, gap_put, gap_close}
 use Rattle.words.specs.Lift.{bytes_zeros, part_whole, sets_whole}

@@ -12,7 +12,8 @@ use Rattle.std.proofs.Math.Numerals.{add-one}
 use native.Mathlib.Omega.{arith}
 use Rattle.std.proofs.Math.Dec.{leb-suc-suc}
 use Rattle.std.proofs.Math.ListN.{take, drop}
-use Rattle.laws.specs.Bools.{pick, and_left, and_right, and_both, every, every_get}
+use Rattle.laws.specs.Bools.{pick, and_left, every}
+use Rattle.laws.proofs.BoolLaws.{and_right, and_both, every_get}
 use Rattle.laws.specs.Decides.{false_true}
 use Rattle.layout.specs.declared.rows.Found.{Found}
 use Rattle.layout.specs.declared.rows.Found.TheVariants.{At, Absent}

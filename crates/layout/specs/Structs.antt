@@ -2,9 +2,10 @@
 use Rattle.std.specs.Prelude.{◌≡◌, refl, Bool, true, List, [], ◌∷◌, ◌++◌, ℕ, zero, suc, ◌+◌, ◌^◌, ◌≤◌, length, drop, get_or}
 use Rattle.std.proofs.Common.{sym, ap, ◌∙◌, arith, Fits}
 use Rattle.std.specs.Int.{w64}
-use Rattle.laws.specs.Bools.{◌and◌, every, and_left, and_right, and_both}
+use Rattle.laws.specs.Bools.{◌and◌, every, and_left}
+use Rattle.laws.proofs.BoolLaws.{and_right, and_both}
 use Rattle.laws.specs.Lists.{same_list}
-use Rattle.laws.specs.ListLaws.{list_itself, list_equal}
+use Rattle.laws.proofs.ListLaws.{list_itself, list_equal}
 use Rattle.words.specs.Words.{Fit}
 use Rattle.layout.specs.Code.{Code}
 use Rattle.layout.specs.UpTo.{is64, is64_fits, each_fit}

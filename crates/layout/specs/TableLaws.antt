@@ -10,7 +10,8 @@ use Rattle.std.proofs.Math.ListN.{length, length-append}
 use Rattle.std.proofs.lemmas.List.{length-replicate, replicate-append-replicate}
 use Rattle.std.proofs.Math.Seq.{sets, length-sets}
 use borrow.Author.Tests.{eqb-true, eq-eqb, leb-true, not-true, not-false}
-use Rattle.laws.specs.Bools.{◌and◌, and_left, and_right, and_both, true_and, no_and, every, every_append, every_get, every_set, every_first, every_second, every_both}
+use Rattle.laws.specs.Bools.{◌and◌, and_left, no_and, every}
+use Rattle.laws.proofs.BoolLaws.{and_right, and_both, true_and, every_append, every_get, every_set, every_first, every_second, every_both}
 use Rattle.laws.specs.Decides.{Decides, fails, false_true}
 use Rattle.words.specs.Words.{bytes, W, allz, Bytes}
 use Rattle.words.specs.Sets.{sets_at}

@@ -3,7 +3,8 @@ use Rattle.std.specs.Prelude.{◌≡◌, refl, Bool, true, List, [], ◌∷◌, 
 use Rattle.std.proofs.Common.{sym, ap, ap₂, ◌∙◌, append_assoc, arith, length-append, length-drop, take-append-drop, take_at, drop_at, drop-drop, take-take, length-take-le, Fits, leb-true, le-leb, ltb-true, lt-ltb}
 use Rattle.std.proofs.lemmas.List.{length-replicate}
 use Rattle.std.specs.Int.{w64}
-use Rattle.laws.specs.Bools.{◌and◌, and_left, and_right, and_both, every}
+use Rattle.laws.specs.Bools.{◌and◌, and_left, every}
+use Rattle.laws.proofs.BoolLaws.{and_right, and_both}
 use Rattle.words.specs.Words.{Fit, allz}
 use Rattle.words.specs.Numbers.{each_append, each_take, each_drop, each_zeros}
 use Rattle.words.specs.Zero.{allz_zeros, zeros_allz}

@@ -1,5 +1,5 @@
 -- What the proofs of leader's functions cite. Assumes nothing.
-use Rattle.std.specs.Prelude.{◌≡◌, refl, Bool, true, false, ◌&&◌, List, ℕ, ◌+◌, ◌≤◌, ◌<◌, leb, length, drop, get_or}
+use Rattle.std.specs.Prelude.{◌≡◌, refl, Bool, true, false, ◌&&◌, List, ℕ, [], ◌∷◌, ◌+◌, ◌≤◌, ◌<◌, leb, length, drop, get_or}
 use Rattle.std.proofs.Common.{add-one, arith, drop_of_length-le, drop-cons}
 use Rattle.units.specs.declared.NodeId.{NodeId}
 use Rattle.units.specs.declared.Term.{Term}
@@ -53,3 +53,20 @@ unfolding leader_from zip_reported
 choosing_done {ids} {roles} {terms} {best} {i} c h = rw (drop_of_length-le ids h) at c.left
 
 pub ruleset choosing = (choosing_start, choosing_turn, choosing_done)
+
+-- ---- the leader of a lent list, server by server
+
+pub leading_start : (rs : List Reported) → leader_from None rs ≡ leader rs
+unfolding leader
+leading_start rs = refl
+
+pub leading_turn : (rs : List Reported) (best next : LeaderOption) (i : ℕ) (d : Reported) → i < length rs → next ≡ better best (get_or rs i d)
+    → leader_from best (drop i rs) ≡ leader rs → leader_from next (drop (i + 1) rs) ≡ leader rs
+unfolding leader_from
+leading_turn rs best next i d h e f =
+    let g : leader_from best (get_or rs i d ∷ drop (i + 1) rs) ≡ leader rs = rw (add-one, ← drop-cons rs i d h) f in
+    rw e g
+
+pub leading_end : (rs : List Reported) (best : LeaderOption) (i : ℕ) → length rs ≤ i → leader_from best (drop i rs) ≡ leader rs → best ≡ leader rs
+unfolding leader_from
+leading_end rs best i h e = let none : drop i rs ≡ [] = drop_of_length-le rs h in rw none at e

@@ -11,7 +11,8 @@ use denote.Laws.{Is}
 use Rattle.std.specs.Borrow.{RattleType}
 use denote.Shadow.{shadow}
 use borrow.Author.Tests.{lt-ltb, le-leb, eq-eqb, ltb-true, leb-true, eqb-true}
-use Rattle.laws.specs.Bools.{pick, ◌and◌, first_true, second_true, every, and_left, and_right, and_both, and_assoc, true_and, and_true, code_and}
+use Rattle.laws.specs.Bools.{pick, ◌and◌, first_true, second_true, every, and_left, and_assoc, and_true}
+use Rattle.laws.proofs.BoolLaws.{and_right, and_both, true_and, code_and}
 use Rattle.laws.specs.Lists.{modify}
 use Rattle.units.specs.declared.NodeId.{NodeId}
 use Rattle.metrics.specs.declared.Counts.{Counts}

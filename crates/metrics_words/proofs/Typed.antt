@@ -8,4 +8,4 @@ use Rattle.metrics.specs.declared.Metrics.{Metrics}
 use Rattle.metrics.specs.contracts.Metrics as Metrics'
 
 pub eight_senders : (m : Metrics) (vs : List Val) → Is Metrics'.the_row m vs → length m.by_sender ≡ 8
-eight_senders m vs p = sym (length-map m.by_sender _) ∙ p.1.1.1.0.1.0.1
+eight_senders m vs p = p.1.1.1.0.1.0.1

@@ -1,6 +1,7 @@
 -- The counters of a run in 31 words: the totals of all messages, those of each of the eight servers, and four counters. Assumes nothing.
 use Rattle.std.specs.Prelude.{◌≡◌, refl, Bool, true, List, ℕ, ◌+◌, get_or, drop}
-use Rattle.laws.specs.Bools.{every, and_left, and_right, and_both}
+use Rattle.laws.specs.Bools.{every, and_left}
+use Rattle.laws.proofs.BoolLaws.{and_right, and_both}
 use Rattle.metrics.specs.declared.Counts.{Counts}
 use Rattle.metrics.specs.declared.Metrics.{Metrics}
 use Rattle.metrics.specs.Metrics.{totals_fit, counters_fit, none_counted, metrics_fit}

@@ -3,7 +3,8 @@
 use Rattle.std.specs.Prelude.{◌≡◌, refl, Bool, true, false, List, [], ◌∷◌, ℕ, zero, suc, ◌+◌, ◌*◌, ◌/◌, ◌%◌, ◌^◌, ◌≤◌, ◌<◌, leb, ltb, eqb, length}
 use Rattle.std.proofs.Common.{sym, ap, ◌∙◌, subst, pow-suc, div-lt_iff_lt-mul, arith, pow_pos, pow_mono, lt-ltb, le-leb, eq-eqb, ne_eqb, ltb-true, leb-true, leb-false, eqb-true}
 use Rattle.std.proofs.Math.Nat.{pow-zero, pow-le-pow_right}
-use Rattle.laws.specs.Bools.{pick, cases, ◌and◌, every, and_left, and_right, and_both}
+use Rattle.laws.specs.Bools.{pick, cases, ◌and◌, every, and_left}
+use Rattle.laws.proofs.BoolLaws.{and_right, and_both}
 use Rattle.laws.specs.Decides.{false_true}
 use Rattle.laws.specs.Kinds.{kind_of}
 use Rattle.units.specs.Types.{noop, command, payload_of}

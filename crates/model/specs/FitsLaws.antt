@@ -2,7 +2,8 @@
 use Rattle.std.specs.Prelude.{◌≡◌, refl, Bool, true, false, List, [], ◌∷◌, ℕ, zero, suc, ◌+◌, ◌-◌, ◌*◌, ◌/◌, ◌%◌, ◌^◌, ◌≤◌, ◌<◌, leb, ltb, eqb, length}
 use Rattle.std.proofs.Common.{sym, ap, ◌∙◌, subst, mul-le-mul_right, div-lt_iff_lt-mul, arith, pow_pos, pow_mono, shr-shr, lt-ltb, le-leb, eq-eqb, ne_eqb, ltb-true, leb-true, eqb-true}
 use Rattle.std.proofs.Math.Nat.{pow-zero}
-use Rattle.laws.specs.Bools.{pick, ◌and◌, every, and_left, and_right, and_both}
+use Rattle.laws.specs.Bools.{pick, ◌and◌, every, and_left}
+use Rattle.laws.proofs.BoolLaws.{and_right, and_both}
 use Rattle.units.specs.Types.{Payload, noop, command}
 use Rattle.layout.specs.Tables.{Table, content}
 use Rattle.layout.specs.Marked.{is_byte}

@@ -6,7 +6,8 @@ use Prim.Native.Nat.{ℕ, zero, suc, ◌+◌, ◌-◌, ◌*◌, ◌/◌, ◌%◌
 use native.Mathlib.Omega.{arith}
 use Rattle.std.proofs.lemmas.List.{set_at, get_or_at}
 use borrow.Author.Tests.{lt-ltb, eq-eqb, ne_eqb}
-use Rattle.laws.specs.Bools.{pick_both, and_both}
+use Rattle.laws.specs.Bools.{pick_both}
+use Rattle.laws.proofs.BoolLaws.{and_both}
 use Rattle.laws.specs.Lists.{list_from}
 use Rattle.units.specs.declared.NodeId.{NodeId}
 use Rattle.rng.specs.Rng.{under, after}

@@ -9,7 +9,8 @@ use native.Mathlib.Omega.{arith}
 use Rattle.std.proofs.Math.ListN.{get_or, drop, drop_of_length-le}
 use Rattle.std.proofs.Math.Seq.{drop-cons}
 use borrow.Author.Tests.{lt-ltb, le-leb, eq-eqb, ltb-true, ltb-false, leb-true, eqb-true}
-use Rattle.laws.specs.Bools.{pick, ◌and◌, cases, pick_both, and_left, and_right, and_both, and_no, no_and, true_and, and_true, and_assoc, code_and}
+use Rattle.laws.specs.Bools.{pick, ◌and◌, cases, pick_both, and_left, no_and, and_true, and_assoc}
+use Rattle.laws.proofs.BoolLaws.{and_right, and_both, and_no, true_and, code_and}
 use Rattle.laws.specs.Decides.{false_true}
 use Rattle.laws.specs.Lists.{list_from}
 use Rattle.units.specs.declared.NodeId.{NodeId}

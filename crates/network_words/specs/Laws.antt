@@ -4,7 +4,8 @@ use Rattle.std.proofs.Common.{sym, ap, ◌∙◌, arith, Fits, lt-ltb, eq-eqb}
 use Rattle.std.proofs.lemmas.List.Edits.{sets}
 use Rattle.std.proofs.Math.Seq.{get_or-drop, drop-drop}
 use Rattle.std.specs.Int.{w64}
-use Rattle.laws.specs.Bools.{and_left, and_right, and_both, true_and, and_true, and_assoc, code_and}
+use Rattle.laws.specs.Bools.{and_left, and_true, and_assoc}
+use Rattle.laws.proofs.BoolLaws.{and_right, and_both, true_and, code_and}
 use Rattle.laws.specs.Decides.{Decides, fails}
 use Rattle.units.specs.declared.Duration.{Duration}
 use Rattle.words.specs.Words.{bytes, W, Bytes}

@@ -3,7 +3,8 @@
 -- stored: it is the code's argument, beside the number of servers. Assumes nothing.
 use Rattle.std.specs.Prelude.{◌≡◌, refl, Bool, true, List, ℕ, ◌^◌, ltb, eqb}
 use Rattle.std.proofs.Common.{sym, ap, ◌∙◌, arith, lt-ltb, eqb-true, eq-eqb}
-use Rattle.laws.specs.Bools.{◌and◌, and_left, and_right, and_both}
+use Rattle.laws.specs.Bools.{◌and◌, and_left}
+use Rattle.laws.proofs.BoolLaws.{and_right, and_both}
 use Rattle.network.specs.declared.Network.{Network}
 use Rattle.network.specs.Network.{network_in_range}
 use Rattle.network.specs.Ranges.{in_range_lem}

@@ -3,7 +3,8 @@ use Rattle.std.specs.Prelude.{◌≡◌, refl, Bool, true, false, ◌&&◌, List
 use Rattle.std.proofs.Math.Path.{sym, ap}
 use Rattle.std.proofs.Common.{ap₂, ◌∙◌, arith, eq-eqb, ne_eqb, eqb-true}
 use Rattle.std.proofs.Math.ListN.{get_or-eq_default}
-use Rattle.laws.specs.Bools.{pick, ◌and◌, allb, allb_in, and_both, code_and, and_assoc, and_true}
+use Rattle.laws.specs.Bools.{pick, ◌and◌, allb, and_assoc, and_true}
+use Rattle.laws.proofs.BoolLaws.{allb_in, and_both, code_and}
 use Rattle.units.specs.declared.NodeOption.{NodeOption}
 use Rattle.units.specs.declared.NodeOption.TheVariants.{None as NoNode, Some as SomeNode}
 use Rattle.protocol.specs.declared.Timer.{Timer}

@@ -2,7 +2,8 @@
 use Rattle.std.specs.Prelude.{◌≡◌, refl, Bool, ◌&&◌, ℕ, ◌^◌, leb, ltb, eqb}
 use Rattle.std.proofs.Math.Path.{sym, ap}
 use Rattle.std.proofs.Common.{◌∙◌, eq-eqb, ne_eqb}
-use Rattle.laws.specs.Bools.{pick, ◌and◌, code_and, and_assoc}
+use Rattle.laws.specs.Bools.{pick, ◌and◌, and_assoc}
+use Rattle.laws.proofs.BoolLaws.{code_and}
 use Rattle.units.specs.declared.NodeId.{NodeId}
 use Rattle.units.specs.declared.LogIndex.{LogIndex}
 use Rattle.faults.specs.declared.Fault.{Fault}

@@ -5,7 +5,8 @@ use Rattle.std.proofs.Common.{sym, ap, ◌∙◌, arith}
 use Rattle.std.proofs.Math.Bool.{true, false}
 use Rattle.std.proofs.Math.ListN.{length}
 use borrow.Author.Tests.{leb-true, le-leb}
-use Rattle.laws.specs.Bools.{pick, ◌and◌, and_left, and_right, and_both}
+use Rattle.laws.specs.Bools.{pick, ◌and◌, and_left}
+use Rattle.laws.proofs.BoolLaws.{and_right, and_both}
 use Rattle.laws.specs.Decides.{false_true}
 use Rattle.layout.specs.Code.{Code}
 use Rattle.layout.specs.Payload.{message}

@@ -7,7 +7,8 @@ use Prim.Native.Nat.{ℕ, ◌+◌, ◌-◌, ◌*◌, ◌^◌, ◌≤◌, ◌<◌
 use Rattle.std.proofs.Math.ListN.{length}
 use Rattle.std.proofs.lemmas.List.Edits.{sets}
 use Rattle.std.proofs.Math.Seq.{length-sets}
-use Rattle.laws.specs.Bools.{◌and◌, and_left, and_right, and_both, and_assoc, code_and, no_and, and_no, true_and}
+use Rattle.laws.specs.Bools.{◌and◌, and_left, and_assoc, no_and}
+use Rattle.laws.proofs.BoolLaws.{and_right, and_both, code_and, and_no, true_and}
 use Rattle.laws.specs.Order.{numbers, chain, sorted, push_by}
 use Rattle.words.specs.Words.{bytes, W, Bytes, Fit}
 use Rattle.words.specs.Sets.{length_part, part_at}

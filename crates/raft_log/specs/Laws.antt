@@ -12,9 +12,11 @@ use Rattle.std.proofs.lemmas.List.{length-replicate, get_or_at}
 use Rattle.std.proofs.Math.Seq.{sets}
 use Rattle.std.specs.Int.{w64}
 use Rattle.std.proofs.lemmas.Bool.{not-false}
-use Rattle.laws.specs.Bools.{pick, cases, and_left, and_right, and_both, and_true}
+use Rattle.laws.specs.Bools.{pick, cases, and_left, and_true}
+use Rattle.laws.proofs.BoolLaws.{and_right, and_both}
 use Rattle.laws.specs.Lists.{is_some, same_list}
-use Rattle.laws.specs.ListLaws.{drop_next, list_itself, list_equal}
+use Rattle.laws.specs.ListLaws.{drop_next}
+use Rattle.laws.proofs.ListLaws.{list_itself, list_equal}
 use Rattle.laws.specs.Decides.{Decides, false_true, holds, decided}
 use Rattle.units.specs.Types.{Payload, noop, command, payload_of, Entry, same_payload}
 use Rattle.units.specs.PayloadLaws.{payload_itself, payload_equal}

@@ -3,7 +3,7 @@ use Rattle.std.specs.Prelude.{◌≡◌, refl, true, List, ◌++◌, ℕ, zero, 
 use Rattle.std.proofs.Common.{sym, ap, ◌∙◌, subst, arith}
 use Rattle.std.proofs.Math.Option.{Option, none, some}
 use Rattle.std.proofs.lemmas.List.{replicate-append-replicate}
-use Rattle.laws.specs.Bools.{and_both}
+use Rattle.laws.proofs.BoolLaws.{and_both}
 use Rattle.units.specs.Types.{Payload, noop, command, Entry, term_option}
 use Rattle.words.specs.Words.{bytes}
 use Rattle.layout.specs.Code.{Code, zeros, word, pair, optional}

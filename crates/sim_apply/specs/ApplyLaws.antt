@@ -4,7 +4,8 @@ use Rattle.std.proofs.Math.Path.{refl, sym, ap, ap₂, subst}
 use Rattle.std.proofs.Common.{◌∙◌, le-leb, eqb-true, eq-eqb}
 use Rattle.std.proofs.Math.Bool.{Bool, true}
 use native.Mathlib.Omega.{arith}
-use Rattle.laws.specs.Bools.{pick, cases, ◌and◌, allb, allb_in, and_true, true_and}
+use Rattle.laws.specs.Bools.{pick, cases, ◌and◌, allb, and_true}
+use Rattle.laws.proofs.BoolLaws.{allb_in, true_and}
 use Rattle.laws.specs.Decides.{false_true}
 use Rattle.laws.specs.Lists.{is_some}
 use Rattle.laws.specs.Order.{pairs, lookup}

@@ -1,7 +1,8 @@
 -- What the proofs of the questions cite. Assumes nothing.
 use Rattle.std.specs.Prelude.{◌≡◌, refl, Bool, true, false, not, ◌&&◌, List, ℕ, zero, suc, ◌*◌, ◌≤◌, leb, eqb}
 use Rattle.std.proofs.Common.{sym, ap, ap₂, ◌∙◌, arith, ne_eqb, leb-true}
-use Rattle.laws.specs.Bools.{pick, ◌and◌, and_left, and_right, true_and, code_and}
+use Rattle.laws.specs.Bools.{pick, ◌and◌, and_left}
+use Rattle.laws.proofs.BoolLaws.{and_right, true_and, code_and}
 use Rattle.laws.specs.Decides.{false_true}
 use Rattle.model.specs.Calls.{is_flag}
 use Rattle.state.specs.declared.Capacity.{Capacity}

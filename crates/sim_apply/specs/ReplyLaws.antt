@@ -4,7 +4,8 @@ use Rattle.std.proofs.Math.Path.{sym, ap, subst}
 use Rattle.std.proofs.Common.{◌∙◌, arith, eq-eqb, ne_eqb, lt-ltb, le-leb}
 use Rattle.std.proofs.Math.Bool.{true}
 use Rattle.std.proofs.Math.Option.{none, some}
-use Rattle.laws.specs.Bools.{pick, cases, ◌and◌, every, allb_in, and_left, and_right, and_both, true_and}
+use Rattle.laws.specs.Bools.{pick, cases, ◌and◌, every, and_left}
+use Rattle.laws.proofs.BoolLaws.{allb_in, and_right, and_both, true_and}
 use Rattle.laws.specs.Decides.{false_true}
 use Rattle.laws.specs.Lists.{is_some}
 use Rattle.laws.specs.Order.{pairs, lookup}

@@ -4,7 +4,8 @@ use Rattle.std.proofs.Math.Path.{sym, ap, ap₂, subst}
 use Rattle.std.proofs.Common.{◌∙◌}
 use Rattle.std.proofs.Math.Bool.{true}
 use Prim.Native.Nat.{ℕ, ◌+◌, ◌<◌}
-use Rattle.laws.specs.Bools.{◌and◌, and_left, and_right, and_assoc, code_and}
+use Rattle.laws.specs.Bools.{◌and◌, and_left, and_assoc}
+use Rattle.laws.proofs.BoolLaws.{and_right, code_and}
 use Rattle.units.specs.declared.SimTime.{SimTime}
 use Rattle.config.specs.declared.SimConfig.{SimConfig}
 use Rattle.network.specs.declared.Network.{Network}

@@ -8,7 +8,8 @@ use Prim.Native.Nat.{ℕ, zero, suc, ◌+◌, ◌-◌, ◌^◌, ◌<◌}
 use Rattle.std.proofs.Math.Dec.{ltb}
 use Rattle.std.proofs.Math.ListN.{get_or}
 use Rattle.std.proofs.Math.Seq.{get_or-set_same}
-use Rattle.laws.specs.Bools.{pick, ◌and◌, and_left, and_true, true_and, and_no, every_get}
+use Rattle.laws.specs.Bools.{pick, ◌and◌, and_left, and_true}
+use Rattle.laws.proofs.BoolLaws.{true_and, and_no, every_get}
 use Rattle.laws.specs.Lists.{modify, is_some}
 use Rattle.metrics.specs.Laws.{modify_set}
 use Rattle.config.specs.Limits.{InLimits, judge}

@@ -6,7 +6,8 @@ use Rattle.std.proofs.Math.Bool.{Bool, true}
 use Rattle.std.proofs.Math.Option.{Option, none, some}
 use Rattle.std.proofs.Math.Dec.{eqb}
 use borrow.Author.Tests.{eq-eqb, ne_eqb, ltb-true, not-true, not-false}
-use Rattle.laws.specs.Bools.{pick, cases, ◌and◌, and_left, and_right, and_both, true_and, code_and}
+use Rattle.laws.specs.Bools.{pick, cases, ◌and◌, and_left}
+use Rattle.laws.proofs.BoolLaws.{and_right, and_both, true_and, code_and}
 use Rattle.laws.specs.Decides.{false_true}
 use Rattle.laws.specs.Lists.{is_some}
 use Rattle.units.specs.declared.SimTime.{SimTime}

@@ -6,7 +6,8 @@ use Rattle.std.proofs.Math.Bool.{Bool, true, false}
 use Rattle.std.proofs.Math.Option.{none, some}
 use Rattle.std.proofs.Math.Dec.{leb}
 use borrow.Author.Tests.{lt-ltb, le-leb, lt-leb, leb-true, eqb-true, not-true, not-false}
-use Rattle.laws.specs.Bools.{pick, cases, ◌and◌, and_right, and_both, and_true, code_and, first_true, second_true}
+use Rattle.laws.specs.Bools.{pick, cases, ◌and◌, and_true, first_true, second_true}
+use Rattle.laws.proofs.BoolLaws.{and_right, and_both, code_and}
 use Rattle.laws.specs.Lists.{is_some}
 use Rattle.units.specs.declared.NodeId.{NodeId}
 use Rattle.units.specs.declared.NodeOption.{NodeOption}

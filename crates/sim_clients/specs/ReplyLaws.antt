@@ -6,7 +6,8 @@ use Rattle.std.proofs.Math.Bool.{Bool, true}
 use Rattle.std.proofs.Math.Option.{Option, none, some}
 use Rattle.std.proofs.Math.Dec.{leb}
 use borrow.Author.Tests.{lt-ltb, le-leb, leb-true, ltb-true, eq-eqb, ne_eqb, eqb-true, not-true, not-false}
-use Rattle.laws.specs.Bools.{pick, cases, ◌and◌, and_left, and_right, and_both, true_and, and_true, and_assoc, code_and}
+use Rattle.laws.specs.Bools.{pick, cases, ◌and◌, and_left, and_true, and_assoc}
+use Rattle.laws.proofs.BoolLaws.{and_right, and_both, true_and, code_and}
 use Rattle.units.specs.declared.LogIndex.{LogIndex}
 use Rattle.units.specs.declared.SimTime.{SimTime}
 use Rattle.metrics.specs.declared.Metrics.{Metrics}

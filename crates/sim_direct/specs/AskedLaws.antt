@@ -3,7 +3,8 @@ use Rattle.std.specs.Prelude.{◌≡◌, refl, Bool, true, false, not, List, ℕ
 use Rattle.std.proofs.Math.Path.{sym, ap, subst}
 use Rattle.std.proofs.Common.{◌∙◌, arith, lt-ltb, le-ltb}
 use Rattle.std.proofs.lemmas.Bool.{not-true, not-false}
-use Rattle.laws.specs.Bools.{pick, cases, ◌and◌, and_both, and_right, and_true}
+use Rattle.laws.specs.Bools.{pick, cases, ◌and◌, and_true}
+use Rattle.laws.proofs.BoolLaws.{and_both, and_right}
 use Rattle.client.specs.Key as client
 use Rattle.protocol.specs.declared.RequestId.{RequestId}
 use Rattle.queue.specs.Range.{word}

@@ -5,7 +5,8 @@ use Rattle.std.proofs.Common.{subst, ◌∙◌, arith}
 use Prim.Native.Nat.{ℕ, ◌+◌, ◌-◌, ◌≤◌, ◌<◌}
 use Rattle.std.proofs.Math.Dec.{leb}
 use borrow.Author.Tests.{eq-eqb, ne_eqb, le-leb, lt-leb, leb-true, lt-ltb, not-true, not-false}
-use Rattle.laws.specs.Bools.{pick, cases, ◌and◌, and_both, and_left, and_right}
+use Rattle.laws.specs.Bools.{pick, cases, ◌and◌, and_left}
+use Rattle.laws.proofs.BoolLaws.{and_both, and_right}
 use Rattle.laws.specs.Decides.{false_true}
 use Rattle.laws.specs.Lists.{is_some}
 use Rattle.units.specs.declared.NodeId.{NodeId}

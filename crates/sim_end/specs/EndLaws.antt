@@ -5,7 +5,8 @@ use Rattle.std.proofs.Common.{◌∙◌, eqb-true, eq-eqb}
 use Rattle.std.proofs.Math.Bool.{Bool, true}
 use native.Mathlib.Omega.{arith}
 use Rattle.std.proofs.Math.ListN.{length}
-use Rattle.laws.specs.Bools.{pick, cases, ◌and◌, and_right, and_true, and_no, no_and}
+use Rattle.laws.specs.Bools.{pick, cases, ◌and◌, and_true, no_and}
+use Rattle.laws.proofs.BoolLaws.{and_right, and_no}
 use Rattle.laws.specs.Decides.{false_true}
 use Rattle.laws.specs.Lists.{is_some}
 use Rattle.laws.specs.Order.{numbers, pairs, remove_by}

@@ -4,7 +4,8 @@ use Rattle.std.proofs.Math.Path.{sym}
 use Rattle.std.proofs.Common.{ap, ap₂, subst, ◌∙◌, arith, Fits, eq-eqb, ne_eqb, lt-ltb, le-leb, ltb-true}
 use Rattle.std.specs.Int.{w64}
 use Rattle.std.proofs.lemmas.Bool.{lt-leb}
-use Rattle.laws.specs.Bools.{pick, pick_both, ◌and◌, and_left, and_both, and_no, no_and, code_and}
+use Rattle.laws.specs.Bools.{pick, pick_both, ◌and◌, and_left, no_and}
+use Rattle.laws.proofs.BoolLaws.{and_both, and_no, code_and}
 use Rattle.units.specs.declared.NodeOption.{NodeOption}
 use Rattle.units.specs.declared.NodeOption.TheVariants.{None, Some}
 use Rattle.protocol.specs.declared.Role.{Role}

@@ -4,7 +4,8 @@ use Rattle.std.proofs.Math.Path.{sym, ap, ap₂}
 use Rattle.std.proofs.Common.{subst, ◌∙◌, arith, lt-ltb, ltb-true, eqb-true}
 use Rattle.std.proofs.Math.Bool.{true, false}
 use Rattle.std.proofs.Math.Option.{Option, none, some}
-use Rattle.laws.specs.Bools.{pick, ◌and◌, allb, allb_in, and_left, and_right, true_and}
+use Rattle.laws.specs.Bools.{pick, ◌and◌, allb, and_left}
+use Rattle.laws.proofs.BoolLaws.{allb_in, and_right, true_and}
 use Rattle.laws.specs.Lists.{is_some}
 use Rattle.units.specs.declared.Term.{Term}
 use Rattle.units.specs.declared.TermOption.{TermOption}

@@ -5,7 +5,8 @@ use Rattle.std.proofs.Common.{◌∙◌, arith, lt-ltb}
 use Rattle.std.proofs.Math.Bool.{Bool, true, false}
 use Rattle.std.proofs.Math.Option.{Option, none, some}
 use Rattle.std.proofs.Math.Dec.{eqb}
-use Rattle.laws.specs.Bools.{pick, pick_both, cases, ◌and◌, and_both, and_true, true_and}
+use Rattle.laws.specs.Bools.{pick, pick_both, cases, ◌and◌, and_true}
+use Rattle.laws.proofs.BoolLaws.{and_both, true_and}
 use Rattle.laws.specs.Decides.{false_true}
 use Rattle.laws.specs.Lists.{is_some}
 use Rattle.units.specs.declared.LogIndex.{LogIndex}

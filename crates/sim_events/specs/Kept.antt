@@ -2,7 +2,8 @@
 use Rattle.std.specs.Prelude.{◌≡◌, refl, true, ◌&&◌, List, [], ℕ, eqb, length}
 use Rattle.std.proofs.Common.{sym, ap, ◌∙◌}
 use Rattle.std.proofs.Math.Option.{Option, none, some}
-use Rattle.laws.specs.Bools.{pick_both, true_and}
+use Rattle.laws.specs.Bools.{pick_both}
+use Rattle.laws.proofs.BoolLaws.{true_and}
 use Rattle.laws.specs.Lists.{is_some}
 use Rattle.units.specs.declared.LogIndex.{LogIndex}
 use Rattle.units.specs.declared.NodeOption.{NodeOption}

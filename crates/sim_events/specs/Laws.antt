@@ -4,7 +4,8 @@ use Rattle.std.proofs.Math.Path.{refl, sym, ap, subst}
 use Rattle.std.proofs.Common.{ap₂, ◌∙◌}
 use Rattle.std.proofs.Math.Bool.{true, false}
 use Rattle.std.proofs.Math.Option.{Option, none, some}
-use Rattle.laws.specs.Bools.{pick, pick_both, ◌and◌, and_right}
+use Rattle.laws.specs.Bools.{pick, pick_both, ◌and◌}
+use Rattle.laws.proofs.BoolLaws.{and_right}
 use Rattle.laws.specs.Lists.{is_some}
 use Rattle.units.specs.declared.NodeId.{NodeId}
 use Rattle.protocol.specs.declared.Status.{Status}

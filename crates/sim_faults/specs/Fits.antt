@@ -6,7 +6,8 @@ use Rattle.std.proofs.Math.Bool.{true}
 use Rattle.std.proofs.Math.Option.{Option, none, some}
 use native.Mathlib.Omega.{arith}
 use Rattle.std.proofs.Math.ListN.{length}
-use Rattle.laws.specs.Bools.{pick, cases, pick_both, ◌and◌, allb, and_left, and_right, and_both, and_true, true_and}
+use Rattle.laws.specs.Bools.{pick, cases, pick_both, ◌and◌, allb, and_left, and_true}
+use Rattle.laws.proofs.BoolLaws.{and_right, and_both, true_and}
 use Rattle.units.specs.declared.NodeId.{NodeId}
 use Rattle.units.specs.declared.SimTime.{SimTime}
 use Rattle.units.specs.declared.Duration.{Duration}

@@ -6,7 +6,8 @@ use Rattle.std.proofs.Math.Bool.{true, false}
 use Rattle.std.proofs.Math.Option.{Option, none, some}
 use native.Mathlib.Omega.{arith}
 use Rattle.std.proofs.lemmas.Bool.{not-true, not-false}
-use Rattle.laws.specs.Bools.{pick, ◌and◌, and_left, and_right, and_both}
+use Rattle.laws.specs.Bools.{pick, ◌and◌, and_left}
+use Rattle.laws.proofs.BoolLaws.{and_right, and_both}
 use Rattle.laws.specs.Lists.{is_some}
 use Rattle.units.specs.declared.NodeId.{NodeId}
 use Rattle.units.specs.declared.Term.{Term}

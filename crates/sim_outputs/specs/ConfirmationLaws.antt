@@ -5,7 +5,8 @@ use Rattle.std.proofs.Common.{sym, ap₂, subst, ◌∙◌, arith, Fits, lt-ltb}
 use Rattle.std.proofs.Math.Option.{Option, none, some}
 use Prim.Native.Nat.{ℕ, ◌+◌, ◌^◌, ◌≤◌, ◌<◌}
 use Rattle.std.specs.Int.{w64}
-use Rattle.laws.specs.Bools.{◌and◌, and_both, and_true}
+use Rattle.laws.specs.Bools.{◌and◌, and_true}
+use Rattle.laws.proofs.BoolLaws.{and_both}
 use Rattle.units.specs.declared.LogIndex.{LogIndex}
 use Rattle.protocol.specs.declared.RequestId.{RequestId}
 use Rattle.clients.specs.Confirmations.{index_of, confirmation_of}

@@ -2,7 +2,8 @@
 use Rattle.std.specs.Prelude.{◌≡◌, refl, Bool, true, ◌&&◌, List, ℕ, ◌+◌, ◌^◌, ◌<◌, ltb, leb}
 use Rattle.std.proofs.Math.Path.{sym, ap, ap₂}
 use Rattle.std.proofs.Common.{subst, ◌∙◌, arith}
-use Rattle.laws.specs.Bools.{◌and◌, and_left, and_right, and_assoc, code_and}
+use Rattle.laws.specs.Bools.{◌and◌, and_left, and_assoc}
+use Rattle.laws.proofs.BoolLaws.{and_right, code_and}
 use Rattle.protocol.specs.declared.Timer.{Timer}
 use Rattle.queue.specs.Range.{word}
 use Rattle.model.specs.State.{State, server_at}

@@ -2,7 +2,8 @@
 use Rattle.std.specs.Prelude.{◌≡◌, Bool, true, false, List, ℕ, zero, suc, ◌+◌, ◌^◌, ◌≤◌, ◌<◌, ltb, leb}
 use Rattle.std.proofs.Math.Path.{refl, sym, ap, ap₂}
 use Rattle.std.proofs.Common.{subst, ◌∙◌, arith, lt-ltb, le-leb}
-use Rattle.laws.specs.Bools.{◌and◌, and_both, and_true, true_and}
+use Rattle.laws.specs.Bools.{◌and◌, and_true}
+use Rattle.laws.proofs.BoolLaws.{and_both, true_and}
 use Rattle.protocol.specs.declared.Timer.{Timer}
 use Rattle.protocol.specs.declared.Timer.TheVariants.{Election, Heartbeat}
 use Rattle.queue.specs.Range.{word, message_room}

@@ -7,7 +7,8 @@ use mathlib.Core.List.{List, [], ◌∷◌, map}
 use Rattle.std.proofs.Math.Option.{none}
 use Rattle.std.proofs.Math.ListN.{length, get_or, get_or-map}
 use Rattle.std.proofs.lemmas.List.{length-map}
-use Rattle.laws.specs.Bools.{pick, cases, ◌and◌, allb_in, and_right, and_both, and_true, true_and}
+use Rattle.laws.specs.Bools.{pick, cases, ◌and◌, and_true}
+use Rattle.laws.proofs.BoolLaws.{allb_in, and_right, and_both, true_and}
 use Rattle.laws.specs.Lists.{modify, is_some}
 use Rattle.laws.specs.Order.{chain}
 use Rattle.queue.specs.declared.Event.TheVariants as event

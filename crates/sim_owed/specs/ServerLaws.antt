@@ -5,7 +5,8 @@ use Rattle.std.proofs.Common.{sym, ap₂, subst, ◌∙◌, arith}
 use Rattle.std.proofs.Math.Bool.{true}
 use Rattle.std.proofs.Math.ListN.{get_or}
 use borrow.Author.Tests.{lt-ltb, le-ltb, ltb-true, ltb-false}
-use Rattle.laws.specs.Bools.{cases, ◌and◌, allb_in, and_left, and_right, and_both, and_assoc, code_and}
+use Rattle.laws.specs.Bools.{cases, ◌and◌, and_left, and_assoc}
+use Rattle.laws.proofs.BoolLaws.{allb_in, and_right, and_both, code_and}
 use Rattle.seeds.specs.Seeds.{stream_seed}
 use Rattle.seeds.specs.declared.Stream.TheVariants as stream
 use Rattle.queue.specs.Range.{word}

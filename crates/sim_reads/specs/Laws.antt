@@ -7,7 +7,8 @@ use native.Mathlib.Omega.{arith}
 use Rattle.std.proofs.Math.Dec.{leb}
 use Rattle.std.proofs.Math.ListN.{get_or}
 use Rattle.std.proofs.lemmas.Bool.{lt-leb}
-use Rattle.laws.specs.Bools.{pick, cases, ◌and◌, and_both, and_no, no_and}
+use Rattle.laws.specs.Bools.{pick, cases, ◌and◌, no_and}
+use Rattle.laws.proofs.BoolLaws.{and_both, and_no}
 use Rattle.protocol.specs.Numbers.{role_number}
 use Rattle.protocol.specs.declared.Status.{Status}
 use Rattle.metrics.specs.Metrics.{sent_by}

@@ -1,7 +1,8 @@
 -- What the proofs of the delay's functions cite, and question 10 of a delay drawn. Assumes nothing.
 use Rattle.std.specs.Prelude.{◌≡◌, Bool, true, List, ℕ, ◌+◌, ◌^◌, ◌≤◌, ◌<◌, eqb, ltb, set}
 use Rattle.std.proofs.Common.{sym, ap, ap₂, subst, ◌∙◌, arith, lt-ltb}
-use Rattle.laws.specs.Bools.{allb, and_left, and_right, and_both}
+use Rattle.laws.specs.Bools.{allb, and_left}
+use Rattle.laws.proofs.BoolLaws.{and_right, and_both}
 use Rattle.rng.specs.declared.Rng.{Rng}
 use Rattle.rng.specs.Rng.{under, next_u64, moved}
 use Rattle.network.specs.declared.Network.{Network}

@@ -7,7 +7,8 @@ use Prim.Native.Nat.{ℕ, zero, suc, ◌+◌, ◌%◌, ◌^◌, ◌≤◌, ◌<�
 use native.Mathlib.Omega.{arith}
 use Rattle.std.proofs.Math.Dec.{ltb}
 use borrow.Author.Tests.{lt-ltb, ltb-true, eqb-true, eq-eqb, ne_eqb}
-use Rattle.laws.specs.Bools.{pick, cases, ◌and◌, and_left, and_right, and_both, true_and, code_and}
+use Rattle.laws.specs.Bools.{pick, cases, ◌and◌, and_left}
+use Rattle.laws.proofs.BoolLaws.{and_right, and_both, true_and, code_and}
 use Rattle.laws.specs.Decides.{false_true}
 use Rattle.units.specs.declared.NodeOption.{NodeOption}
 use Rattle.units.specs.declared.NodeOption.TheVariants.{None, Some}

@@ -4,7 +4,8 @@ use Rattle.std.proofs.Math.Path.{refl, ap, ap₂}
 use Rattle.std.proofs.Common.{sym, subst, ◌∙◌}
 use mathlib.Core.List.{List, [], ◌∷◌}
 use Prim.Native.Nat.{ℕ, zero, suc, ◌<◌}
-use Rattle.laws.specs.Bools.{◌and◌, and_left, and_right, true_and, code_and}
+use Rattle.laws.specs.Bools.{◌and◌, and_left}
+use Rattle.laws.proofs.BoolLaws.{and_right, true_and, code_and}
 use Rattle.laws.specs.Lists.{modify}
 use Rattle.laws.specs.Order.{pairs, remove_by}
 use Rattle.client.specs.Key.{key_of}

@@ -10,7 +10,8 @@ use Rattle.std.proofs.lemmas.List.Edits.{sets, sets-eq}
 use Rattle.std.proofs.Math.Seq.{length-sets}
 use Rattle.std.specs.Int.{w64}
 use borrow.Author.Tests.{eq-eqb, ne_eqb, leb-true, lt-ltb, le-ltb, ltb-true}
-use Rattle.laws.specs.Bools.{pick, cases, ◌and◌, and_left, and_right, and_both, code_and}
+use Rattle.laws.specs.Bools.{pick, cases, ◌and◌, and_left}
+use Rattle.laws.proofs.BoolLaws.{and_right, and_both, code_and}
 use Rattle.laws.specs.Decides.{false_true}
 use Rattle.laws.specs.ListLaws.{drop_next}
 use Rattle.words.specs.Words.{le, le_at}

@@ -4,7 +4,8 @@ use Rattle.std.proofs.Math.Path.{sym, ap, subst}
 use Rattle.std.proofs.Common.{ap₂, ◌∙◌, arith, eqb-true, leb-true, lt-ltb, ltb-true}
 use Rattle.std.proofs.Math.Bool.{true}
 use Rattle.std.proofs.Math.ListN.{length}
-use Rattle.laws.specs.Bools.{pick, cases, ◌and◌, and_left, and_right, and_both, and_true, and_assoc, code_and}
+use Rattle.laws.specs.Bools.{pick, cases, ◌and◌, and_left, and_true, and_assoc}
+use Rattle.laws.proofs.BoolLaws.{and_right, and_both, code_and}
 use Rattle.laws.specs.Decides.{false_true}
 use Rattle.faults.specs.Fault as faults
 use Rattle.faults.specs.declared.Fault.{Fault}

@@ -6,7 +6,8 @@ use Rattle.std.proofs.Math.Bool.{Bool, false}
 use mathlib.Core.List.{List, map}
 use native.Mathlib.Omega.{arith}
 use Rattle.std.proofs.Math.ListN.{length, set}
-use Rattle.laws.specs.Bools.{pick, cases, ◌and◌, and_true, code_and}
+use Rattle.laws.specs.Bools.{pick, cases, ◌and◌, and_true}
+use Rattle.laws.proofs.BoolLaws.{code_and}
 use Rattle.laws.specs.Lists.{is_some}
 use Rattle.laws.specs.Order.{numbers, pairs, remove_by}
 use Rattle.laws.specs.OrderLaws.{length_push}

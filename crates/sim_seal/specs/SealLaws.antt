@@ -6,7 +6,8 @@ use Prim.Native.Nat.{ℕ, zero, suc, ◌^◌, ◌≤◌, ◌<◌}
 use native.Mathlib.Omega.{arith}
 use Rattle.std.proofs.lemmas.Bool.{lt-leb}
 use Rattle.std.specs.Int.{w64}
-use Rattle.laws.specs.Bools.{pick, pick_both, cases, ◌and◌, and_left, and_right, and_both, code_and, and_assoc}
+use Rattle.laws.specs.Bools.{pick, pick_both, cases, ◌and◌, and_left, and_assoc}
+use Rattle.laws.proofs.BoolLaws.{and_right, and_both, code_and}
 use Rattle.laws.specs.Decides.{false_true}
 use Rattle.units.specs.declared.NodeOption.{NodeOption}
 use Rattle.queue.specs.Range.{word}

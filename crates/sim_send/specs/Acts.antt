@@ -2,7 +2,7 @@
 use Rattle.std.specs.Prelude.{◌≡◌, refl, Bool, true, List, ℕ}
 use Rattle.std.proofs.Common.{sym, ap, ◌∙◌}
 use Rattle.std.proofs.Math.Path.{subst}
-use Rattle.laws.specs.Bools.{and_right}
+use Rattle.laws.proofs.BoolLaws.{and_right}
 use Rattle.units.specs.declared.NodeId.{NodeId}
 use Rattle.network.specs.declared.Network.{Network}
 use Rattle.network.specs.declared.Routed.{Routed}

@@ -1,7 +1,8 @@
 -- What the proofs of the draws cite. Assumes nothing.
 use Rattle.std.specs.Prelude.{◌≡◌, refl, Bool, true, false, ◌&&◌, List, ℕ, eqb}
 use Rattle.std.proofs.Common.{sym, ap, ap₂, subst, ◌∙◌, eq-eqb, ne_eqb}
-use Rattle.laws.specs.Bools.{pick, cases, ◌and◌, no_and, and_assoc, code_and, first_true, second_true}
+use Rattle.laws.specs.Bools.{pick, cases, ◌and◌, no_and, and_assoc, first_true, second_true}
+use Rattle.laws.proofs.BoolLaws.{code_and}
 use Rattle.config.specs.declared.SimConfig.{SimConfig}
 use Rattle.network.specs.declared.Network.{Network}
 use Rattle.network.specs.declared.Routed.{Routed}

@@ -2,7 +2,8 @@
 use Rattle.std.specs.Prelude.{◌≡◌, refl, Bool, true, false, not, ◌&&◌, List, ℕ, ◌+◌, ◌^◌, ◌≤◌, ◌<◌, leb, ltb, length}
 use Rattle.std.proofs.Common.{sym, ap, ap₂, subst, ◌∙◌, arith, Fits, leb-true, ltb-true}
 use Rattle.std.specs.Int.{w64}
-use Rattle.laws.specs.Bools.{pick, ◌and◌, and_left, and_right, code_and, first_true, second_true}
+use Rattle.laws.specs.Bools.{pick, ◌and◌, and_left, first_true, second_true}
+use Rattle.laws.proofs.BoolLaws.{and_right, code_and}
 use Rattle.laws.specs.Decides.{false_true}
 use Rattle.units.specs.declared.Duration.{Duration}
 use Rattle.network.specs.declared.Route.{Route}

@@ -5,7 +5,8 @@ use Rattle.std.proofs.Common.{subst, ◌∙◌, arith}
 use Rattle.std.proofs.Math.Bool.{true, false}
 use Rattle.std.proofs.Math.Dec.{ltb}
 use borrow.Author.Tests.{lt-ltb, le-leb}
-use Rattle.laws.specs.Bools.{pick, pick_both, ◌and◌, allb, and_left, and_right, and_both, and_true, every}
+use Rattle.laws.specs.Bools.{pick, pick_both, ◌and◌, allb, and_left, and_true, every}
+use Rattle.laws.proofs.BoolLaws.{and_right, and_both}
 use Rattle.laws.specs.Decides.{false_true}
 use Rattle.words.specs.Words.{Bytes}
 use Rattle.rng.specs.declared.Rng.{Rng}

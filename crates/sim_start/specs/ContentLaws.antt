@@ -9,7 +9,8 @@ use native.Mathlib.Omega.{arith}
 use Rattle.std.proofs.Math.ListN.{length, length-append}
 use Rattle.std.proofs.lemmas.List.{length-replicate}
 use Rattle.std.proofs.Math.Seq.{sets, length-sets, drop_at}
-use Rattle.laws.specs.Bools.{◌and◌, and_both}
+use Rattle.laws.specs.Bools.{◌and◌}
+use Rattle.laws.proofs.BoolLaws.{and_both}
 use Rattle.words.specs.Words.{bytes, bytes_of as bytesOfNumber}
 use Rattle.words.specs.Lift.{bytes_one, length_bytes}
 use Rattle.layout.specs.Code.{zeros}

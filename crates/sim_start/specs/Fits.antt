@@ -6,7 +6,8 @@ use Prim.Native.Nat.{ℕ, zero, suc, ◌+◌, ◌-◌, ◌^◌, ◌≤◌, ◌<�
 use Rattle.std.proofs.Common.{arith}
 use Rattle.std.proofs.lemmas.List.{length-replicate}
 use borrow.Author.Tests.{eq-eqb, le-leb, lt-ltb, leb-true}
-use Rattle.laws.specs.Bools.{◌and◌, and_both, and_left, and_right, every}
+use Rattle.laws.specs.Bools.{◌and◌, and_left, every}
+use Rattle.laws.proofs.BoolLaws.{and_both, and_right}
 use Rattle.laws.specs.Order.{chain}
 use Rattle.layout.specs.Tables.{Table}
 use Rattle.rng.specs.Rng.{under, next_u64, moved}

@@ -9,7 +9,8 @@ use Rattle.std.proofs.Math.ListN.{length, drop}
 use Rattle.std.specs.Prelude.{get_or}
 use borrow.Author.Tests.{eq-eqb, ne_eqb, le-leb, lt-leb, lt-ltb, le-ltb, eqb-true, leb-true}
 use Rattle.std.specs.Int.{w64}
-use Rattle.laws.specs.Bools.{pick, cases, ◌and◌, and_both, and_right}
+use Rattle.laws.specs.Bools.{pick, cases, ◌and◌}
+use Rattle.laws.proofs.BoolLaws.{and_both, and_right}
 use Rattle.laws.specs.Decides.{false_true}
 use Rattle.rng.specs.declared.Rng.{Rng}
 use Rattle.seeds.specs.Seeds.{stream_seed, stream_rng}

@@ -4,7 +4,8 @@ use Rattle.std.proofs.Math.Path.{sym, ap}
 use Rattle.std.proofs.Common.{ap₂, subst, ◌∙◌, arith}
 use Rattle.std.proofs.Math.Seq.{sets}
 use borrow.Author.Tests.{ltb-true, leb-true, eq-eqb, ne_eqb, not-true, not-false}
-use Rattle.laws.specs.Bools.{pick, ◌and◌, and_left, and_right, code_and}
+use Rattle.laws.specs.Bools.{pick, ◌and◌, and_left}
+use Rattle.laws.proofs.BoolLaws.{and_right, code_and}
 use Rattle.units.specs.declared.LogIndex.{LogIndex}
 use Rattle.units.specs.declared.NodeId.{NodeId}
 use Rattle.units.specs.declared.NodeOption.{NodeOption}

@@ -5,7 +5,8 @@ use Rattle.std.proofs.Common.{sym, ap₂, subst, ◌∙◌, arith}
 use Rattle.std.proofs.Math.Dec.{leb}
 use Rattle.std.proofs.Math.ListN.{length}
 use borrow.Author.Tests.{ltb-true, leb-true, le-leb}
-use Rattle.laws.specs.Bools.{cases, ◌and◌, and_left, and_right, and_both, and_true, true_and, no_and, every}
+use Rattle.laws.specs.Bools.{cases, ◌and◌, and_left, and_true, no_and, every}
+use Rattle.laws.proofs.BoolLaws.{and_right, and_both, true_and}
 use Rattle.laws.specs.Decides.{false_true}
 use Rattle.units.specs.declared.SimTime.{SimTime}
 use Rattle.faults.specs.Fault as faults

@@ -10,7 +10,8 @@ use Rattle.std.proofs.Math.Dec.{eqb, leb}
 use Rattle.std.proofs.Math.ListN.{drop}
 use Rattle.std.proofs.Math.Seq.{sets}
 use borrow.Author.Tests.{lt-ltb, le-leb, lt-leb, leb-true, ltb-true, eq-eqb, not-true, not-false}
-use Rattle.laws.specs.Bools.{pick, ◌and◌, and_left, and_right, and_both, and_no, no_and}
+use Rattle.laws.specs.Bools.{pick, ◌and◌, and_left, no_and}
+use Rattle.laws.proofs.BoolLaws.{and_right, and_both, and_no}
 use Rattle.laws.specs.Decides.{false_true}
 use Rattle.queue.specs.Queue.{Scheduled, Queue, pop}
 use Rattle.queue.specs.Range.{word}

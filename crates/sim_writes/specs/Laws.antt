@@ -7,7 +7,8 @@ use native.Mathlib.Omega.{arith}
 use Rattle.std.proofs.Math.ListN.{length}
 use borrow.Author.Tests.{eq-eqb, ne_eqb, le-leb, lt-leb, eqb-true, ltb-true}
 use Rattle.laws.specs.Decides.{false_true}
-use Rattle.laws.specs.Bools.{pick, cases, ◌and◌, and_both, and_left, and_no, no_and}
+use Rattle.laws.specs.Bools.{pick, cases, ◌and◌, and_left, no_and}
+use Rattle.laws.proofs.BoolLaws.{and_both, and_no}
 use Rattle.units.specs.Types.{payload_of}
 use Rattle.units.specs.declared.NodeOption.TheVariants.{None, Some}
 use Rattle.storage.specs.declared.HardState.{HardState}

@@ -1,7 +1,8 @@
 -- A server's regions in its block, and the block in the area. Assumes nothing.
 use Rattle.std.specs.Prelude.{◌≡◌, refl, Bool, true, false, List, [], ◌∷◌, ◌++◌, map, ℕ, zero, suc, ◌+◌, ◌-◌, ◌*◌, ◌≤◌, ◌<◌, eqb, leb, length, get_or, set, drop, take}
 use Rattle.std.proofs.Common.{sym, ap, ap₂, subst, ◌∙◌, append_assoc, append-nil, arith, drop_of_length-le, eqb-true, eq-eqb, le-leb}
-use Rattle.laws.specs.Bools.{pick, allb, and_left, and_right, and_both, ◌and◌}
+use Rattle.laws.specs.Bools.{pick, allb, and_left, ◌and◌}
+use Rattle.laws.proofs.BoolLaws.{and_right, and_both}
 use Rattle.words.specs.Words.{W, Bytes, bytes, allz}
 use Rattle.words.specs.Zero.{zeros_allz, allz_zeros}
 use Rattle.words.specs.Lift.{bytes_append, length_bytes, bytes_zeros}

@@ -2,7 +2,8 @@
 use Rattle.std.specs.Prelude.{◌≡◌, Bool, true, false, List, [], ◌∷◌, ℕ, ◌*◌, length, get_or}
 use Rattle.std.proofs.Math.Path.{refl, ap, subst}
 use Rattle.std.proofs.Common.{sym, ◌∙◌}
-use Rattle.laws.specs.Bools.{allb, allb_in, and_both}
+use Rattle.laws.specs.Bools.{allb}
+use Rattle.laws.proofs.BoolLaws.{allb_in, and_both}
 use Rattle.units.specs.Types.{Payload}
 use Rattle.words.specs.Words.{W, Bytes, allz}
 use Rattle.layout.specs.Code.{Code, length_parse_n}

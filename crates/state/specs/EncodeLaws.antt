@@ -3,7 +3,8 @@ use Rattle.std.specs.Prelude.{◌≡◌, refl, Bool, true, false, List, [], ◌�
 use Rattle.std.proofs.Common.{sym, ap₂, subst, ◌∙◌, arith, take-append-drop, length-take-le}
 use Rattle.std.proofs.Math.Path.{ap}
 use borrow.Author.Tests.{ltb-false, le-ltb}
-use Rattle.laws.specs.Bools.{pick, and_right, allb_in, ◌and◌}
+use Rattle.laws.specs.Bools.{pick, ◌and◌}
+use Rattle.laws.proofs.BoolLaws.{and_right, allb_in}
 use Rattle.words.specs.Words.{W, Bytes, bytes, allz}
 use Rattle.words.specs.Numbers.{each_take, each_drop}
 use Rattle.words.specs.Zero.{zeros_allz}

@@ -6,7 +6,8 @@ use Rattle.std.proofs.Math.Bool.{true}
 use mathlib.Core.List.{List, [], ◌∷◌, ◌++◌}
 use Rattle.std.proofs.Math.Option.{Option, none, some}
 use Rattle.std.proofs.Math.Dec.{leb}
-use Rattle.laws.specs.Bools.{◌and◌, allb, and_left, and_right, and_both, every, every_by}
+use Rattle.laws.specs.Bools.{◌and◌, allb, and_left, every}
+use Rattle.laws.proofs.BoolLaws.{and_right, and_both, every_by, allb_in}
 use Rattle.units.specs.Types.{Payload}
 use Rattle.units.specs.declared.LogIndex.{LogIndex}
 use Rattle.layout.specs.Code.{Code}
@@ -34,7 +35,6 @@ use Rattle.clients.specs.Confirmations.{confirmations}
 use mathlib.Core.List.{List, [], ◌∷◌, ◌++◌, map}
 use Rattle.std.proofs.Math.ListN.{length-append}
 use Rattle.std.proofs.lemmas.List.{length-replicate}
-use Rattle.laws.specs.Bools.{allb_in}
 use Rattle.layout.specs.Code.{fitted, zeros}
 use Rattle.config.specs.Laws.{AllYes, all_yes, limits_counts, area_most}
 use Rattle.config.specs.Limits.{within, duration_fits, durations_fit, settings_fit, servers_fit, limits_fit, counts_fit}

@@ -2,7 +2,8 @@
 use Rattle.std.specs.Prelude.{◌≡◌, refl, Bool, true, false, List, [], ◌∷◌, ◌++◌, ℕ, zero, suc, ◌+◌, ◌*◌, ◌^◌, ◌≤◌, ◌<◌, eqb, leb, ltb, length}
 use Rattle.std.proofs.Common.{sym, ap, ap₂, ◌∙◌, arith, eqb-true}
 use Rattle.std.proofs.Math.Option.{Option, none, some}
-use Rattle.laws.specs.Bools.{◌and◌, allb, and_left, and_right, and_both, every, every_by}
+use Rattle.laws.specs.Bools.{◌and◌, allb, and_left, every}
+use Rattle.laws.proofs.BoolLaws.{and_right, and_both, every_by}
 use Rattle.units.specs.Types.{Payload}
 use Rattle.units.specs.declared.LogIndex.{LogIndex}
 use Rattle.layout.specs.Code.{Code}

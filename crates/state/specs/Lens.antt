@@ -1,7 +1,8 @@
 -- One server of an area: the regions of its block as they are lent, and the area when they are back. Assumes nothing.
 use Rattle.std.specs.Prelude.{◌≡◌, refl, true, List, [], ◌∷◌, ◌++◌, map, ℕ, zero, suc, ◌+◌, ◌-◌, ◌*◌, ◌≤◌, ◌<◌, length, get_or, set, drop, take}
 use Rattle.std.proofs.Common.{sym, ap, ap₂, subst, ◌∙◌, append_assoc, append-nil, arith, length-append, length-drop, length-set, take-append-drop, drop_of_length-le, length-take-le, get_or-set_same, take_at, drop_at}
-use Rattle.laws.specs.Bools.{◌and◌, every, every_get, every_set, and_left, and_right}
+use Rattle.laws.specs.Bools.{◌and◌, every, and_left}
+use Rattle.laws.proofs.BoolLaws.{every_get, every_set, and_right}
 use Rattle.laws.specs.Lists.{modify}
 use Rattle.metrics.specs.Laws.{modify_set}
 use Rattle.config.specs.declared.SimConfig.{SimConfig}

@@ -4,7 +4,8 @@ use Rattle.std.proofs.Common.{sym, ◌∙◌, arith, eqb-true, eq-eqb}
 use Rattle.std.proofs.Math.Path.{ap, ap₂}
 use Rattle.std.proofs.Math.Option.{Option, none, some}
 use Rattle.std.proofs.Math.ListN.{get_or}
-use Rattle.laws.specs.Bools.{pick, ◌and◌, and_left, and_right, and_both, allb, every}
+use Rattle.laws.specs.Bools.{pick, ◌and◌, and_left, allb, every}
+use Rattle.laws.proofs.BoolLaws.{and_right, and_both}
 use Rattle.layout.specs.Code.{Code}
 use Rattle.layout.specs.UpTo.{is64}
 pub use Rattle.units.specs.Types.{node_flag, node_number}

@@ -2,7 +2,8 @@
 use Rattle.std.specs.Prelude.{◌≡◌, refl, Bool, true, false, List, [], ◌∷◌, ◌++◌, map, ℕ, ◌+◌, ◌*◌, ◌^◌, ◌≤◌, ◌<◌, leb, ltb, eqb, length}
 use Rattle.std.proofs.Common.{sym, ap, ap₂, ◌∙◌, arith, mul-le-mul_right, lt-ltb, ltb-true, leb-true, le-leb, eqb-true, eq-eqb}
 use Rattle.std.proofs.Math.Option.{Option, none, some}
-use Rattle.laws.specs.Bools.{pick, ◌and◌, and_left, and_right, and_both, allb, allb_in, every}
+use Rattle.laws.specs.Bools.{pick, ◌and◌, and_left, allb, every}
+use Rattle.laws.proofs.BoolLaws.{and_right, and_both, allb_in}
 use Rattle.laws.specs.Order.{pairs, rising}
 use Rattle.units.specs.Types.{Payload, noop, command, Entry, term_option}
 use Rattle.units.specs.declared.NodeOption.{NodeOption}

@@ -2,7 +2,7 @@
 use Rattle.std.specs.Prelude.{◌≡◌, Bool, true, false, List, [], ◌∷◌, ℕ, ◌+◌, ◌-◌, ◌*◌, ◌^◌, ◌≤◌, ◌<◌, leb, length}
 use Rattle.std.proofs.Math.Path.{refl}
 use Rattle.std.proofs.Common.{sym, ap, ap₂, subst, ◌∙◌, arith, leb-true, lt-ltb}
-use Rattle.laws.specs.Bools.{and_both}
+use Rattle.laws.proofs.BoolLaws.{and_both}
 use Rattle.words.specs.Words.{Bytes}
 use Rattle.units.specs.Types.{Payload, payload_of}
 use Rattle.units.specs.declared.LogIndex.{LogIndex}

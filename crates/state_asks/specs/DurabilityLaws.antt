@@ -9,7 +9,8 @@ use Prim.Native.Nat.{ℕ, zero, suc, ◌+◌, ◌-◌, ◌*◌, ◌^◌, ◌≤�
 use Rattle.std.proofs.Math.ListN.{length, take, length-set}
 use Rattle.std.proofs.Math.Seq.{take-suc-set, take_all}
 use borrow.Author.Tests.{leb-true, lt-ltb}
-use Rattle.laws.specs.Bools.{pick, allb_in, and_left, and_right, and_both, every}
+use Rattle.laws.specs.Bools.{pick, and_left, every}
+use Rattle.laws.proofs.BoolLaws.{allb_in, and_right, and_both}
 use Rattle.laws.specs.Lists.{at as at'}
 use Rattle.units.specs.Types.{Payload}
 use Rattle.units.specs.declared.SimTime.{SimTime}

@@ -8,7 +8,8 @@ use Rattle.std.proofs.Math.Option.{Option, none, some}
 use Prim.Native.Nat.{ℕ, zero, suc, ◌+◌, ◌-◌, ◌*◌, ◌^◌, ◌≤◌, ◌<◌, min}
 use native.Mathlib.Omega.{arith}
 use Rattle.std.proofs.Math.ListN.{take}
-use Rattle.laws.specs.Bools.{pick, allb_in, and_left, and_right, and_both, every}
+use Rattle.laws.specs.Bools.{pick, and_left, every}
+use Rattle.laws.proofs.BoolLaws.{allb_in, and_right, and_both}
 use Rattle.laws.specs.Lists.{is_some}
 use Rattle.units.specs.Types.{Entry}
 use Rattle.units.specs.declared.NodeId.{NodeId}

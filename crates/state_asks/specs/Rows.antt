@@ -3,9 +3,10 @@
 use Rattle.std.specs.Prelude.{◌≡◌, refl, Bool, true, false, List, [], ◌∷◌, ◌++◌, map, ℕ, ◌+◌, ◌^◌, ◌≤◌, ◌<◌, leb, ltb, length}
 use Rattle.std.proofs.Common.{sym, ap₂, ◌∙◌, arith, length-append, leb-true, le-leb, lt-ltb, ltb-true, eqb-true}
 use Rattle.std.proofs.Math.Path.{ap}
-use Rattle.laws.specs.Bools.{pick, ◌and◌, and_left, and_right, and_both, and_true, true_and, allb, allb_in, every, every_append}
+use Rattle.laws.specs.Bools.{pick, ◌and◌, and_left, and_true, allb, every}
+use Rattle.laws.proofs.BoolLaws.{and_right, and_both, true_and, allb_in, every_append}
 use Rattle.laws.specs.Order.{numbers, pairs, rising, insert_by}
-use Rattle.laws.specs.OrderLaws.{every_insert}
+use Rattle.laws.proofs.OrderLaws.{every_insert}
 use Rattle.units.specs.Types.{Payload}
 use Rattle.units.specs.declared.SimTime.{SimTime}
 use Rattle.layout.specs.UpTo.{is64}

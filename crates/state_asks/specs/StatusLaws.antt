@@ -6,7 +6,8 @@ use Rattle.std.proofs.Math.Option.{Option, none, some}
 use Rattle.std.proofs.Math.ListN.{length}
 use Rattle.std.specs.Int.{w64}
 use borrow.Author.Tests.{leb-true, le-leb, lt-ltb}
-use Rattle.laws.specs.Bools.{pick, and_both}
+use Rattle.laws.specs.Bools.{pick}
+use Rattle.laws.proofs.BoolLaws.{and_both}
 use Rattle.words.specs.Words.{W}
 use Rattle.units.specs.Types.{term_option}
 use Rattle.units.specs.declared.Term.{Term}

@@ -6,7 +6,8 @@ use mathlib.Core.List.{List, [], ◌∷◌}
 use Rattle.std.proofs.Math.Option.{Option, none, some}
 use Rattle.std.proofs.Math.ListN.{length, get_or-eq_default}
 use Rattle.std.proofs.lemmas.List.Edits.{sets}
-use Rattle.laws.specs.Bools.{pick, and_left, and_right, and_both, every, every_get}
+use Rattle.laws.specs.Bools.{pick, and_left, every}
+use Rattle.laws.proofs.BoolLaws.{and_right, and_both, every_get}
 use Rattle.laws.specs.Order.{pairs, lookup}
 use Rattle.words.specs.Words.{W}
 use Rattle.words.specs.Sets.{sets_all}

@@ -7,7 +7,8 @@ use mathlib.Core.List.{List}
 use Rattle.std.proofs.Math.ListN.{length, set}
 use Rattle.std.proofs.lemmas.List.Edits.{sets}
 use borrow.Author.Tests.{not-true, not-false, ltb-true}
-use Rattle.laws.specs.Bools.{pick, cases, ◌and◌, and_left, and_right}
+use Rattle.laws.specs.Bools.{pick, cases, ◌and◌, and_left}
+use Rattle.laws.proofs.BoolLaws.{and_right}
 use Rattle.laws.specs.Decides.{false_true}
 use Rattle.laws.specs.Lists.{is_some}
 use Rattle.laws.specs.Order.{pairs, lookup, insert_by}

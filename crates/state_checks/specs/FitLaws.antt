@@ -7,7 +7,8 @@ use mathlib.Core.List.{List, [], ◌∷◌, ◌++◌}
 use Rattle.std.proofs.Math.Dec.{ltb}
 use Rattle.std.proofs.Math.ListN.{set, length-append}
 use borrow.Author.Tests.{lt-ltb, le-leb, ltb-true}
-use Rattle.laws.specs.Bools.{pick, pick_both, cases, ◌and◌, allb, and_assoc, and_true, true_and}
+use Rattle.laws.specs.Bools.{pick, pick_both, cases, ◌and◌, allb, and_assoc, and_true}
+use Rattle.laws.proofs.BoolLaws.{true_and}
 use Rattle.std.proofs.Math.Option.{Option, none, some}
 use Rattle.units.specs.Types.{Payload, Entry}
 use Rattle.laws.specs.Order.{numbers, pairs, insert_by}

@@ -9,7 +9,8 @@ use Rattle.std.proofs.Math.Dec.{ltb}
 use Rattle.std.proofs.Math.ListN.{length, set}
 use Rattle.std.proofs.lemmas.List.Edits.{sets}
 use Rattle.std.proofs.lemmas.Bool.{not-true, not-false}
-use Rattle.laws.specs.Bools.{and_left, and_right}
+use Rattle.laws.specs.Bools.{and_left}
+use Rattle.laws.proofs.BoolLaws.{and_right}
 use Rattle.laws.specs.Decides.{false_true}
 use Rattle.units.specs.declared.SimTime.{SimTime}
 use Rattle.words.specs.Words.{W, bytes, bytes_of as bytesOfNumber}

@@ -10,7 +10,8 @@ use Rattle.std.proofs.Math.Dec.{leb}
 use Rattle.std.proofs.Math.ListN.{length, set}
 use Rattle.std.proofs.lemmas.List.Edits.{sets}
 use borrow.Author.Tests.{not-true, not-false, leb-true, ltb-true}
-use Rattle.laws.specs.Bools.{pick, cases, ◌and◌, and_left, and_right}
+use Rattle.laws.specs.Bools.{pick, cases, ◌and◌, and_left}
+use Rattle.laws.proofs.BoolLaws.{and_right}
 use Rattle.laws.specs.Decides.{false_true}
 use Rattle.laws.specs.Lists.{is_some}
 use Rattle.laws.specs.Order.{numbers, lookup, insert_by}

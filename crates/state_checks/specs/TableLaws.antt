@@ -7,7 +7,8 @@ use mathlib.Core.List.{List, [], ◌∷◌, ◌++◌}
 use Rattle.std.proofs.Math.ListN.{length, set, length-append}
 use Rattle.std.proofs.lemmas.List.Edits.{sets}
 use Rattle.std.proofs.lemmas.Bool.{not-true, not-false}
-use Rattle.laws.specs.Bools.{and_left, and_right}
+use Rattle.laws.specs.Bools.{and_left}
+use Rattle.laws.proofs.BoolLaws.{and_right}
 use Rattle.units.specs.Types.{Payload}
 use Rattle.words.specs.Words.{bytes, bytes_of as bytesOfNumber}
 use Rattle.layout.specs.Tables.{Held, Becomes, append}

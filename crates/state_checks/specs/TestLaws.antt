@@ -6,8 +6,8 @@ use Rattle.std.proofs.Math.Bool.{true, false}
 use mathlib.Core.List.{List, [], ◌∷◌, ◌++◌, map}
 use Rattle.std.proofs.Math.Option.{Option, none, some}
 use Rattle.std.proofs.lemmas.Bool.{lt-leb}
-use Rattle.laws.specs.Bools.{pick, cases, ◌and◌, allb, and_left, and_right, and_both, no_and, and_assoc, and_true, true_and, every}
-use Rattle.laws.specs.Bools.{every_append}
+use Rattle.laws.specs.Bools.{pick, cases, ◌and◌, allb, and_left, no_and, and_assoc, and_true, every}
+use Rattle.laws.proofs.BoolLaws.{and_right, and_both, true_and, every_append}
 use Rattle.laws.specs.Decides.{false_true}
 use Rattle.laws.specs.Lists.{is_some}
 use Rattle.laws.specs.Order.{Order, below, next, chain, rising, lookup, insert_by}

@@ -7,7 +7,8 @@ use Rattle.std.proofs.Math.Option.{Option, none, some}
 use Prim.Native.Nat.{ℕ, zero, suc, ◌+◌, ◌-◌, ◌^◌, ◌<◌}
 use Rattle.std.proofs.Math.Dec.{eqb}
 use Rattle.std.proofs.lemmas.List.{length-replicate}
-use Rattle.laws.specs.Bools.{◌and◌, every, every_set, every_first, allb_in, and_left, and_right, and_both, true_and}
+use Rattle.laws.specs.Bools.{◌and◌, every, and_left}
+use Rattle.laws.proofs.BoolLaws.{every_set, every_first, allb_in, and_right, and_both, true_and}
 use Rattle.units.specs.Types.{Payload, noop, command, Entry}
 use Rattle.config.specs.declared.SimConfig.{SimConfig}
 use Rattle.config.specs.declared.Limits.{Limits}

@@ -8,7 +8,8 @@ use Prim.Native.Nat.{ℕ, ◌+◌, ◌-◌, ◌*◌, ◌^◌, ◌≤◌, ◌<◌
 use native.Mathlib.Omega.{arith}
 use Rattle.std.proofs.Math.ListN.{take}
 use borrow.Author.Tests.{le-leb, leb-true, eq-eqb}
-use Rattle.laws.specs.Bools.{◌and◌, pick, cases, every, every_append, every_both, allb_in, and_left, and_right, and_both, and_true}
+use Rattle.laws.specs.Bools.{◌and◌, pick, cases, every, and_left, and_true}
+use Rattle.laws.proofs.BoolLaws.{every_append, every_both, allb_in, and_right, and_both}
 use Rattle.laws.specs.Decides.{false_true}
 use Rattle.units.specs.Types.{payload_of}
 use Rattle.units.specs.declared.LogIndex.{LogIndex}

@@ -3,7 +3,8 @@ use Rattle.std.specs.Prelude.{◌≡◌, refl, Bool, true, false, not, ◌&&◌,
 use Rattle.std.proofs.Math.Path.{sym, ap}
 use Rattle.std.proofs.Common.{ap₂, subst, ◌∙◌, arith, lt-ltb, le-ltb}
 use Rattle.std.proofs.lemmas.Bool.{not-true, not-false}
-use Rattle.laws.specs.Bools.{pick, ◌and◌, allb, and_assoc, and_true, true_and, code_and}
+use Rattle.laws.specs.Bools.{pick, ◌and◌, allb, and_assoc, and_true}
+use Rattle.laws.proofs.BoolLaws.{true_and, code_and}
 use Rattle.words.specs.Words.{W, Bytes}
 use Rattle.config.specs.Limits.{counts_fit, InLimits}
 use Rattle.config.specs.Laws.{counts_limits}

@@ -3,7 +3,8 @@ use Rattle.std.specs.Prelude.{◌≡◌, Bool, true, ◌&&◌, ℕ, ◌+◌, ◌
 use Rattle.std.proofs.Math.Path.{refl, ap}
 use Rattle.std.proofs.Common.{sym, ap₂, subst, ◌∙◌, arith, length-drop, length-take-le}
 use mathlib.Core.List.{List, []}
-use Rattle.laws.specs.Bools.{◌and◌, and_assoc, and_true, code_and}
+use Rattle.laws.specs.Bools.{◌and◌, and_assoc, and_true}
+use Rattle.laws.proofs.BoolLaws.{code_and}
 use Rattle.laws.specs.Decides.{Decides}
 use Rattle.words.specs.Words.{W, Bytes, allz}
 use Rattle.layout.specs.Code.{Code}

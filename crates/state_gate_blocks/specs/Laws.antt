@@ -7,7 +7,8 @@ use mathlib.Core.List.{List, [], ◌∷◌}
 use Prim.Native.Nat.{ℕ, zero, suc, ◌+◌, ◌-◌, ◌*◌, ◌^◌, ◌≤◌, ◌<◌}
 use Rattle.std.proofs.Math.Dec.{eqb, leb, eqb-suc-suc}
 use borrow.Author.Tests.{eq-eqb, ne_eqb, eqb-true, lt-leb, le-leb}
-use Rattle.laws.specs.Bools.{pick, ◌and◌, cases, and_assoc, and_true, true_and, no_and, and_no, code_and}
+use Rattle.laws.specs.Bools.{pick, ◌and◌, cases, and_assoc, and_true, no_and}
+use Rattle.laws.proofs.BoolLaws.{true_and, and_no, code_and}
 use Rattle.laws.specs.Lists.{same_list}
 use Rattle.laws.specs.Decides.{Decides}
 use Rattle.units.specs.declared.NodeOption.{NodeOption}

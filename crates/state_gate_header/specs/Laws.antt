@@ -6,7 +6,8 @@ use mathlib.Core.List.{List, [], ◌∷◌}
 use Prim.Native.Nat.{ℕ, ◌+◌, ◌-◌, ◌*◌, ◌≤◌, ◌<◌}
 use Rattle.std.proofs.Math.Dec.{eqb}
 use Rattle.std.proofs.Math.ListN.{get_or, take}
-use Rattle.laws.specs.Bools.{◌and◌, and_assoc, and_true, true_and, code_and}
+use Rattle.laws.specs.Bools.{◌and◌, and_assoc, and_true}
+use Rattle.laws.proofs.BoolLaws.{true_and, code_and}
 use Rattle.laws.specs.Decides.{Decides}
 use Rattle.laws.specs.Lists.{same_list}
 use Rattle.units.specs.declared.Duration.{Duration}

@@ -7,7 +7,8 @@ use Prim.Native.Nat.{ℕ, zero, suc, ◌^◌, ◌≤◌, ◌<◌}
 use Rattle.std.proofs.Math.Dec.{eqb, leb, ltb}
 use Rattle.std.specs.Int.{w64}
 use borrow.Author.Tests.{eq-eqb, ne_eqb, lt-ltb, le-ltb, le-leb, lt-leb}
-use Rattle.laws.specs.Bools.{pick, ◌and◌, cases, and_assoc, and_true, true_and, no_and, and_no, code_and}
+use Rattle.laws.specs.Bools.{pick, ◌and◌, cases, and_assoc, and_true, no_and}
+use Rattle.laws.proofs.BoolLaws.{true_and, and_no, code_and}
 use Rattle.laws.specs.Lists.{same_list}
 use Rattle.layout.specs.Structs.{firsts}
 use Rattle.config.specs.declared.SimConfig.{SimConfig}

@@ -7,9 +7,11 @@ use mathlib.Core.List.{List, [], ◌∷◌, map}
 use Rattle.std.proofs.Math.Dec.{leb, ltb}
 use Rattle.std.proofs.Math.ListN.{length}
 use borrow.Author.Tests.{leb-true, le-leb, ltb-true, ltb-false, le-ltb}
-use Rattle.laws.specs.Bools.{pick, ◌and◌, and_left, and_right, and_both, and_true, true_and, every}
+use Rattle.laws.specs.Bools.{pick, ◌and◌, and_left, and_true, every}
+use Rattle.laws.proofs.BoolLaws.{and_right, and_both, true_and}
 use Rattle.laws.specs.Order.{numbers, not_below, next, chain, sorted, push_by}
-use Rattle.laws.specs.OrderLaws.{every_push, length_push}
+use Rattle.laws.specs.OrderLaws.{length_push}
+use Rattle.laws.proofs.OrderLaws.{every_push}
 use Rattle.layout.specs.Sorted.{sorted_push}
 use Rattle.units.specs.declared.SimTime.{SimTime}
 use Rattle.queue.specs.declared.Event.{Event}

@@ -8,7 +8,8 @@ use Rattle.std.proofs.Math.Dec.{leb}
 use Rattle.std.proofs.Math.ListN.{length, get_or, set}
 use Rattle.std.proofs.lemmas.List.Edits.{sets}
 use borrow.Author.Tests.{leb-true, leb-false, le-leb, lt-leb}
-use Rattle.laws.specs.Bools.{◌and◌, and_left, and_right, cases, every, pick_both}
+use Rattle.laws.specs.Bools.{◌and◌, and_left, cases, every, pick_both}
+use Rattle.laws.proofs.BoolLaws.{and_right}
 use Rattle.laws.specs.Order.{numbers}
 use Rattle.laws.specs.OrderLaws.{length_push}
 use Rattle.units.specs.declared.SimTime.{SimTime}

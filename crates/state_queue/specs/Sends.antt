@@ -9,7 +9,8 @@ use Prim.Native.Nat.{ℕ, zero, suc, ◌+◌, ◌-◌, ◌^◌, ◌≤◌, ◌<�
 use native.Mathlib.Omega.{arith}
 use Rattle.std.proofs.Math.ListN.{length}
 use borrow.Author.Tests.{lt-ltb, eqb-true}
-use Rattle.laws.specs.Bools.{◌and◌, and_left, and_right, and_both, every}
+use Rattle.laws.specs.Bools.{◌and◌, and_left, every}
+use Rattle.laws.proofs.BoolLaws.{and_right, and_both}
 use Rattle.laws.specs.Lists.{list_from}
 use Rattle.units.specs.declared.SimTime.{SimTime}
 use Rattle.rng.specs.Rng.{under}

@@ -6,7 +6,8 @@ use Rattle.std.proofs.Math.Bool.{true}
 use mathlib.Core.List.{List}
 use Rattle.std.proofs.Math.Option.{some}
 use Rattle.std.proofs.Math.ListN.{set}
-use Rattle.laws.specs.Bools.{◌and◌, and_left, every_get}
+use Rattle.laws.specs.Bools.{◌and◌, and_left}
+use Rattle.laws.proofs.BoolLaws.{every_get}
 use Rattle.laws.specs.ListLaws.{at_there}
 use Rattle.words.specs.Words.{bytes}
 use Rattle.layout.specs.Tables.{Held}

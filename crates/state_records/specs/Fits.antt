@@ -1,7 +1,8 @@
 -- Question 10 by the clients and by what the run keeps. Assumes nothing.
 use Rattle.std.specs.Prelude.{◌≡◌, refl, Bool, true, List, [], ◌∷◌, ◌++◌, ℕ, ◌+◌, ◌≤◌, ◌<◌, eqb, leb, length, get_or, set}
 use Rattle.std.proofs.Common.{sym, ap, ap₂, ◌∙◌, arith, length-set, length-append, leb-true, le-leb}
-use Rattle.laws.specs.Bools.{◌and◌, allb, and_left, and_right, and_both, and_true, every, every_append, every_get}
+use Rattle.laws.specs.Bools.{◌and◌, allb, and_left, and_true, every}
+use Rattle.laws.proofs.BoolLaws.{and_right, and_both, every_append, every_get}
 use Rattle.laws.specs.Decides.{false_true, decided}
 use Rattle.metrics.specs.Laws.{modify_set}
 use Rattle.clients.specs.ClientLaws.{no_client}

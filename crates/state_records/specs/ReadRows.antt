@@ -7,7 +7,8 @@ use Rattle.std.proofs.Math.Option.{Option, none, some}
 use Prim.Native.Nat.{ℕ, zero, suc, ◌+◌, ◌-◌, ◌*◌, ◌≤◌, ◌<◌}
 use Rattle.std.proofs.Math.Seq.{sets}
 use borrow.Author.Tests.{leb-true}
-use Rattle.laws.specs.Bools.{and_left, and_right}
+use Rattle.laws.specs.Bools.{and_left}
+use Rattle.laws.proofs.BoolLaws.{and_right}
 use Rattle.laws.specs.Lists.{at}
 use Rattle.laws.specs.ListLaws.{at_there, at_none}
 use Rattle.units.specs.Types.{Payload, noop}

@@ -7,7 +7,8 @@ use Rattle.std.proofs.Math.ListN.{length, set, length-append}
 use Rattle.std.specs.Prelude.{get_or, drop, take}
 use Rattle.std.proofs.lemmas.List.Edits.{sets}
 use borrow.Author.Tests.{leb-true, ltb-true}
-use Rattle.laws.specs.Bools.{and_left, and_right}
+use Rattle.laws.specs.Bools.{and_left}
+use Rattle.laws.proofs.BoolLaws.{and_right}
 use Rattle.laws.specs.ListLaws.{at_none}
 use Rattle.words.specs.Words.{W, bytes, bytes_of as bytesOfNumber}
 use Rattle.layout.specs.Tables.{Held, append}

@@ -8,7 +8,8 @@ use native.Mathlib.Omega.{arith}
 use Rattle.std.proofs.Math.ListN.{length, get_or, set}
 use Rattle.std.proofs.Math.Seq.{sets}
 use borrow.Author.Tests.{le-leb, lt-leb, ltb-true, ltb-false}
-use Rattle.laws.specs.Bools.{pick, cases, every, allb_in, and_left, and_right}
+use Rattle.laws.specs.Bools.{pick, cases, every, and_left}
+use Rattle.laws.proofs.BoolLaws.{allb_in, and_right}
 use Rattle.laws.specs.Lists.{is_some}
 use Rattle.laws.specs.Order.{pairs, lookup, insert_by, remove_by, chain}
 use Rattle.laws.specs.OrderLaws.{length_insert}

@@ -6,10 +6,12 @@ use Rattle.std.proofs.Math.Bool.{true}
 use mathlib.Core.List.{List, []}
 use Rattle.std.proofs.Math.Option.{Option}
 use Rattle.std.proofs.Math.Dec.{leb}
-use Rattle.laws.specs.Bools.{◌and◌, every, cases, allb_in, and_left, and_right, and_both, and_true, true_and}
+use Rattle.laws.specs.Bools.{◌and◌, every, cases, and_left, and_true}
+use Rattle.laws.proofs.BoolLaws.{allb_in, and_right, and_both, true_and}
 use Rattle.laws.specs.Decides.{false_true}
 use Rattle.laws.specs.Order.{pairs, insert_by, remove_by, chain}
-use Rattle.laws.specs.OrderLaws.{every_insert, every_remove, remove_most}
+use Rattle.laws.specs.OrderLaws.{remove_most}
+use Rattle.laws.proofs.OrderLaws.{every_insert, every_remove}
 use Rattle.units.specs.declared.Term.{Term}
 use Rattle.client.specs.Key.{key_of}
 use Rattle.client.specs.declared.ClientKey.{ClientKey}

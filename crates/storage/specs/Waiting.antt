@@ -1,7 +1,8 @@
 -- How the writes not yet synced lie in words (waiting.rt), and what its functions leave and answer. Payloads are of up to p bytes. Assumes nothing.
 use Rattle.std.specs.Prelude.{◌≡◌, refl, Bool, true, List, [], ◌∷◌, ℕ, zero, suc, ◌+◌, ◌-◌, ◌*◌, ◌≤◌, eqb, leb, length, get_or}
 use Rattle.std.proofs.Common.{sym, ap, arith, eqb-true}
-use Rattle.laws.specs.Bools.{and_right, ◌and◌, pick}
+use Rattle.laws.specs.Bools.{◌and◌, pick}
+use Rattle.laws.proofs.BoolLaws.{and_right}
 use Rattle.units.specs.Types.{Payload, noop, command}
 pub use Rattle.units.specs.Types.{node_number as voteNumber}
 use Rattle.units.specs.declared.Term.{Term}

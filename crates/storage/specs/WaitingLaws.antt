@@ -11,7 +11,8 @@ use Rattle.std.proofs.lemmas.List.Edits.{sets}
 use Rattle.std.proofs.lemmas.List.{get_or_at}
 use Rattle.std.specs.Int.{w64}
 use Rattle.std.proofs.lemmas.Bool.{lt-leb, not-true, not-false}
-use Rattle.laws.specs.Bools.{pick, ◌and◌, and_left, and_both, no_and, true_and, code_and}
+use Rattle.laws.specs.Bools.{pick, ◌and◌, and_left, no_and}
+use Rattle.laws.proofs.BoolLaws.{and_both, true_and, code_and}
 use Rattle.units.specs.Types.{Payload, noop, command, payload_of}
 use Rattle.units.specs.declared.Term.{Term}
 use Rattle.units.specs.declared.LogIndex.{LogIndex}

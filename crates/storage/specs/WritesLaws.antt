@@ -5,7 +5,8 @@ use Rattle.std.proofs.Common.{sym, ◌∙◌, arith, length-append, Fits, lt-ltb
 use Rattle.std.proofs.Math.Option.{Option, none, some}
 use Rattle.std.specs.Int.{w64}
 use Rattle.std.proofs.lemmas.Bool.{lt-leb}
-use Rattle.laws.specs.Bools.{pick, and_both, and_no, no_and}
+use Rattle.laws.specs.Bools.{pick, no_and}
+use Rattle.laws.proofs.BoolLaws.{and_both, and_no}
 use Rattle.units.specs.Types.{Payload, noop, command, payload_of, Entry, same_payload}
 use Rattle.units.specs.declared.Term.{Term}
 use Rattle.units.specs.declared.LogIndex.{LogIndex}

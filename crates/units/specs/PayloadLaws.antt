@@ -2,7 +2,7 @@
 use Rattle.std.specs.Prelude.{◌≡◌, refl, true}
 use Rattle.std.proofs.Common.{ap}
 use Rattle.laws.specs.Decides.{false_true}
-use Rattle.laws.specs.ListLaws.{list_itself, list_equal}
+use Rattle.laws.proofs.ListLaws.{list_itself, list_equal}
 use Rattle.units.specs.Types.{Payload, noop, command, same_payload}
 
 pub payload_itself : (x : Payload) → same_payload x x ≡ true

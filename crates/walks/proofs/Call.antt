@@ -2,13 +2,13 @@
 --     ended Ps P           the signature of such a function, of parameters Ps and result P, as its own generated `ended` computes to
 --     Gives run vs P y     run, at the machine values vs, returns the value y of the type P
 --     gives_of             it follows from the function's theorem: the `requires` is shown, and the `ensures` says r ≡ y
---     calls-plain          the call: the context stays as it is, and what lands is y's machine value, with `Ok P y` in hand
+--     calls_plain          the call: the context stays as it is, and what lands is y's machine value, with `Ok P y` in hand
 -- Operands are read at their positions in the context; nothing is put in front of it.
 -- Assumes `Logic`, and that the table of calls is monotone under a frame, as every `Tables` is.
 use mathlib.Core.Path.{◌≡◌, sym, ap, subst}
 use mathlib.Core.List.{List, [], ◌∷◌}
 use seplogic.Ra.Ura.{Ura}
-use mir.Syntax.{Name, Place, Opd as Operand, Body, seq, call}
+use mir.Syntax.{Callee, Place, Opd as Operand, Body, seq, call}
 use mir.Val.{Val}
 use base.Logic.{SProp, ent, sep, emp, via, mono_l, fst∗, snd∗, emp∗, ex_e}
 use base.Fml.{ftrue}
@@ -87,7 +87,7 @@ module _ {M : Type 1} {𝓤 : Ura M} (𝓛 : Logic 𝓤) where
           via 𝓤 (run (flats Ps a) Q) (via 𝓤 _ (enters oks req) (known ((tt, tt, tt, passed Ps a, spelled Ps a), g)))
           (via 𝓤 (sep 𝓤 (run (flats Ps a) Q) (emp 𝓤)) (∗emp 𝓤 (run (flats Ps a) Q)) (fm (flats Ps a) Q Q' (emp 𝓤) (λ v. via 𝓤 (Q v) (fst∗ 𝓤 (Q v) (emp 𝓤)) (𝓛.laws.⇛_mono _ _ (ex_e 𝓤 _ (leaves v))))))
 
-module _ {M : Type 1} {𝓤 : Ura M} {𝓛 : Logic 𝓤} {K : Type 0} {Γ : List (Item 𝓤)} {E : Env 𝓤 𝓛.H} {C : Calls 𝓤 𝓛.H} {Λ : Loops 𝓤 𝓛.H} {q : Post 𝓤 𝓛.H} {f : Name} {xs : List Operand} {d : Place} {rest : Body} where
+module _ {M : Type 1} {𝓤 : Ura M} {𝓛 : Logic 𝓤} {K : Type 0} {Γ : List (Item 𝓤)} {E : Env 𝓤 𝓛.H} {C : Calls 𝓤 𝓛.H} {Λ : Loops 𝓤 𝓛.H} {q : Post 𝓤 𝓛.H} {f : Callee} {xs : List Operand} {d : Place} {rest : Body} where
   open 𝓛 use {H}
 
   pub calls_plain : K → FmC 𝓤 H 𝓛.laws C → {vs : List Val} (P : Plain) (y : Of P) → Gives 𝓛 (C f) vs P y → Opds K 𝓛 Γ E xs vs

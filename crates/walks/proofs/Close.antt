@@ -8,7 +8,7 @@
 use mathlib.Core.Path.{◌≡◌}
 use mathlib.Core.List.{List}
 use seplogic.Ra.Ura.{Ura}
-use mir.Syntax.{Name, Fn}
+use mir.Syntax.{Callee, Fn}
 use base.Logic.{SProp, ent, sep, emp, via, comm∗, mono_l, fst∗, snd∗, emp∗}
 use prog.Model.{Model}
 use prog.Routine.{Env, Routine}
@@ -43,7 +43,7 @@ module _ {M : Type 1} {𝓤 : Ura M} (𝓛 : Logic 𝓤) (𝓜 : Model 𝓤 𝓛
   abbrev pub 𝓣 : Tables 𝓤 H
   𝓣 = tables_of 𝓤 H 𝓜 (tables 𝓤 H 𝓜 𝓡 env)
 
-  module _ (T : Ended) (hs : Stays T.signature.params T.kept) (c : Clauses 𝓤 T) (key : Name) (e : Fn) where
+  module _ (T : Ended) (hs : Stays T.signature.params T.kept) (c : Clauses 𝓤 T) (key : Callee) (e : Fn) where
     pub proved : AllGo 𝓛 T.signature.lifetimes T.signature.params T.kept hs
         → Closed 𝓤 H (tables 𝓤 H 𝓜 𝓡 env).C (tables 𝓤 H 𝓜 𝓡 env).Λ key e
         → (sp : (κs : Lfts T.signature.lifetimes) → Spells (types_at T.signature.params κs))
@@ -61,7 +61,7 @@ module _ {M : Type 1} {𝓤 : Ura M} (𝓛 : Logic 𝓤) (𝓜 : Model 𝓤 𝓛
   pub framed : FmC 𝓤 H 𝓛.laws 𝓣.C
   framed = fm_of 𝓤 H 𝓛.laws 𝓣
 
-  pub gives : (Ps : List Plain) (P : Plain) (c : Clauses 𝓤 (ended Ps P)) (k : Name) (r : Routine) → env k ≡ r → Triple 𝓤 (𝓡.run r) (triple_of 𝓛 (ended Ps P).signature (closing 𝓛 (ended Ps P) c))
+  pub gives : (Ps : List Plain) (P : Plain) (c : Clauses 𝓤 (ended Ps P)) (k : Callee) (r : Routine) → env k ≡ r → Triple 𝓤 (𝓡.run r) (triple_of 𝓛 (ended Ps P).signature (closing 𝓛 (ended Ps P) c))
       → (a : Ins Ps) (g : (c tt (passed Ps a)).ghost) (y : Of P) → ((x : Of P) (e : AtExit (ended Ps P) tt) → ent 𝓤 ((c tt (passed Ps a)).ensures g x e) (fact 𝓤 (x ≡ y))) → Oks Ps a → ent 𝓤 (emp 𝓤) ((c tt (passed Ps a)).requires g)
       → Gives 𝓛 ((tables 𝓤 H 𝓜 𝓡 env).C k) (flats Ps a) P y
   unfolding tables_of

@@ -3,7 +3,7 @@
 -- One walk of the MIR serves every S, F, f₀ and g.
 --     fold             the function's MIR, which the generated `function` computes to; rv is the right side that makes f₀
 --     EndedF           its signature, with the parameter kept
---     fold-proved      the function's theorem, from: total, the definition on lists that the `ensures` cites, with its two laws; f₀ and how rv makes it;
+--     fold_proved      the function's theorem, from: total, the definition on lists that the `ensures` cites, with its two laws; f₀ and how rv makes it;
 --                      any element, for what stands past the end; what g gives; and the `ensures` at `total f₀` of the slice's list
 -- The slice is looked into before the loop and shut after it. A comment in brackets is the context at its place; a local stands there with
 -- what frees it right after.
@@ -19,13 +19,13 @@ use lib.ListN.{length, drop, get_or, drop_of_length-le}
 use lib.Seq.{drop-cons}
 use lib.WfN.{lt-wf_rel}
 use seplogic.Ra.Ura.{Ura}
-use seplogic.Ra.TreeShare.{full_share}
+use base.Fraction.{full_share}
 use lib.Dec.{T, ltb, ltb→lt, nltb→le, lit<}
-use mir.Syntax.{Name, Ty, Fn, Body as Code, Rv as RValue, ty_int, ty_bool, ty_ptr, ty_ref, named, imm, w64, unsigned, local, value_local, place, deref, field, copy, int, rv_opd, op2, add, mul, lt, offset, seq, assign, call, cond, exit, block, loop, return, skip as skipᴹ}
+use mir.Syntax.{Callee, Ty, Fn, Body as Code, Rv as RValue, ty_int, ty_bool, ty_ptr, ty_ref, named, imm, w64, unsigned, local, value_local, place, deref, field, copy, int, rv_opd, op2, add, mul, lt, offset, seq, assign, call, cond, exit, block, loop, return, skip as skipᴹ}
 use mir.Raw.{raw as raw_ty}
 use mir.Val.{Val, vint, vptr}
 use base.Logic.{SProp, ent, emp, via, fst∗}
-use base.Fml.{GName, Lft, Share, Fml, ftrue, flft, fat, froom, fdies, fobor}
+use base.Fml.{Lft, Share, Fml, ftrue, flft, fat, froom, fdies}
 use prog.Model.{Model}
 use prog.Routine.{Env as Names}
 use prog.Wp.{Out, Env, Calls, Loops, Wp, WpFn, Closed, Tables, after_seq, after_block, after_turn, at_return}
@@ -36,13 +36,13 @@ use contract.Running.{Running, tables, tables_of}
 use types.Kit.{Go, Item, ‵, ⋆, ◌⊛◌, Sq, runs, any_q, at_ret, ◌$◌, ◌∵◌, !, qed, by, move, keep, drop as drops, use1, recast, split, join, rewrite, fsplit, fjoin, suffices, frame, done}
 use types.Run.{Rv, look, look_raw, init, store, forget, stop, hop, fld, from, load, lit, of_opd, bin, and_then, no_more, assigns, assigns_last, land, first, skips, jumps, blocks, branches, returns, enter, alloc1, alloc0, params1, pass1, pass0, free1, free0, exec, Below, again, loops}
 use types.Part.{whole, sub, look_in}
-use types.Share.{arr_parts}
 use denote.RattleType.{RattleType, owns}
 use denote.Laws.{Is, shows}
-use denote.Memory.{mem, shares, pointee}
+use denote.Memory.{mem, pointee}
 use denote.Ref.{Bor}
 use denote.Slice.{slice_ty, slice_val, ShrSlice, Room, shr_slice_vals, shr_slice_Tells, shr_slice_copy}
 use denote.Index.{place_is, row, elem_out, elem_back, looks_slice, shuts_slice}
+use denote.Opens.{Shut}
 use denote.Exit.{yes}
 use denote.Signature.{plain, shr_slice_of}
 use denote.Steps.{owned, nothing}
@@ -62,7 +62,7 @@ module _ (S F : Plain) where
   abbrev slice : Ty
   slice = slice_ty (ty_ref (named 0) imm (pointee S.row.written))
 
-  abbrev more : Name → Code
+  abbrev more : Callee → Code
   more g = seq (assign (place 5 []) (op2 (mul unsigned) (copy (place 3 [])) (int w64 (mem S.row).size)))
       (seq (assign (place 7 []) (op2 offset (copy (place 1 (field 0 ∷ []))) (copy (place 5 []))))
       (seq (assign (place 8 []) (rv_opd (copy (place 7 (deref S.ty ∷ [])))))
@@ -70,7 +70,7 @@ module _ (S F : Plain) where
       (seq (call g (copy (place 2 []) ∷ copy (place 4 []) ∷ []) (place 2 []))
       (assign (place 3 []) (op2 (add unsigned) (copy (place 3 [])) (int w64 1)))))))
 
-  abbrev turn : Name → Code
+  abbrev turn : Callee → Code
   turn g = seq (assign (place 5 []) (rv_opd (copy (place 1 (field 1 ∷ [])))))
       (seq (assign (place 6 []) (op2 (lt unsigned) (copy (place 3 [])) (copy (place 5 []))))
       (seq (cond (copy (place 6 [])) skipᴹ (exit 1)) (more g)))
@@ -78,10 +78,12 @@ module _ (S F : Plain) where
   abbrev rest : Code
   rest = seq (assign (place 0 []) (rv_opd (copy (place 2 [])))) return
 
-  abbrev pub fold : RValue → Name → Fn
+  abbrev pub fold : RValue → Callee → Fn
   fold rv g = record {
     lifetimes = 1;
     outlives = [];
+    ty_params = [];
+    givens = 0;
     params = 1;
     locals = local F.ty value_local ∷ local slice value_local ∷ local F.ty value_local ∷ local word value_local ∷ local S.ty value_local ∷ local word value_local ∷ local ty_bool value_local ∷ local ty_ptr value_local ∷ local S.ty value_local ∷ [];
     body = seq (assign (place 2 []) rv) (seq (assign (place 3 []) (rv_opd (int w64 0))) (seq (block (loop (turn g))) rest));
@@ -124,7 +126,7 @@ module _ (S F : Plain) where
     at_end : (t : Turn) → length ys ≤ t.i → t.f ≡ total f₀ ys
     at_end t le = sym (total-nil t.f) ∙ ap (total t.f) (sym (drop_of_length-le ys le)) ∙ t.found
 
-    module _ {M : Type 1} {𝓤 : Ura M} (𝓛 : Logic 𝓤) (κ : Lft) (q : Share) (b o : ℕ) (γ : GName) where
+    module _ {M : Type 1} {𝓤 : Ura M} (𝓛 : Logic 𝓤) (κ : Lft) (q : Share) (b o : ℕ) where
       open 𝓛 use {H}
 
       abbrev R : RattleType
@@ -150,7 +152,7 @@ module _ (S F : Plain) where
             states ! (subst (λ (z : Of F). ent 𝓤 (emp 𝓤) ((c (κ, tt) (x, tt)).ensures g z (at_exit EndedF (κ, tt) (x, tt) (tt, tt)))) (sym e) says) $
             nothing ! $ move ! (1 ∷ 0 ∷ []) $ join ! $ frame ! $ nothing ! $ move ! (1 ∷ 0 ∷ []) $ fjoin ! $ frame ! $ owned ! F.row (Is F.row) (F.makes 𝓛) f _ ok $ done !
 
-        module _ (𝓣' : Tables 𝓤 H) (k : Name) (gives : (f : Of F) (m : Of S) → Ok F f → Ok S m → Gives 𝓛 (𝓣'.C k) (F.val f ∷ S.val m ∷ []) F (step f m)) (room : Room R (length ys)) where
+        module _ (𝓣' : Tables 𝓤 H) (k : Callee) (gives : (f : Of F) (m : Of S) → Ok F f → Ok S m → Gives 𝓛 (𝓣'.C k) (F.val f ∷ S.val m ∷ []) F (step f m)) (room : Room R (length ys)) where
           abbrev C : Calls 𝓤 H
           C = 𝓣'.C
 
@@ -161,9 +163,9 @@ module _ (S F : Plain) where
             abbrev En : Env 𝓤 H
             En = (F.ty, l₀) ∷ (slice, l₁) ∷ (F.ty, l₂) ∷ (word, l₃) ∷ (S.ty, l₄) ∷ (word, l₅) ∷ (ty_bool, l₆) ∷ (ty_ptr, l₇) ∷ (S.ty, l₈) ∷ []
 
-            -- [the slice's elements; the open borrow; 2 _8; …; 4 _7; …; 6 _6; …; 8 _5; …; 10 _4; …; 12 _3, i; …; 14 _2, f; …; 16 _1; …; 18 _0; …; 20 what the slice owns]
+            -- [the slice's elements; what shuts the slice; 2 _8; …; 4 _7; …; 6 _6; …; 8 _5; …; 10 _4; …; 12 _3, i; …; 14 _2, f; …; 16 _1; …; 18 _0; …; 20 what the slice owns]
             abbrev At : Turn → List (Item 𝓤)
-            At t = ‵ (row R q' ys b o) ∷ ‵ (fobor κ q ((arr_parts (shares R) (length ys)).part q' ys b o))
+            At t = ‵ (row R q' ys b o) ∷ Shut 𝓛 κ q (row R q' ys b o)
                 ∷ ‵ (froom S.ty l₈ 0) ∷ ‵ (fdies S.ty l₈) ∷ ‵ (froom ty_ptr l₇ 0) ∷ ‵ (fdies ty_ptr l₇) ∷ ‵ (froom ty_bool l₆ 0) ∷ ‵ (fdies ty_bool l₆) ∷ ‵ (froom word l₅ 0) ∷ ‵ (fdies word l₅) ∷ ‵ (froom S.ty l₄ 0) ∷ ‵ (fdies S.ty l₄)
                 ∷ ‵ (fat full_share word l₃ 0 (vint w64 t.i)) ∷ ‵ (fdies word l₃) ∷ ‵ (fat full_share F.ty l₂ 0 (F.val t.f)) ∷ ‵ (fdies F.ty l₂) ∷ ‵ (fat full_share slice l₁ 0 v) ∷ ‵ (fdies slice l₁) ∷ ‵ (froom F.ty l₀ 0) ∷ ‵ (fdies F.ty l₀) ∷ ‵ Own ∷ []
 
@@ -181,7 +183,7 @@ module _ (S F : Plain) where
                 assigns ! (bin ! (load ! (from ! (fld ! refl (stop !))) (look_in ! 16 (sub ! 0 refl (whole !)))) (load ! (from ! (stop !)) (look ! 8 refl)) tt) (from ! (stop !)) (init ! 4 refl (tt, tt)) $
                 rewrite ! 4 (λ (p : ℕ). ‵ (fat full_share ty_ptr l₇ 0 (vptr b p))) (sym (place_is (mem R).size o t.i)) refl $
                 elem_out ! R (Is R) (shows 𝓛 R) (λ z. S.val z ∷ []) S.tells q' ys t.i d₀ b o (within less) (λ okm. recast 𝓛 (‵ (fat q' (raw_ty S.ty) b _ (S.val m))) (ap (sem 𝓛) (cell S q' (S.val m) b _)) $
-                -- [the element's cell; what it owns; the others; the open borrow; 4 _8; …; 6 _7; …; 8 _6; …; 10 _5; …; 12 _4; …; 14 _3; …]
+                -- [the element's cell; what it owns; the others; what shuts the slice; 4 _8; …; 6 _7; …; 8 _6; …; 10 _5; …; 12 _4; …; 14 _3; …]
                 assigns ! (of_opd ! (load ! (from ! (hop ! (look ! 6 refl) (stop !))) (look_raw ! 0 refl))) (from ! (stop !)) (init ! 4 refl (typed 𝓛 S m okm)) $
                 assigns ! (of_opd ! (load ! (from ! (stop !)) (look ! 4 refl))) (from ! (stop !)) (init ! 12 refl (typed 𝓛 S m okm)) $
                 recast 𝓛 (‵ _) (ap (sem 𝓛) (sym (cell S q' (S.val m) b _))) $ elem_back ! R q' ys t.i d₀ (S.val m ∷ []) b o (within less) $
@@ -211,15 +213,15 @@ module _ (S F : Plain) where
           walk : (rv : RValue) → ((Γ : List (Item 𝓤)) (E : Env 𝓤 H) → Rv (Go {0}) 𝓛 Γ E rv (F.val f₀)) → ent 𝓤 (on_entry 𝓛 EndedF.signature (κ, tt) (q, tt) (x, tt) (v ∷ [], tt)) (WpFn 𝓤 H C Λ (fold rv k) (v ∷ []) Post)
           walk rv made =
               qed 𝓛 ((‵ (flft κ q) ⊛ ‵ ftrue) ∷ ‵ (owns (ShrSlice (named 0) κ R ∷ []) (x, tt) (v ∷ [], tt)) ∷ []) ∵ split ! $ move ! (2 ∷ []) $ fsplit ! $
-              -- a `&[S]` is Copy: one copy of what it owns is kept for the exit, and of the other the fractured borrow is taken
-              use1 𝓛 (‵ Own ⊛ ‵ Own) ((shr_slice_copy 𝓛 (named 0) κ R).twice x (v ∷ [])) $ split ! $ fsplit ! $ drops ! $ fsplit ! $ drops ! $ keep ! (0 ∷ 3 ∷ 1 ∷ []) $
+              -- a `&[S]` is Copy: one copy of what it owns is kept for the exit, and of the other what it holds of its elements is taken
+              use1 𝓛 (‵ Own ⊛ ‵ Own) ((shr_slice_copy 𝓛 (named 0) κ R S.row_laws).twice x (v ∷ [])) $ split ! $ fsplit ! $ drops ! $ keep ! (0 ∷ 3 ∷ 1 ∷ []) $
               enter ! C Λ (fold rv k) (v ∷ []) _ $
               alloc1 ! (λ l₀. alloc1 ! (λ l₁. alloc1 ! (λ l₂. alloc1 ! (λ l₃. alloc1 ! (λ l₄. alloc1 ! (λ l₅. alloc1 ! (λ l₆. alloc1 ! (λ l₇. alloc1 ! (λ l₈. alloc0 ! $ params1 ! $ pass1 ! (init ! 14 refl (tt, (tt, (record { fits = room.0 }, tt)))) $ pass0 ! $
               assigns ! (made _ _) (from ! (stop !)) (init ! 12 refl (typed 𝓛 F f₀ ok₀)) $ assigns ! (of_opd ! (lit ! tt)) (from ! (stop !)) (init ! 10 refl (tt, record { fits = lit< tt })) $
-              move ! (18 ∷ 19 ∷ []) $ looks_slice ! tt R (Is R) (shows 𝓛 R) (λ z. S.val z ∷ []) S.tells (S.copies 𝓛) ys b o (λ q'. move ! (2 ∷ []) $ drops ! $
+              move ! (18 ∷ 19 ∷ []) $ looks_slice ! tt R (S.copied 𝓛) ys b o (λ q'. move ! (2 ∷ []) $ drops ! $
               first ! $ blocks ! $ loops ! 𝓣' Nearer Nearer-wf (At q' l₀ l₁ l₂ l₃ l₄ l₅ l₆ l₇ l₈) (turns q' l₀ l₁ l₂ l₃ l₄ l₅ l₆ l₇ l₈) begins))))))))))
 
-  module _ {M : Type 1} {𝓤 : Ura M} (𝓛 : Logic 𝓤) (𝓜 : Model 𝓤 𝓛.H) (𝓡 : Running 𝓤 𝓛.H 𝓜) (env : Names) (key k : Name) (rv : RValue) where
+  module _ {M : Type 1} {𝓤 : Ura M} (𝓛 : Logic 𝓤) (𝓜 : Model 𝓤 𝓛.H) (𝓡 : Running 𝓤 𝓛.H 𝓜) (env : Names) (key k : Callee) (rv : RValue) where
     open 𝓛 use {H}
 
     pub fold_proved : (c : Clauses 𝓤 EndedF) → Closed 𝓤 H (tables 𝓤 H 𝓜 𝓡 env).C (tables 𝓤 H 𝓜 𝓡 env).Λ key (fold rv k)
@@ -232,4 +234,4 @@ module _ (S F : Plain) where
     fold_proved c unfolded step total nil cons f₀ ok₀ made d₀ small gives ens =
         proved 𝓛 𝓜 𝓡 env EndedF stayed_f c key (fold rv k) (Goes-none_slice 𝓛 1 (0 ∷ []) tt (plain (λ _. S.row)) yes, tt) unfolded (λ κs. (shr_slice_vals, tt)) (λ κs. (shr_slice_Tells (named 0) κs.0 S.row, tt))
         (λ κs qs bounds a g are. via 𝓤 _ (fst∗ 𝓤 _ ((c κs a).requires g))
-        (walk step total nil cons f₀ ok₀ d₀ small a.0.now 𝓛 κs.0 qs.0 a.0.ptr.0 a.0.ptr.1 0 c g (ens κs a g) (𝓣 𝓛 𝓜 𝓡 env) k gives are.0.0.1 rv made))
+        (walk step total nil cons f₀ ok₀ d₀ small a.0.now 𝓛 κs.0 qs.0 a.0.ref_ptr.0 a.0.ref_ptr.1 c g (ens κs a g) (𝓣 𝓛 𝓜 𝓡 env) k gives are.0.0.1 rv made))

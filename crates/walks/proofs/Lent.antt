@@ -1,12 +1,12 @@
 -- A lent plain struct, `s: &mut S`, within a walk: what lies behind the reference is one cell.
 --     opens_plain      the borrow is opened: the cell holds the struct as it is now, with its `Ok` in hand
---     closes-plain     the borrow is closed: the cell holds another value, of which `Ok` is shown
+--     closes_plain     the borrow is closed: the cell holds another value, of which `Ok` is shown
 -- Assumes `Logic`.
 use mathlib.Core.Path.{sym, ap}
 use Prim.Native.Nat.{ℕ}
 use mathlib.Core.List.{List, [], ◌∷◌}
 use seplogic.Ra.Ura.{Ura}
-use seplogic.Ra.TreeShare.{full_share}
+use base.Fraction.{full_share}
 use mir.Raw.{raw as raw_ty}
 use base.Stored.{Gv}
 use base.Fml.{GName, Lft, Share, flft, fobs, fauth, fbor, fobor, fat}

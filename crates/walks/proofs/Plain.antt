@@ -20,17 +20,19 @@ use mir.Raw.{raw}
 use mir.Val.{Val, WT, has_ty, vint}
 use base.Fml.{Share, ftrue, fat}
 use types.Logic.{Logic}
-use denote.RattleType.{RattleType}
+use denote.RattleType.{RattleType, RowLaws}
 use denote.Laws.{Is, Tells, Makes, Lawful, Copy, Typed}
 use denote.Memory.{cell_at}
-use denote.Plain.{UInt, uint_Tells, uint_Lawful, uint_Makes, uint_copy}
+use denote.Plain.{UInt, uint_Tells, uint_Lawful, uint_Makes, uint_copy, uint_row_laws}
+use denote.Copied.{Copied, uint_Copied}
 use denote.Exit.{Kept, yes, Exit, unchanged, Last, left}
 use denote.Signature.{Slot, plain}
 use denote.Triple.End.{Kepts}
-use denote.Struct.Struct.{Plains}
+use denote.Struct.Struct.{Plains, Struct, Struct-row_laws}
+use denote.Struct.Recorded.{Recorded-row_laws}
 use denote.Struct.Declared as SD
 use denote.Struct.Laws as SL
-use denote.Enum.Enum.{Plainss, Few}
+use denote.Enum.Enum.{Plainss, Few, Enum, Enum-row_laws}
 use denote.Enum.Declared as ED
 use denote.Enum.Laws as EL
 
@@ -43,6 +45,8 @@ pub record Plain : Type 2 where
   pub lawful : {M : Type 1} {𝓤 : Ura M} (𝓛 : Logic 𝓤) → Lawful 𝓛 row
   pub makes : {M : Type 1} {𝓤 : Ura M} (𝓛 : Logic 𝓤) → Makes 𝓛 row (Is row)
   pub copies : {M : Type 1} {𝓤 : Ura M} (𝓛 : Logic 𝓤) → Copy 𝓛 row
+  pub copied : {M : Type 1} {𝓤 : Ura M} (𝓛 : Logic 𝓤) → Copied 𝓛 row
+  pub row_laws : RowLaws row
   pub still : (k : Kept) → row.exit k ≡ unchanged
 
 abbrev pub Of : Plain → Type 0
@@ -61,6 +65,8 @@ uint_plain w = record {
   lawful = λ 𝓛. uint_Lawful 𝓛 w;
   makes = λ 𝓛. uint_Makes 𝓛 w;
   copies = λ 𝓛. uint_copy 𝓛 w;
+  copied = λ 𝓛. uint_Copied 𝓛 w;
+  row_laws = uint_row_laws w;
   still = λ k. refl;
 }
 
@@ -74,6 +80,8 @@ struct_plain D L pl cs τ e = record {
   lawful = λ 𝓛. SL.lawful D L 𝓛;
   makes = λ 𝓛. SL.makes D pl 𝓛;
   copies = λ 𝓛. SL.copy D cs 𝓛;
+  copied = λ 𝓛. SL.copied D cs 𝓛;
+  row_laws = Recorded-row_laws (Struct (SD.shape D)) D.D D.to D.to_one (Struct-row_laws (SD.shape D) (SL.copy_row_laws D.parts cs));
   still = SL.still D cs;
 }
 
@@ -87,6 +95,8 @@ enum_plain D L pl cs few τ e = record {
   lawful = λ 𝓛. EL.lawful D L 𝓛 few;
   makes = λ 𝓛. EL.makes D pl 𝓛;
   copies = λ 𝓛. EL.copy D cs 𝓛;
+  copied = λ 𝓛. EL.copied D cs 𝓛;
+  row_laws = Recorded-row_laws (Enum (ED.shape D)) D.D D.to D.to_one (Enum-row_laws (ED.shape D) (EL.copy_row_lawss D.parts cs));
   still = EL.still D cs;
 }
 

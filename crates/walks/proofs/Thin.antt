@@ -5,7 +5,7 @@
 --     paired           it, of a declared struct: all but the last argument are `refl`
 --     thin0, thin1     the function's MIR, which the generated `function` computes to
 --     Ended0, Ended1   its signature, with the parameters kept
---     thin0-proved, thin1-proved    the function's theorem, from: φ, what g asks, which the `requires` shows; what g gives; and the `ensures` at g's value and next state
+--     thin0_proved, thin1_proved    the function's theorem, from: φ, what g asks, which the `requires` shows; what g gives; and the `ensures` at g's value and next state
 -- A comment in brackets is the context at its place; a local stands there with what frees it right after.
 -- Assumes `Logic` through `𝓛`.
 use mathlib.Core.Path.{◌≡◌, refl, subst}
@@ -13,9 +13,9 @@ use Prim.Native.Nat.{ℕ, zero}
 use mathlib.Core.Option.{some}
 use mathlib.Core.List.{List, [], ◌∷◌}
 use seplogic.Ra.Ura.{Ura}
-use seplogic.Ra.TreeShare.{full_share}
+use base.Fraction.{full_share}
 use lib.Dec.{T}
-use mir.Syntax.{Name, Sym, Ty, Tys, ty_struct, ty_ref, named, mut, Fn, local, value_local, place, deref, field, copy, rv_opd, seq, assign, call, return}
+use mir.Syntax.{Callee, Sym, Ty, Tys, ty_struct, ty_ref, named, mut, Fn, local, value_local, place, deref, field, copy, rv_opd, seq, assign, call, return}
 use mir.Val.{Val, vptr, vstruct, vnil, vcons, has_ty, WT}
 use base.Logic.{SProp, ent, emp}
 use base.Fml.{GName, Lft, Share, ftrue, flft, fobs, fbor, fat}
@@ -81,16 +81,19 @@ module _ (S N : Plain) (P : Paired S N) where
   typed_pair 𝓛 y ok = subst (λ (τ : Ty). T (has_ty τ (P.D.val y)) × WT (P.D.val y)) P.is_struct (typed 𝓛 P.D y ok)
 
   -- the struct alone
-  abbrev pub thin0 : Name → Fn
+  abbrev pub thin0 : Callee → Fn
   thin0 g = record {
     lifetimes = 1;
     outlives = [];
+    ty_params = [];
+    givens = 0;
     params = 1;
-    locals = local N.ty value_local ∷ local ref value_local ∷ local pair value_local ∷ local S.ty value_local ∷ [];
+    locals = local N.ty value_local ∷ local ref value_local ∷ local pair value_local ∷ local S.ty value_local ∷ local S.ty value_local ∷ [];
     body = seq (assign (place 3 []) (rv_opd (copy (place 1 (deref S.ty ∷ [])))))
         (seq (call g (copy (place 3 []) ∷ []) (place 2 []))
-        (seq (assign (place 1 (deref S.ty ∷ [])) (rv_opd (copy (place 2 (field 1 ∷ [])))))
-        (seq (assign (place 0 []) (rv_opd (copy (place 2 (field 0 ∷ []))))) return)));
+        (seq (assign (place 4 []) (rv_opd (copy (place 2 (field 1 ∷ [])))))
+        (seq (assign (place 1 (deref S.ty ∷ [])) (rv_opd (copy (place 4 []))))
+        (seq (assign (place 0 []) (rv_opd (copy (place 2 (field 0 ∷ []))))) return))));
   }
 
   abbrev pub Ended0 : Ended
@@ -117,26 +120,27 @@ module _ (S N : Plain) (P : Paired S N) where
             nothing ! $ move ! (3 ∷ 0 ∷ []) $ join ! $ frame ! $ feq_i ! (List Val) (vptr b o ∷ []) (vptr b o ∷ []) refl $ fjoin3 ! $ nothing ! $ move ! (1 ∷ 0 ∷ []) $ fjoin ! $
             owned ! N.row (Is N.row) (N.makes 𝓛) (P.value y) _ ok $ move ! (1 ∷ 0 ∷ []) $ done !
 
-        module _ (C : Calls 𝓤 H) (Λ : Loops 𝓤 H) (fm : FmC 𝓤 H 𝓛.laws C) (f : Name) (gives : Ok S h → Gives 𝓛 (C f) (S.val h ∷ []) P.D y) where
+        module _ (C : Calls 𝓤 H) (Λ : Loops 𝓤 H) (fm : FmC 𝓤 H 𝓛.laws C) (f : Callee) (gives : Ok S h → Gives 𝓛 (C f) (S.val h ∷ []) P.D y) where
           walk : ent 𝓤 (on_entry 𝓛 Ended0.signature (κ, tt) (q, tt) (x h, tt) (vptr b o ∷ [], tt)) (WpFn 𝓤 H C Λ (thin0 f) (vptr b o ∷ []) Post)
           walk =
               qed 𝓛 ((‵ (flft κ q) ⊛ ‵ ftrue) ∷ ‵ (owns (MutRef (named 0) κ S.row ∷ []) (x h, tt) (vptr b o ∷ [], tt)) ∷ []) ∵ split ! $ move ! (2 ∷ []) $ fsplit ! $ fsplit3 ! $ drop ! $ keep ! (0 ∷ 1 ∷ 3 ∷ []) $
               -- [obs; the borrow; the token]
               enter ! C Λ (thin0 f) (vptr b o ∷ []) _ $
-              alloc1 ! (λ l₀. alloc1 ! (λ l₁. alloc1 ! (λ l₂. alloc1 ! (λ l₃. alloc0 ! $ params1 ! $ pass1 ! (init ! 4 refl (tt, tt)) $ pass0 ! $
-              move ! (8 ∷ 9 ∷ 10 ∷ []) $ opens_plain ! tt S {h = h} b o (λ ok.
-              -- [the struct's cell; the open borrow; obs; auth; 4 _3; …; 6 _2; …; 8 _1; …; 10 _0; …]
-              assigns ! (of_opd ! (load ! (from ! (hop ! (look ! 8 refl) (stop !))) (look_raw ! 0 refl))) (from ! (stop !)) (init ! 4 refl (typed 𝓛 S h ok)) $
-              calls_plain ! fm P.D y (gives ok) (and_then ! (load ! (from ! (stop !)) (look ! 4 refl)) (no_more !)) (λ ok_d.
-              land ! (from ! (stop !)) (init ! 6 refl (typed_pair 𝓛 y ok_d)) $ rewrite ! 6 (λ (v : Val). ‵ (fat full_share pair l₂ 0 v)) (P.two y) refl $
-              assigns ! (of_opd ! (load ! (from ! (fld ! P.field₁ (stop !))) (look_in ! 6 (sub ! 1 P.field₁ (whole !))))) (from ! (hop ! (look ! 8 refl) (stop !))) (store_raw ! 0 refl (typed 𝓛 S (P.next y) (P.oks y ok_d).1)) $
-              assigns ! (of_opd ! (load ! (from ! (fld ! P.field₀ (stop !))) (look_in ! 6 (sub ! 0 P.field₀ (whole !))))) (from ! (stop !)) (init ! 10 refl (typed 𝓛 N (P.value y) (P.oks y ok_d).0)) $
+              alloc1 ! (λ l₀. alloc1 ! (λ l₁. alloc1 ! (λ l₂. alloc1 ! (λ l₃. alloc1 ! (λ l₄. alloc0 ! $ params1 ! $ pass1 ! (init ! 6 refl (tt, tt)) $ pass0 ! $
+              move ! (10 ∷ 11 ∷ 12 ∷ []) $ opens_plain ! tt S {h = h} b o (λ ok.
+              -- [the struct's cell; the open borrow; obs; auth; 4 _4; …; 6 _3; …; 8 _2; …; 10 _1; …; 12 _0; …]
+              assigns ! (of_opd ! (load ! (from ! (hop ! (look ! 10 refl) (stop !))) (look_raw ! 0 refl))) (from ! (stop !)) (init ! 6 refl (typed 𝓛 S h ok)) $
+              calls_plain ! fm P.D y (gives ok) (and_then ! (load ! (from ! (stop !)) (look ! 6 refl)) (no_more !)) (λ ok_d.
+              land ! (from ! (stop !)) (init ! 8 refl (typed_pair 𝓛 y ok_d)) $ rewrite ! 8 (λ (v : Val). ‵ (fat full_share pair l₂ 0 v)) (P.two y) refl $
+              assigns ! (of_opd ! (load ! (from ! (fld ! P.field₁ (stop !))) (look_in ! 8 (sub ! 1 P.field₁ (whole !))))) (from ! (stop !)) (init ! 4 refl (typed 𝓛 S (P.next y) (P.oks y ok_d).1)) $
+              assigns ! (of_opd ! (load ! (from ! (stop !)) (look ! 4 refl))) (from ! (hop ! (look ! 10 refl) (stop !))) (store_raw ! 0 refl (typed 𝓛 S (P.next y) (P.oks y ok_d).1)) $
+              assigns ! (of_opd ! (load ! (from ! (fld ! P.field₀ (stop !))) (look_in ! 8 (sub ! 0 P.field₀ (whole !))))) (from ! (stop !)) (init ! 12 refl (typed 𝓛 N (P.value y) (P.oks y ok_d).0)) $
               closes_plain ! tt S (P.next y) (P.oks y ok_d).1 b o $
-              -- [obs; the borrow; the token; 3 _3; …; 5 _2; …; 7 _1; …; 9 _0; …]
-              returns ! (look ! 9 refl) $ forget ! 3 refl $ forget ! 5 refl $ forget ! 7 refl $ forget ! 9 refl $
-              move ! (9 ∷ 10 ∷ []) $ free1 ! $ move ! (7 ∷ 8 ∷ []) $ free1 ! $ move ! (5 ∷ 6 ∷ []) $ free1 ! $ move ! (3 ∷ 4 ∷ []) $ free1 ! $ free0 ! $ by ! (exits (P.oks y ok_d).0)))))))
+              -- [obs; the borrow; the token; 3 _4; …; 5 _3; …; 7 _2; …; 9 _1; …; 11 _0; …]
+              returns ! (look ! 11 refl) $ forget ! 3 refl $ forget ! 5 refl $ forget ! 7 refl $ forget ! 9 refl $ forget ! 11 refl $
+              move ! (11 ∷ 12 ∷ []) $ free1 ! $ move ! (9 ∷ 10 ∷ []) $ free1 ! $ move ! (7 ∷ 8 ∷ []) $ free1 ! $ move ! (5 ∷ 6 ∷ []) $ free1 ! $ move ! (3 ∷ 4 ∷ []) $ free1 ! $ free0 ! $ by ! (exits (P.oks y ok_d).0))))))))
 
-  module _ {M : Type 1} {𝓤 : Ura M} (𝓛 : Logic 𝓤) (𝓜 : Model 𝓤 𝓛.H) (𝓡 : Running 𝓤 𝓛.H 𝓜) (env : Env) (key f : Name) where
+  module _ {M : Type 1} {𝓤 : Ura M} (𝓛 : Logic 𝓤) (𝓜 : Model 𝓤 𝓛.H) (𝓡 : Running 𝓤 𝓛.H 𝓜) (env : Env) (key f : Callee) where
     open 𝓛 use {H}
 
     pub thin0_proved : (c : Clauses 𝓤 Ended0) → Closed 𝓤 H (tables 𝓤 H 𝓜 𝓡 env).C (tables 𝓤 H 𝓜 𝓡 env).Λ key (thin0 f)
@@ -148,20 +152,23 @@ module _ (S N : Plain) (P : Paired S N) where
     thin0_proved c unfolded φ req F gives ens =
         proved 𝓛 𝓜 𝓡 env Ended0 stayed0 c key (thin0 f) (Goes-ref 𝓛 1 0 tt (plain (λ _. S.row)), tt) unfolded (λ κs. (mut_vals, tt)) (λ κs. (mut_Tells (named 0) κs.0 S.row, tt))
         (λ κs qs bounds a g are. asks 𝓤 (φ a.0.now) (req κs a g) (λ p.
-        walk 𝓛 κs.0 qs.0 a.0.ptr.0 a.0.ptr.1 a.0.name c a.0.now g (F a.0.now) (ens κs a g) (𝓣 𝓛 𝓜 𝓡 env).C (𝓣 𝓛 𝓜 𝓡 env).Λ (framed 𝓛 𝓜 𝓡 env) f (gives a.0.now p)))
+        walk 𝓛 κs.0 qs.0 a.0.ref_ptr.0 a.0.ref_ptr.1 a.0.ghost_name c a.0.now g (F a.0.now) (ens κs a g) (𝓣 𝓛 𝓜 𝓡 env).C (𝓣 𝓛 𝓜 𝓡 env).Λ (framed 𝓛 𝓜 𝓡 env) f (gives a.0.now p)))
 
   -- the struct and a plain value
   module _ (X : Plain) where
-    abbrev pub thin1 : Name → Fn
+    abbrev pub thin1 : Callee → Fn
     thin1 g = record {
       lifetimes = 1;
       outlives = [];
+      ty_params = [];
+      givens = 0;
       params = 2;
-      locals = local N.ty value_local ∷ local ref value_local ∷ local X.ty value_local ∷ local pair value_local ∷ local S.ty value_local ∷ [];
+      locals = local N.ty value_local ∷ local ref value_local ∷ local X.ty value_local ∷ local pair value_local ∷ local S.ty value_local ∷ local S.ty value_local ∷ [];
       body = seq (assign (place 4 []) (rv_opd (copy (place 1 (deref S.ty ∷ [])))))
           (seq (call g (copy (place 4 []) ∷ copy (place 2 []) ∷ []) (place 3 []))
-          (seq (assign (place 1 (deref S.ty ∷ [])) (rv_opd (copy (place 3 (field 1 ∷ [])))))
-          (seq (assign (place 0 []) (rv_opd (copy (place 3 (field 0 ∷ []))))) return)));
+          (seq (assign (place 5 []) (rv_opd (copy (place 3 (field 1 ∷ [])))))
+          (seq (assign (place 1 (deref S.ty ∷ [])) (rv_opd (copy (place 5 []))))
+          (seq (assign (place 0 []) (rv_opd (copy (place 3 (field 0 ∷ []))))) return))));
     }
 
     abbrev pub Ended1 : Ended
@@ -188,26 +195,27 @@ module _ (S N : Plain) (P : Paired S N) where
               nothing ! $ move ! (3 ∷ 0 ∷ []) $ join ! $ frame ! $ feq_i ! (List Val) (vptr b o ∷ []) (vptr b o ∷ []) refl $ fjoin3 ! $ nothing ! $ owned ! X.row (Is X.row) (X.makes 𝓛) n _ okn $ fjoin ! $ move ! (1 ∷ 0 ∷ []) $ fjoin ! $
               owned ! N.row (Is N.row) (N.makes 𝓛) (P.value y) _ ok $ move ! (1 ∷ 0 ∷ []) $ done !
 
-          module _ (C : Calls 𝓤 H) (Λ : Loops 𝓤 H) (fm : FmC 𝓤 H 𝓛.laws C) (f : Name) (gives : Ok S h → Gives 𝓛 (C f) (S.val h ∷ X.val n ∷ []) P.D y) where
+          module _ (C : Calls 𝓤 H) (Λ : Loops 𝓤 H) (fm : FmC 𝓤 H 𝓛.laws C) (f : Callee) (gives : Ok S h → Gives 𝓛 (C f) (S.val h ∷ X.val n ∷ []) P.D y) where
             walk1 : ent 𝓤 (on_entry 𝓛 Ended1.signature (κ, tt) (q, tt) (x1 h, (n, tt)) (vptr b o ∷ [], (X.val n ∷ [], tt))) (WpFn 𝓤 H C Λ (thin1 f) (vptr b o ∷ X.val n ∷ []) Post1)
             walk1 =
                 qed 𝓛 ((‵ (flft κ q) ⊛ ‵ ftrue) ∷ ‵ (owns (MutRef (named 0) κ S.row ∷ X.row ∷ []) (x1 h, (n, tt)) (vptr b o ∷ [], (X.val n ∷ [], tt))) ∷ []) ∵ split ! $ move ! (2 ∷ []) $ fsplit ! $ fsplit3 ! $ drop ! $ keep ! (0 ∷ 1 ∷ 3 ∷ []) $
                 -- [obs; the borrow; the token]
                 enter ! C Λ (thin1 f) (vptr b o ∷ X.val n ∷ []) _ $
-                alloc1 ! (λ l₀. alloc1 ! (λ l₁. alloc1 ! (λ l₂. alloc1 ! (λ l₃. alloc1 ! (λ l₄. alloc0 ! $ params1 ! $ pass1 ! (init ! 6 refl (tt, tt)) $ pass1 ! (init ! 4 refl (typed 𝓛 X n okn)) $ pass0 ! $
-                move ! (10 ∷ 11 ∷ 12 ∷ []) $ opens_plain ! tt S {h = h} b o (λ ok.
-                -- [the struct's cell; the open borrow; obs; auth; 4 _4; …; 6 _3; …; 8 _2; …; 10 _1; …; 12 _0; …]
-                assigns ! (of_opd ! (load ! (from ! (hop ! (look ! 10 refl) (stop !))) (look_raw ! 0 refl))) (from ! (stop !)) (init ! 4 refl (typed 𝓛 S h ok)) $
-                calls_plain ! fm P.D y (gives ok) (and_then ! (load ! (from ! (stop !)) (look ! 4 refl)) (and_then ! (load ! (from ! (stop !)) (look ! 8 refl)) (no_more !))) (λ ok_d.
-                land ! (from ! (stop !)) (init ! 6 refl (typed_pair 𝓛 y ok_d)) $ rewrite ! 6 (λ (v : Val). ‵ (fat full_share pair l₃ 0 v)) (P.two y) refl $
-                assigns ! (of_opd ! (load ! (from ! (fld ! P.field₁ (stop !))) (look_in ! 6 (sub ! 1 P.field₁ (whole !))))) (from ! (hop ! (look ! 10 refl) (stop !))) (store_raw ! 0 refl (typed 𝓛 S (P.next y) (P.oks y ok_d).1)) $
-                assigns ! (of_opd ! (load ! (from ! (fld ! P.field₀ (stop !))) (look_in ! 6 (sub ! 0 P.field₀ (whole !))))) (from ! (stop !)) (init ! 12 refl (typed 𝓛 N (P.value y) (P.oks y ok_d).0)) $
+                alloc1 ! (λ l₀. alloc1 ! (λ l₁. alloc1 ! (λ l₂. alloc1 ! (λ l₃. alloc1 ! (λ l₄. alloc1 ! (λ l₅. alloc0 ! $ params1 ! $ pass1 ! (init ! 8 refl (tt, tt)) $ pass1 ! (init ! 6 refl (typed 𝓛 X n okn)) $ pass0 ! $
+                move ! (12 ∷ 13 ∷ 14 ∷ []) $ opens_plain ! tt S {h = h} b o (λ ok.
+                -- [the struct's cell; the open borrow; obs; auth; 4 _5; …; 6 _4; …; 8 _3; …; 10 _2; …; 12 _1; …; 14 _0; …]
+                assigns ! (of_opd ! (load ! (from ! (hop ! (look ! 12 refl) (stop !))) (look_raw ! 0 refl))) (from ! (stop !)) (init ! 6 refl (typed 𝓛 S h ok)) $
+                calls_plain ! fm P.D y (gives ok) (and_then ! (load ! (from ! (stop !)) (look ! 6 refl)) (and_then ! (load ! (from ! (stop !)) (look ! 10 refl)) (no_more !))) (λ ok_d.
+                land ! (from ! (stop !)) (init ! 8 refl (typed_pair 𝓛 y ok_d)) $ rewrite ! 8 (λ (v : Val). ‵ (fat full_share pair l₃ 0 v)) (P.two y) refl $
+                assigns ! (of_opd ! (load ! (from ! (fld ! P.field₁ (stop !))) (look_in ! 8 (sub ! 1 P.field₁ (whole !))))) (from ! (stop !)) (init ! 4 refl (typed 𝓛 S (P.next y) (P.oks y ok_d).1)) $
+                assigns ! (of_opd ! (load ! (from ! (stop !)) (look ! 4 refl))) (from ! (hop ! (look ! 12 refl) (stop !))) (store_raw ! 0 refl (typed 𝓛 S (P.next y) (P.oks y ok_d).1)) $
+                assigns ! (of_opd ! (load ! (from ! (fld ! P.field₀ (stop !))) (look_in ! 8 (sub ! 0 P.field₀ (whole !))))) (from ! (stop !)) (init ! 14 refl (typed 𝓛 N (P.value y) (P.oks y ok_d).0)) $
                 closes_plain ! tt S (P.next y) (P.oks y ok_d).1 b o $
-                -- [obs; the borrow; the token; 3 _4; …; 5 _3; …; 7 _2; …; 9 _1; …; 11 _0; …]
-                returns ! (look ! 11 refl) $ forget ! 3 refl $ forget ! 5 refl $ forget ! 7 refl $ forget ! 9 refl $ forget ! 11 refl $
-                move ! (11 ∷ 12 ∷ []) $ free1 ! $ move ! (9 ∷ 10 ∷ []) $ free1 ! $ move ! (7 ∷ 8 ∷ []) $ free1 ! $ move ! (5 ∷ 6 ∷ []) $ free1 ! $ move ! (3 ∷ 4 ∷ []) $ free1 ! $ free0 ! $ by ! (exits1 (P.oks y ok_d).0))))))))
+                -- [obs; the borrow; the token; 3 _5; …; 5 _4; …; 7 _3; …; 9 _2; …; 11 _1; …; 13 _0; …]
+                returns ! (look ! 13 refl) $ forget ! 3 refl $ forget ! 5 refl $ forget ! 7 refl $ forget ! 9 refl $ forget ! 11 refl $ forget ! 13 refl $
+                move ! (13 ∷ 14 ∷ []) $ free1 ! $ move ! (11 ∷ 12 ∷ []) $ free1 ! $ move ! (9 ∷ 10 ∷ []) $ free1 ! $ move ! (7 ∷ 8 ∷ []) $ free1 ! $ move ! (5 ∷ 6 ∷ []) $ free1 ! $ move ! (3 ∷ 4 ∷ []) $ free1 ! $ free0 ! $ by ! (exits1 (P.oks y ok_d).0)))))))))
 
-    module _ {M : Type 1} {𝓤 : Ura M} (𝓛 : Logic 𝓤) (𝓜 : Model 𝓤 𝓛.H) (𝓡 : Running 𝓤 𝓛.H 𝓜) (env : Env) (key f : Name) where
+    module _ {M : Type 1} {𝓤 : Ura M} (𝓛 : Logic 𝓤) (𝓜 : Model 𝓤 𝓛.H) (𝓡 : Running 𝓤 𝓛.H 𝓜) (env : Env) (key f : Callee) where
       open 𝓛 use {H}
 
       pub thin1_proved : (c : Clauses 𝓤 Ended1) → Closed 𝓤 H (tables 𝓤 H 𝓜 𝓡 env).C (tables 𝓤 H 𝓜 𝓡 env).Λ key (thin1 f)
@@ -219,4 +227,4 @@ module _ (S N : Plain) (P : Paired S N) where
       thin1_proved c unfolded φ req F gives ens =
           proved 𝓛 𝓜 𝓡 env Ended1 stayed1 c key (thin1 f) (Goes-ref 𝓛 1 0 tt (plain (λ _. S.row)), (Goes-none 𝓛 1 (λ _. X.row) yes (λ κs x f. silent X yes x f), tt)) unfolded (λ κs. (mut_vals, ((λ n. X.val n ∷ []), tt))) (λ κs. (mut_Tells (named 0) κs.0 S.row, (X.tells, tt)))
           (λ κs qs bounds a g are. asks 𝓤 (φ a.0.now a.1.0) (req κs a g) (λ p.
-          walk1 𝓛 κs.0 qs.0 a.0.ptr.0 a.0.ptr.1 a.0.name a.1.0 are.1.0 c a.0.now g (F a.0.now a.1.0) (ens κs a g) (𝓣 𝓛 𝓜 𝓡 env).C (𝓣 𝓛 𝓜 𝓡 env).Λ (framed 𝓛 𝓜 𝓡 env) f (λ ok. gives a.0.now a.1.0 p ok are.1.0)))
+          walk1 𝓛 κs.0 qs.0 a.0.ref_ptr.0 a.0.ref_ptr.1 a.0.ghost_name a.1.0 are.1.0 c a.0.now g (F a.0.now a.1.0) (ens κs a g) (𝓣 𝓛 𝓜 𝓡 env).C (𝓣 𝓛 𝓜 𝓡 env).Λ (framed 𝓛 𝓜 𝓡 env) f (λ ok. gives a.0.now a.1.0 p ok are.1.0)))

@@ -5,7 +5,8 @@ use Rattle.std.proofs.Common.{sym, ap, ap₂, ◌∙◌, append_assoc, append-ni
 use Rattle.std.proofs.Math.Nat.{pow-zero}
 use Rattle.std.proofs.lemmas.List.Edits.{sets}
 use Rattle.std.proofs.Math.Seq.{length-sets}
-use Rattle.laws.specs.Bools.{◌and◌, true_and, no_and}
+use Rattle.laws.specs.Bools.{◌and◌, no_and}
+use Rattle.laws.proofs.BoolLaws.{true_and}
 use Rattle.words.specs.Words.{le, bytes_of, le_at, bytes, words, W, allz, Bytes, Fit}
 use Rattle.words.specs.Sets.{sets_at, sets_append, part_at, cut, length_part}
 use Rattle.words.specs.Numbers.{each_take, each_drop, each_append, length_bytes_of, le_bytes_of, bytes_of_le_at, le_at_lt, bytes_of_each}

@@ -4,7 +4,8 @@ use Rattle.std.proofs.Common.{sym, ap, ◌∙◌, add-one, arith, take-append-dr
 use Rattle.std.specs.Int.Bits.{bit_or, or_zero_l, or_add_and}
 use Rattle.std.proofs.lemmas.Nat.{and_le_r}
 use Rattle.std.proofs.lemmas.Bool.{not-true, not-false}
-use Rattle.laws.specs.Bools.{◌and◌, every_append, and_left, and_right, and_true, true_and, and_no, no_and}
+use Rattle.laws.specs.Bools.{◌and◌, and_left, and_true, no_and}
+use Rattle.laws.proofs.BoolLaws.{every_append, and_right, true_and, and_no}
 use Rattle.words.specs.Words.{allz}
 
 pub allz_append : (a b : List ℕ) → allz (a ++ b) ≡ (allz a and allz b)

@@ -1,0 +1,22 @@
+-- Made by tools/uniform from proofs.txt, not by hand: b5a4f355612e8fa4
+use Rattle.state.specs.Exits.{inside_of, inside_after}
+use borrow.Author.Rules.{rules}
+use Rattle.area.proofs.checking.applied_otherwise.Goals as goal
+
+pub gate-g-requires : goal.gate-g-requires
+gate-g-requires c = search (inside_of, inside_after, rules)
+
+pub returns-then-g-gt0 : goal.returns-then-g-gt0
+returns-then-g-gt0 c = search (inside_of, inside_after, rules)
+
+pub returns-then-f-lt2 : goal.returns-then-f-lt2
+returns-then-f-lt2 c = search (inside_of, inside_after, rules)
+
+pub returns-then-limits-lt3 : goal.returns-then-limits-lt3
+returns-then-limits-lt3 c = search (inside_of, inside_after, rules)
+
+pub other_applied-requires : goal.other_applied-requires
+other_applied-requires c = search (inside_of, inside_after, rules)
+
+pub returns : goal.returns
+returns c = search (inside_of, inside_after, rules)

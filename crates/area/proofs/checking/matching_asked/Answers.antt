@@ -1,0 +1,28 @@
+-- Made by tools/uniform from proofs.txt, not by hand: c16fa3aaf798d108
+use Rattle.state.specs.Exits.{inside_of, inside_after}
+use borrow.Author.Rules.{rules}
+use Rattle.area.proofs.checking.matching_asked.Goals as goal
+
+pub gate-g-requires : goal.gate-g-requires
+gate-g-requires c = search (inside_of, inside_after, rules)
+
+pub returns-then-g-gt0 : goal.returns-then-g-gt0
+returns-then-g-gt0 c = search (inside_of, inside_after, rules)
+
+pub returns-then-f-lt2 : goal.returns-then-f-lt2
+returns-then-f-lt2 c = search (inside_of, inside_after, rules)
+
+pub matching_asked-asked-requires : goal.matching_asked-asked-requires
+matching_asked-asked-requires c = search (inside_of, inside_after, rules)
+
+pub mismatch_of-found-requires : goal.mismatch_of-found-requires
+mismatch_of-found-requires c = search (inside_of, inside_after, rules)
+
+pub matching_act-requires : goal.matching_act-requires
+matching_act-requires c = search (inside_of, inside_after, rules)
+
+pub accepted-requires : goal.accepted-requires
+accepted-requires c = search (inside_of, inside_after, rules)
+
+pub returns : goal.returns
+returns c = search (inside_of, inside_after, rules)

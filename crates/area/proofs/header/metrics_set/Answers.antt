@@ -1,0 +1,28 @@
+-- Made by tools/uniform from proofs.txt, not by hand: 8927527727656529
+use Rattle.state.specs.Exits.{inside_of, inside_after}
+use borrow.Author.Rules.{rules}
+use Rattle.area.proofs.header.metrics_set.Goals as goal
+
+pub gate-g-requires : goal.gate-g-requires
+gate-g-requires c = search (inside_of, inside_after, rules)
+
+pub returns-then-g-gt0 : goal.returns-then-g-gt0
+returns-then-g-gt0 c = search (inside_of, inside_after, rules)
+
+pub metrics_of-m-requires : goal.metrics_of-m-requires
+metrics_of-m-requires c = search (inside_of, inside_after, rules)
+
+pub record_sync-synced-requires : goal.record_sync-synced-requires
+record_sync-synced-requires c = search (inside_of, inside_after, rules)
+
+pub set_metrics-requires : goal.set_metrics-requires
+set_metrics-requires c = search (inside_of, inside_after, rules)
+
+pub metrics_of-after-requires : goal.metrics_of-after-requires
+metrics_of-after-requires c = search (inside_of, inside_after, rules)
+
+pub accepted-requires : goal.accepted-requires
+accepted-requires c = search (inside_of, inside_after, rules)
+
+pub returns : goal.returns
+returns c = search (inside_of, inside_after, rules)

@@ -1,0 +1,19 @@
+-- Made by tools/uniform from proofs.txt, not by hand: 0869b9d8f0ecbf06
+use Rattle.state.specs.Exits.{inside_of, inside_after}
+use borrow.Author.Rules.{rules}
+use Rattle.area.proofs.servers.crashed.Goals as goal
+
+pub gate-g-requires : goal.gate-g-requires
+gate-g-requires c = search (inside_of, inside_after, rules)
+
+pub returns-then-g-gt0 : goal.returns-then-g-gt0
+returns-then-g-gt0 c = search (inside_of, inside_after, rules)
+
+pub returns-then-f-lt2 : goal.returns-then-f-lt2
+returns-then-f-lt2 c = search (inside_of, inside_after, rules)
+
+pub entry_back-requires : goal.entry_back-requires
+entry_back-requires c = search (inside_of, inside_after, rules)
+
+pub returns : goal.returns
+returns c = search (inside_of, inside_after, rules)

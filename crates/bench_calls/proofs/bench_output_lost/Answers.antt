@@ -1,0 +1,13 @@
+-- Made by tools/uniform from proofs.txt, not by hand: 3fd3c27a2aed2210
+use Rattle.bench_calls.specs.Counts.{gated_as}
+use borrow.Author.Rules.{rules}
+use Rattle.bench_calls.proofs.bench_output_lost.Goals as goal
+
+pub gate_given-g-requires : goal.gate_given-g-requires
+gate_given-g-requires c = search (gated_as, rules)
+
+pub output_lost_in-requires : goal.output_lost_in-requires
+output_lost_in-requires c = search (gated_as, rules)
+
+pub returns : goal.returns
+returns c = search (gated_as, rules)

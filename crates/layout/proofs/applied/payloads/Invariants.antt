@@ -1,0 +1,12 @@
+-- Made by tools/uniform from proofs.txt, not by hand: 3d11221c98c28e9b
+use Prim.Native.Nat.{◌-◌}
+use Rattle.words.specs.Words.{W}
+use Rattle.layout.specs.TableLaws.{Rowed}
+use Rattle.layout.specs.Payload.{payload}
+use Rattle.layout.proofs.applied.payloads.Given as goal
+
+abbrev pub invariant-loop-i : goal.invariant-loop-i
+invariant-loop-i l = Rowed (payload l.p) l.n (W l.s) l.i
+
+abbrev pub decreases-loop-i : goal.decreases-loop-i
+decreases-loop-i l = l.n - l.i

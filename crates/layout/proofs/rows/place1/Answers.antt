@@ -1,0 +1,29 @@
+-- Made by tools/uniform from proofs.txt, not by hand: 6078d8e006a5cbfd
+use Prim.Native.Nat.{◌-◌}
+use Rattle.layout.specs.RowLaws.{place1}
+use borrow.Author.Rules.{rules}
+use Rattle.layout.proofs.rows.place1.Goals as goal
+
+pub loop-i-init : goal.loop-i-init
+loop-i-init c = search (place1, rules)
+
+pub start_of-at-requires : goal.start_of-at-requires
+start_of-at-requires c = search (place1, rules)
+
+pub load-requires : goal.load-requires
+load-requires c = search (place1, rules)
+
+pub returns-then-k-load : goal.returns-then-k-load
+returns-then-k-load c = search (place1, rules)
+
+pub overflow_add-i : goal.overflow_add-i
+overflow_add-i c = search (place1, rules)
+
+pub loop-i-smaller : goal.loop-i-smaller
+loop-i-smaller c = search (place1, rules)
+
+pub loop-i-preserved : goal.loop-i-preserved
+loop-i-preserved c = search (place1, rules)
+
+pub returns : goal.returns
+returns c = search (place1, rules)

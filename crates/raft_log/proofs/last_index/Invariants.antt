@@ -1,0 +1,9 @@
+-- Made by tools/uniform from proofs.txt, not by hand: c65ac995571dee37
+use Rattle.raft_log.specs.Laws.{Seeking}
+use Rattle.raft_log.proofs.last_index.Given as goal
+
+abbrev pub invariant-loop-i : goal.invariant-loop-i
+invariant-loop-i l = Seeking l.p l.n l.s l.i
+
+abbrev pub decreases-loop-i : goal.decreases-loop-i
+decreases-loop-i l = l.i

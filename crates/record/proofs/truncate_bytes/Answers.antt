@@ -1,0 +1,16 @@
+-- Made by tools/uniform from proofs.txt, not by hand: db43e51dc3e6b8a9
+use Rattle.record.specs.Lengths.{lengths}
+use borrow.Author.Rules.{rules}
+use Rattle.record.proofs.truncate_bytes.Goals as goal
+
+pub varint_length-requires : goal.varint_length-requires
+varint_length-requires c = search (lengths, rules)
+
+pub overflow_add-varint_length : goal.overflow_add-varint_length
+overflow_add-varint_length c = search (lengths, rules)
+
+pub framed-requires : goal.framed-requires
+framed-requires c = search (lengths, rules)
+
+pub returns : goal.returns
+returns c = search (lengths, rules)

@@ -1,0 +1,43 @@
+-- Made by tools/uniform from proofs.txt, not by hand: d1b8dc09277c3ebc
+use Rattle.state_gate.specs.TableLaws.{ends, confirmations_ok}
+use borrow.Author.Rules.{rules}
+use Rattle.state_gate.proofs.tables.confirmations.Goals as goal
+
+pub slice_bounds-load-count : goal.slice_bounds-load-count
+slice_bounds-load-count c = search (ends, rules)
+
+pub slice_bounds-load-start : goal.slice_bounds-load-start
+slice_bounds-load-start c = search (ends, rules)
+
+pub slice_bounds-load-end : goal.slice_bounds-load-end
+slice_bounds-load-end c = search (ends, rules)
+
+pub load-n-requires : goal.load-n-requires
+load-n-requires c = search (ends, rules)
+
+pub confirmations_at-a-requires : goal.confirmations_at-a-requires
+confirmations_at-a-requires c = search (ends, rules)
+
+pub overflow_mul-a : goal.overflow_mul-a
+overflow_mul-a c = search (ends, rules)
+
+pub applied_at-e-requires : goal.applied_at-e-requires
+applied_at-e-requires c = search (ends, rules)
+
+pub overflow_mul-e : goal.overflow_mul-e
+overflow_mul-e c = search (ends, rules)
+
+pub slice_bounds-check-count : goal.slice_bounds-check-count
+slice_bounds-check-count c = search (ends, rules)
+
+pub slice_bounds-check-start : goal.slice_bounds-check-start
+slice_bounds-check-start c = search (ends, rules)
+
+pub slice_bounds-check-end : goal.slice_bounds-check-end
+slice_bounds-check-end c = search (ends, rules)
+
+pub check-requires : goal.check-requires
+check-requires c = search (ends, rules)
+
+pub returns : goal.returns
+returns c = confirmations_ok _ _ c.requires c.shared_slice_known-1.given _ _ _ _ c.load-n.ensures c.confirmations_at-a.ensures c.applied_at-e.ensures c.check.ensures

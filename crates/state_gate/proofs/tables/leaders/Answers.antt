@@ -1,0 +1,43 @@
+-- Made by tools/uniform from proofs.txt, not by hand: 15c85b09b8550204
+use Rattle.state_gate.specs.TableLaws.{ends, leaders_ok}
+use borrow.Author.Rules.{rules}
+use Rattle.state_gate.proofs.tables.leaders.Goals as goal
+
+pub slice_bounds-load-count : goal.slice_bounds-load-count
+slice_bounds-load-count c = search (ends, rules)
+
+pub slice_bounds-load-start : goal.slice_bounds-load-start
+slice_bounds-load-start c = search (ends, rules)
+
+pub slice_bounds-load-end : goal.slice_bounds-load-end
+slice_bounds-load-end c = search (ends, rules)
+
+pub load-n-requires : goal.load-n-requires
+load-n-requires c = search (ends, rules)
+
+pub leaders_at-a-requires : goal.leaders_at-a-requires
+leaders_at-a-requires c = search (ends, rules)
+
+pub overflow_mul-a : goal.overflow_mul-a
+overflow_mul-a c = search (ends, rules)
+
+pub replies_at-e-requires : goal.replies_at-e-requires
+replies_at-e-requires c = search (ends, rules)
+
+pub overflow_mul-e : goal.overflow_mul-e
+overflow_mul-e c = search (ends, rules)
+
+pub slice_bounds-check-count : goal.slice_bounds-check-count
+slice_bounds-check-count c = search (ends, rules)
+
+pub slice_bounds-check-start : goal.slice_bounds-check-start
+slice_bounds-check-start c = search (ends, rules)
+
+pub slice_bounds-check-end : goal.slice_bounds-check-end
+slice_bounds-check-end c = search (ends, rules)
+
+pub check-requires : goal.check-requires
+check-requires c = search (ends, rules)
+
+pub returns : goal.returns
+returns c = leaders_ok _ _ c.requires c.shared_slice_known-1.given _ _ _ _ c.load-n.ensures c.leaders_at-a.ensures c.replies_at-e.ensures c.check.ensures
