@@ -1,4 +1,4 @@
-//! Links the static library of the crate `bench` of Rattle, whose folder the environment names.
+//! Links the static libraries of the crates `bench` and `bench_calls` of Rattle, whose folder the environment names.
 
 fn main() {
     println!("cargo:rerun-if-env-changed=BUCKETBEACH_STATICLIB");

@@ -1,4 +1,4 @@
-//! Links the static library of the crate `api` of Rattle, whose folder the environment names.
+//! Links the static library of the crate `api_c` of Rattle, whose folder the environment names.
 
 fn main() {
     println!("cargo:rerun-if-env-changed=BUCKETBEACH_STATICLIB");

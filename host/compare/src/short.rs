@@ -23,25 +23,25 @@ pub fn short_runs() -> String {
 
 /// Every short run. What each is there for is said at its theorem.
 pub const SHORT: [Short; 19] = [
-    ("leadsAgain", leads_again),
+    ("leads_again", leads_again),
     ("healed", healed),
-    ("lateStart", late_start),
+    ("late_start", late_start),
     ("spread", spread),
-    ("crashedLeader", crashed_leader),
+    ("crashed_leader", crashed_leader),
     ("redirects", redirects),
-    ("twoReplies", two_replies),
-    ("retryAtReply", retry_at_reply),
-    ("cutRefusal", cut_refusal),
-    ("stoppedServer", stopped_server),
-    ("fullKeys", full_keys),
-    ("fullReplies", full_replies),
-    ("fullLeaders", full_leaders),
-    ("fullEntries", full_entries),
+    ("two_replies", two_replies),
+    ("retry_at_reply", retry_at_reply),
+    ("cut_refusal", cut_refusal),
+    ("stopped_server", stopped_server),
+    ("full_keys", full_keys),
+    ("full_replies", full_replies),
+    ("full_leaders", full_leaders),
+    ("full_entries", full_entries),
     ("refusals", refusals),
     ("timers", timers),
     ("network", network),
     ("matching", matching),
-    ("manyViolations", many_violations),
+    ("many_violations", many_violations),
 ];
 
 /// Settings with a command of 12 bytes and all checks.

@@ -1,4 +1,4 @@
-//! The proved simulator for a Rust host: the calls of the static library that `rt staticlib api` makes.
+//! The proved simulator for a Rust host: the calls of the static library of the crate `api_c` of Rattle.
 //!
 //! Without the feature `linked` there is nothing here: the static library is then not at hand.
 

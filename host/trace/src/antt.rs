@@ -8,9 +8,9 @@ use crate::{Call, Exchange, Numbers, Trace};
 
 /// The names that exchanges are written with.
 const NAMES: &str = "\
-use mathlib.Core.List.{List, [], _∷_}
-use Rattle·model.specs.Outcome.{hardState, put, truncate, send, setTimer, cancelTimer, apply, confirmed, lost, readStatus, readHardState, readLog, readEntry, readLeader, readApplied, readAppliedEntry, readMetrics, readSentBy, readReply, readConfirmation, readViolation, readRun, readSettings, start, step, propose, fireTimer, confirmLeadership, schedule, write, seal, output, end, checkLogMatching, checkDurability, read}
-use Rattle·runs·specs.specs.Trace.{Exchange, exchange}
+use Rattle.std.specs.Prelude.{List, [], ◌∷◌}
+use Rattle.model.specs.Outcome.{hard_state, put, truncate, send, set_timer, cancel_timer, apply, confirmed, lost, read_status, read_hard_state, read_log, read_entry, read_leader, read_applied, read_applied_entry, read_metrics, read_sent_by, read_reply, read_confirmation, read_violation, read_run, read_settings, start, step, propose, fire_timer, confirm_leadership, schedule, write, seal, output, end, check_log_matching, check_durability, read}
+use Rattle.runs.specs.Trace.{Exchange, exchange}
 ";
 
 /// The declaration of a list of exchanges.
@@ -113,9 +113,9 @@ fn text(call: &Call, buffer: u64) -> String {
         }
         Call::Step { deadline } => format!("step {} {buffer}", own(*deadline)),
         Call::Propose { server } => format!("propose {server}"),
-        Call::FireTimer { server, timer } => format!("fireTimer {server} {timer}"),
+        Call::FireTimer { server, timer } => format!("fire_timer {server} {timer}"),
         Call::ConfirmLeadership { server, request } => {
-            format!("confirmLeadership {server} {}", own(*request))
+            format!("confirm_leadership {server} {}", own(*request))
         }
         Call::Schedule {
             at,
@@ -128,7 +128,7 @@ fn text(call: &Call, buffer: u64) -> String {
             format!("schedule {at} {fault} {first} {second} {groups}")
         }
         Call::WriteHardState { term, voted, vote } => {
-            format!("write (hardState {} {voted} {vote})", own(*term))
+            format!("write (hard_state {} {voted} {vote})", own(*term))
         }
         Call::WritePut {
             index,
@@ -151,9 +151,9 @@ fn text(call: &Call, buffer: u64) -> String {
             entries,
         } => format!("output (send {to} {} {entries})", bytes(message)),
         Call::OutputSetTimer { timer, after } => {
-            format!("output (setTimer {timer} {})", own(*after))
+            format!("output (set_timer {timer} {})", own(*after))
         }
-        Call::OutputCancelTimer { timer } => format!("output (cancelTimer {timer})"),
+        Call::OutputCancelTimer { timer } => format!("output (cancel_timer {timer})"),
         Call::OutputApply {
             index,
             kind,
@@ -177,24 +177,24 @@ fn text(call: &Call, buffer: u64) -> String {
             let (term, commit) = (own(*term), own(*commit));
             format!("end {role} {term} {hinted} {leader} {commit}")
         }
-        Call::CheckLogMatching {} => "checkLogMatching".to_string(),
-        Call::CheckDurability {} => "checkDurability".to_string(),
-        Call::ReadStatus { server } => format!("read (readStatus {server})"),
-        Call::ReadHardState { server } => format!("read (readHardState {server})"),
-        Call::ReadLog { server } => format!("read (readLog {server})"),
+        Call::CheckLogMatching {} => "check_log_matching".to_string(),
+        Call::CheckDurability {} => "check_durability".to_string(),
+        Call::ReadStatus { server } => format!("read (read_status {server})"),
+        Call::ReadHardState { server } => format!("read (read_hard_state {server})"),
+        Call::ReadLog { server } => format!("read (read_log {server})"),
         Call::ReadEntry { server, index } => {
-            format!("read (readEntry {server} {index} {buffer})")
+            format!("read (read_entry {server} {index} {buffer})")
         }
-        Call::ReadLeader {} => "read readLeader".to_string(),
-        Call::ReadApplied { server } => format!("read (readApplied {server})"),
-        Call::ReadAppliedEntry { index } => format!("read (readAppliedEntry {index} {buffer})"),
-        Call::ReadMetrics {} => "read readMetrics".to_string(),
-        Call::ReadSentBy { server } => format!("read (readSentBy {server})"),
-        Call::ReadReply { place } => format!("read (readReply {place})"),
-        Call::ReadConfirmation { place } => format!("read (readConfirmation {place})"),
-        Call::ReadViolation { place } => format!("read (readViolation {place})"),
-        Call::ReadRun {} => "read readRun".to_string(),
-        Call::ReadSettings {} => "read readSettings".to_string(),
+        Call::ReadLeader {} => "read read_leader".to_string(),
+        Call::ReadApplied { server } => format!("read (read_applied {server})"),
+        Call::ReadAppliedEntry { index } => format!("read (read_applied_entry {index} {buffer})"),
+        Call::ReadMetrics {} => "read read_metrics".to_string(),
+        Call::ReadSentBy { server } => format!("read (read_sent_by {server})"),
+        Call::ReadReply { place } => format!("read (read_reply {place})"),
+        Call::ReadConfirmation { place } => format!("read (read_confirmation {place})"),
+        Call::ReadViolation { place } => format!("read (read_violation {place})"),
+        Call::ReadRun {} => "read read_run".to_string(),
+        Call::ReadSettings {} => "read read_settings".to_string(),
         Call::ChaosSchedule { .. } => unreachable!("a schedule is left out"),
     }
 }
@@ -208,41 +208,35 @@ fn record<const N: usize>(fields: [(&str, impl Display); N]) -> String {
 fn settings_text(settings: &Settings) -> String {
     let number = |number: u64| number.to_string();
     let consensus = record([
-        ("«heartbeat_interval»", kind(settings.heartbeat_interval)),
+        ("heartbeat_interval", kind(settings.heartbeat_interval)),
+        ("election_timeout_min", kind(settings.election_timeout_min)),
+        ("election_timeout_max", kind(settings.election_timeout_max)),
         (
-            "«election_timeout_min»",
-            kind(settings.election_timeout_min),
-        ),
-        (
-            "«election_timeout_max»",
-            kind(settings.election_timeout_max),
-        ),
-        (
-            "«max_entries_per_message»",
+            "max_entries_per_message",
             number(settings.max_entries_per_message),
         ),
         (
-            "«max_entries_in_flight»",
+            "max_entries_in_flight",
             number(settings.max_entries_in_flight),
         ),
     ]);
     record([
         ("servers", number(settings.servers)),
         ("consensus", consensus),
-        ("«one_way_delay»", kind(settings.one_way_delay)),
+        ("one_way_delay", kind(settings.one_way_delay)),
         ("clients", number(settings.clients)),
-        ("«command_bytes»", number(settings.command_bytes)),
-        ("«client_timeout»", kind(settings.client_timeout)),
-        ("«client_backoff»", kind(settings.client_backoff)),
-        ("«count_bytes»", number(settings.count_bytes)),
-        ("«raft_checks»", number(settings.raft_checks)),
-        ("«start_spread»", kind(settings.start_spread)),
+        ("command_bytes", number(settings.command_bytes)),
+        ("client_timeout", kind(settings.client_timeout)),
+        ("client_backoff", kind(settings.client_backoff)),
+        ("count_bytes", number(settings.count_bytes)),
+        ("raft_checks", number(settings.raft_checks)),
+        ("start_spread", kind(settings.start_spread)),
     ])
 }
 
 fn limits_text(limits: &Limits) -> String {
     record([
-        ("«log_indexes»", limits.log),
+        ("log_indexes", limits.log),
         ("payload", limits.payload),
         ("message", limits.message),
         ("events", limits.events),
