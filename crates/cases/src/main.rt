@@ -3,18 +3,14 @@
 
 ghost use Rattle.std.specs.Prelude.{◌≤◌, length};
 
-use checks::violations::{Detail, Tally};
-use checks::{Check, violations};
-use checks_log_matching::MismatchOption;
+use checks::{Check, Mismatch, violations};
 use network::Network;
 use queue::{Event, table};
-use record::PayloadShape;
-use rng::{Bounded, Rng};
+use rng::Rng;
 use seeds::Stream;
 use std::io;
-use storage::write::Written;
 use storage::{HardState, StorageState, write};
-use units::{Duration, LogIndex, NodeId, NodeOption, SimTime, Term};
+use units::{Duration, LogIndex, NodeId, PayloadRef, PayloadShape, SimTime, Term};
 
 // Writes that a case holds, or that it does not.
 fn report(rt: &impl Print, name: &str, holds: bool) -> io::Result<()> {
@@ -30,10 +26,10 @@ fn one(b: bool) -> u64
 }
 
 // Whether a draw below a bound gave this number.
-fn is_value(drawn: Bounded, n: u64) -> bool {
+fn is_value(drawn: Option<u64>, n: u64) -> bool {
     match drawn {
-        Bounded::Value(v) => v == n,
-        Bounded::ZeroBound => false,
+        Some(v) => v == n,
+        None => false,
     }
 }
 
@@ -55,8 +51,8 @@ fn gaps_close(s: &mut [u8]) -> bool {
         return false;
     }
     raft_log::clear(s, 4, 12);
-    raft_log::put(s, 4, 12, LogIndex(1), Term(1), 0, b"");
-    raft_log::put(s, 4, 12, LogIndex(3), Term(1), 0, b"");
+    raft_log::put(s, 4, 12, LogIndex(1), Term(1), PayloadRef::Noop);
+    raft_log::put(s, 4, 12, LogIndex(3), Term(1), PayloadRef::Noop);
     let before = raft_log::gaps(s, 4, 12);
     let removed = raft_log::truncate(s, 4, 12, LogIndex(2));
     (before == 1) & (removed == 1) & (raft_log::gaps(s, 4, 12) == 0)
@@ -66,7 +62,7 @@ fn gaps_close(s: &mut [u8]) -> bool {
 fn state(waiting: u64) -> StorageState {
     let state = HardState {
         term: Term(0),
-        voted_for: NodeOption::None,
+        voted_for: None,
     };
     StorageState {
         current: state,
@@ -81,8 +77,8 @@ fn put_and_crash(disk: &mut [u8]) -> StorageState {
     if disk.len() != 336 {
         return state(1);
     }
-    let put = write::put(state(0), disk, 4, 2, 12, LogIndex(1), Term(1), 0, b"");
-    let Written::Done(written) = put else {
+    let put = write::put(state(0), disk, 4, 2, 12, LogIndex(1), Term(1), PayloadRef::Noop);
+    let Ok(written) = put else {
         return state(1);
     };
     if 2 < written.waiting {
@@ -100,7 +96,7 @@ fn nothing_to_sync(v: StorageState, disk: &mut [u8]) -> bool {
         return false;
     }
     let synced = storage::sync(v, disk, 4, 2, 12);
-    !synced.wrote
+    synced.written.is_none()
 }
 
 // Whether the current log of a disk has no entry.
@@ -145,27 +141,13 @@ fn earliest_first(s: &mut [u8]) -> bool {
 }
 
 // Whether there is no mismatch.
-fn no_mismatch(found: MismatchOption) -> bool {
-    match found {
-        MismatchOption::None => true,
-        MismatchOption::Some {
-            term: _,
-            index: _,
-            difference: _,
-        } => false,
-    }
+fn no_mismatch(found: Option<Mismatch>) -> bool {
+    found.is_none()
 }
 
 // Whether there is a mismatch at an index, after a difference at another.
-fn mismatch_at(found: MismatchOption, at: u64, differ: u64) -> bool {
-    match found {
-        MismatchOption::None => false,
-        MismatchOption::Some {
-            term: _,
-            index,
-            difference,
-        } => (index.0 == at) & (difference.0 == differ),
-    }
+fn mismatch_at(found: Option<Mismatch>, at: u64, differ: u64) -> bool {
+    found.is_some_and(|m| m.index == LogIndex(at) && m.difference == LogIndex(differ))
 }
 
 // A log of two places whose one entry is a command of term 1.
@@ -173,7 +155,7 @@ fn single(s: &mut [u8], command: &[u8])
     requires { (64 ≤ length s.old) × (length command.now ≤ 12) }
 {
     raft_log::clear(s, 2, 12);
-    raft_log::put(s, 2, 12, LogIndex(1), Term(1), 1, command);
+    raft_log::put(s, 2, 12, LogIndex(1), Term(1), PayloadRef::Command(command));
 }
 
 // Single entries of one term with other payloads are no mismatch; an equal entry following at 2 is one, after a difference at 1. The bytes
@@ -188,8 +170,8 @@ fn mismatch_at_2(a: &mut [u8], b: &mut [u8]) -> bool {
     single(a, b"1");
     single(b, b"2");
     let alone = checks_log_matching::log_matching_failure(a, b, 2, 12);
-    raft_log::put(a, 2, 12, LogIndex(2), Term(1), 1, b"3");
-    raft_log::put(b, 2, 12, LogIndex(2), Term(1), 1, b"3");
+    raft_log::put(a, 2, 12, LogIndex(2), Term(1), PayloadRef::Command(b"3"));
+    raft_log::put(b, 2, 12, LogIndex(2), Term(1), PayloadRef::Command(b"3"));
     let followed = checks_log_matching::log_matching_failure(a, b, 2, 12);
     no_mismatch(alone) & mismatch_at(followed, 2, 1)
 }
@@ -203,20 +185,19 @@ fn first_32_kept(v: &mut [u8]) -> bool {
     let mut total: u64 = 0;
     let mut i: u64 = 0;
     while i < 33 {
-        let detail = Detail::Three(1, 2, 1);
         let reported = violations::report(
             v,
             kept,
             total,
             SimTime(0),
             Check::ElectionSafety,
-            detail,
+            &[1, 2, 1],
         );
-        let Tally::Counted { kept: k, total: t } = reported else {
+        let Some(tally) = reported else {
             return false;
         };
-        kept = k;
-        total = t;
+        kept = tally.kept;
+        total = tally.total;
         i += 1;
     }
     (kept == 32) & (total == 33)
@@ -224,17 +205,17 @@ fn first_32_kept(v: &mut [u8]) -> bool {
 
 // The cases of numbers and records.
 fn report_numbers(rt: &impl Print) -> io::Result<()> {
-    let draw = rng::drawn_u64(Rng::new(0));
-    report(rt, "C1", draw.next.state == 0x9E37_79B9_7F4A_7C15)?;
-    let below = rng::drawn_below(Rng::new(0), 1);
-    let drawn = below.value;
+    let mut g = Rng::new(0);
+    g.next_u64();
+    report(rt, "C1", g.state == 0x9E37_79B9_7F4A_7C15)?;
+    let drawn = Rng::new(0).below(1);
     report(rt, "C2", is_value(drawn, 0))?;
     let server = Stream::Server {
         id: NodeId(1),
         incarnation: 0,
     };
     report(rt, "C3", server.tag() == 0x0500_0000_0000_0001)?;
-    let state = record::hard_state_bytes(Term(0), NodeOption::None);
+    let state = record::hard_state_bytes(Term(0), None);
     report(rt, "C4", state == 7)?;
     let command = PayloadShape::Command { length: 12 };
     let put = record::put_bytes(LogIndex(1), Term(1), command);

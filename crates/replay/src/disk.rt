@@ -4,10 +4,10 @@
 ghost use Rattle.std.specs.Prelude.{◌≡◌, ◌≤◌, length};
 
 use crate::Tally;
-use raft_log::Place;
-use storage::write::Written;
+use raft_log::EntryShape;
+use storage::write::WriteError;
 use storage::{HardState, StorageState, write};
-use units::{LogIndex, Term};
+use units::{LogIndex, PayloadRef, PayloadShape, Term};
 
 // A disk after an operation: whether the operation was made, and of a sync whether there was anything to write, and how many bytes.
 #[derive(Clone, Copy)]
@@ -57,11 +57,10 @@ fn refused(v: StorageState) -> Operated {
 }
 
 // A write to a disk, by its answer.
-fn written(v: StorageState, answer: Written) -> Operated {
+fn written(v: StorageState, answer: Result<StorageState, WriteError>) -> Operated {
     match answer {
-        Written::Done(state) => made(state),
-        Written::Full => refused(v),
-        Written::Past64Bits => refused(v),
+        Ok(state) => made(state),
+        Err(_) => refused(v),
     }
 }
 
@@ -88,11 +87,12 @@ fn put(v: StorageState, disk: &mut [u8], index: u64, term: u64, payload: &[u8]) 
     let at = LogIndex(index);
     let mark = words::load(payload, 0) % 256;
     if mark < 2 {
-        let answer = write::put(v, disk, 8, 32, 7, at, Term(term), 0, b"");
+        let answer = write::put(v, disk, 8, 32, 7, at, Term(term), PayloadRef::Noop);
         written(v, answer)
     } else {
         let end = 1 + command_length(mark);
-        let answer = write::put(v, disk, 8, 32, 7, at, Term(term), 1, &payload[1..end]);
+        let command = PayloadRef::Command(&payload[1..end]);
+        let answer = write::put(v, disk, 8, 32, 7, at, Term(term), command);
         written(v, answer)
     }
 }
@@ -109,8 +109,8 @@ fn synced(v: StorageState, disk: &mut [u8]) -> Operated
     Operated {
         state,
         made: true,
-        wrote: r.wrote,
-        bytes: r.bytes,
+        wrote: r.written.is_some(),
+        bytes: r.written.unwrap_or(0),
     }
 }
 
@@ -169,21 +169,19 @@ fn command_mark(length: usize) -> u64 {
 }
 
 // The mark of what a place holds: 0 for nothing, 1 for a noop, 2 and the length for a command.
-fn mark(place: Place) -> u64 {
+fn mark(place: Option<EntryShape>) -> u64 {
     match place {
-        Place::None => 0,
-        Place::Noop { term: _ } => 1,
-        Place::Command { term: _, length } => command_mark(length),
+        None => 0,
+        Some(entry) => match entry.payload {
+            PayloadShape::Noop => 1,
+            PayloadShape::Command { length } => command_mark(length),
+        },
     }
 }
 
 // The term of what a place holds, 0 for nothing.
-fn term(place: Place) -> u64 {
-    match place {
-        Place::None => 0,
-        Place::Noop { term } => term.0,
-        Place::Command { term, length: _ } => term.0,
-    }
+fn term(place: Option<EntryShape>) -> u64 {
+    raft_log::term_of(place).map_or(0, |term| term.0)
 }
 
 // Whether two words are what the log holds at an index: payload, term.

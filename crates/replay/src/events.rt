@@ -3,7 +3,7 @@
 ghost use Rattle.std.specs.Prelude.{◌≡◌, ◌≤◌, length};
 
 use crate::Tally;
-use faults::{Fault, FaultOption};
+use faults::{Fault, FaultNumbers};
 use protocol::Timer;
 use queue::{Event, table};
 use units::{LogIndex, NodeId, SimTime};
@@ -49,10 +49,12 @@ fn timer_number(timer: Timer) -> u64 {
 
 // The fault of three numbers, the end of all faults where they are none's.
 fn fault(kind: u64, first: u64, second: u64) -> Fault {
-    match faults::fault_of(kind, first, second) {
-        FaultOption::None => Fault::HealAll,
-        FaultOption::Some(fault) => fault,
-    }
+    let fault = Fault::try_from(FaultNumbers {
+        kind,
+        first,
+        second,
+    });
+    fault.unwrap_or(Fault::HealAll)
 }
 
 // A client's event of a kind from 4 on, and its numbers.
@@ -107,13 +109,8 @@ fn event_of(kind: u64, a: u64, b: u64, c: u64, d: u64) -> Event {
 
 // A fault's numbers.
 fn fault_numbers(fault: Fault) -> EventNumbers {
-    five(
-        3,
-        faults::fault_kind(fault),
-        faults::fault_first(fault),
-        faults::fault_second(fault),
-        0,
-    )
+    let n = FaultNumbers::from(fault);
+    five(3, n.kind, n.first, n.second, 0)
 }
 
 // An event's numbers.

@@ -2,7 +2,7 @@
 ghost use Rattle.std.specs.Prelude.{◌≡◌, length};
 
 use crate::Tally;
-use network::Network;
+use network::{Link, Network};
 use rng::Rng;
 use units::{Duration, NodeId};
 
@@ -26,10 +26,14 @@ fn after_operation(n: Network, kind: u64, from: u64, to: u64, groups: u64) -> Ne
     if 8 < to {
         return n;
     }
+    let link = Link {
+        from: NodeId(from),
+        to: NodeId(to),
+    };
     if kind == 1 {
-        n.block(NodeId(from), NodeId(to))
+        n.block(link)
     } else {
-        n.unblock(NodeId(from), NodeId(to))
+        n.unblock(link)
     }
 }
 

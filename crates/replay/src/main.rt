@@ -12,16 +12,15 @@ mod matching; // log matching of two logs
 mod schedules; // random fault schedules
 mod settings; // settings and limits
 
-use client::Decoded;
-use config::{Config, Validity};
-use network::{Duplicate, Network, Route};
-use record::PayloadShape;
-use rng::{Bounded, Rng};
+use config::Config;
+use network::{Link, Network, Route};
+use units::PayloadShape;
+use rng::Rng;
 use seeds::Stream;
 use std::io::Read;
 use std::rt::Files;
 use std::{fs, io};
-use units::{Duration, LogIndex, NodeId, NodeOption, Term};
+use units::{Duration, LogIndex, NodeId, Term};
 
 // A file of rows that are compared one by one.
 #[derive(Clone, Copy)]
@@ -61,8 +60,8 @@ fn draw_agrees(row: &[u8]) -> bool {
     if row.len() != 24 {
         return false;
     }
-    let draw = rng::drawn_u64(Rng::new(words::load(row, 0)));
-    (draw.value == words::load(row, 1)) & (draw.next.state == words::load(row, 2))
+    let mut g = Rng::new(words::load(row, 0));
+    (g.next_u64() == words::load(row, 1)) & (g.state == words::load(row, 2))
 }
 
 // State, bound, value, next state.
@@ -70,12 +69,12 @@ fn below_agrees(row: &[u8]) -> bool {
     if row.len() != 32 {
         return false;
     }
-    let draw = rng::drawn_below(Rng::new(words::load(row, 0)), words::load(row, 1));
-    let same_state = draw.next.state == words::load(row, 3);
-    let value = draw.value;
+    let mut g = Rng::new(words::load(row, 0));
+    let value = g.below(words::load(row, 1));
+    let same_state = g.state == words::load(row, 3);
     match value {
-        Bounded::Value(v) => (v == words::load(row, 2)) & same_state,
-        Bounded::ZeroBound => false,
+        Some(v) => (v == words::load(row, 2)) & same_state,
+        None => false,
     }
 }
 
@@ -138,12 +137,12 @@ fn decode_agrees(row: &[u8]) -> bool {
     let end = 32 + length as usize;
     let held = words::load(row, 1);
     match client::decode(&row[32..end]) {
-        Decoded::Key(key) => {
+        Some(key) => {
             (held == 1)
                 & (key.client as u64 == words::load(row, 2))
                 & (key.seq == words::load(row, 3))
         }
-        Decoded::None => held == 0,
+        None => held == 0,
     }
 }
 
@@ -161,33 +160,33 @@ fn config_agrees(row: &[u8]) -> bool {
     };
     let accepted = words::load(row, 5);
     match settings.validate() {
-        Validity::Valid => accepted == 1,
-        _ => accepted == 0,
+        Ok(()) => accepted == 1,
+        Err(_) => accepted == 0,
     }
 }
 
 // A server that may be absent, from a flag.
-fn node_of(present: u64, id: u64) -> NodeOption {
+fn node_of(present: u64, id: u64) -> Option<NodeId> {
     if present == 0 {
-        NodeOption::None
+        None
     } else {
-        NodeOption::Some(NodeId(id))
+        Some(NodeId(id))
     }
 }
 
 // 1 where there is a server.
-fn present(node: NodeOption) -> u64 {
+fn present(node: Option<NodeId>) -> u64 {
     match node {
-        NodeOption::None => 0,
-        NodeOption::Some(_) => 1,
+        None => 0,
+        Some(_) => 1,
     }
 }
 
 // A server's id, 0 where there is none.
-fn id(node: NodeOption) -> u64 {
+fn id(node: Option<NodeId>) -> u64 {
     match node {
-        NodeOption::None => 0,
-        NodeOption::Some(id) => id.0,
+        None => 0,
+        Some(id) => id.0,
     }
 }
 
@@ -198,7 +197,9 @@ fn shape_of(kind: u64, length: u64) -> PayloadShape
     if kind == 0 {
         PayloadShape::Noop
     } else {
-        PayloadShape::Command { length }
+        PayloadShape::Command {
+            length: length as usize,
+        }
     }
 }
 
@@ -250,13 +251,13 @@ fn fate_of(route: Route) -> Fate {
             after: 0,
         },
         Route::Delivered { delay, duplicate } => match duplicate {
-            Duplicate::None => Fate {
+            None => Fate {
                 delivered: 1,
                 delay: delay.0,
                 copied: 0,
                 after: 0,
             },
-            Duplicate::After(after) => Fate {
+            Some(after) => Fate {
                 delivered: 1,
                 delay: delay.0,
                 copied: 1,
@@ -334,7 +335,10 @@ fn route_agrees(row: &[u8]) -> bool {
         blocked,
         words::load(row, 5),
     );
-    let routed = n.route(NodeId(1), NodeId(2));
+    let routed = n.route(Link {
+        from: NodeId(1),
+        to: NodeId(2),
+    });
     let route = routed.route;
     told(fate_of(route), routed.draws, routed.network.rng.state, row)
 }

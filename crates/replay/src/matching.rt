@@ -1,8 +1,8 @@
 // log_matching.bin: two logs, and how they break log matching. A log has 8 places, 192 bytes; a command has one byte.
 ghost use Rattle.std.specs.Prelude.{◌≡◌, ◌<◌, length};
 
-use checks_log_matching::MismatchOption;
-use units::{LogIndex, Term};
+use checks::Mismatch;
+use units::{LogIndex, PayloadRef, Term};
 
 // Puts what word k says: 0 is no entry, else it is 256 × term + the one byte of a command.
 fn put_place(log: &mut [u8], places: &[u8], k: usize)
@@ -15,7 +15,7 @@ fn put_place(log: &mut [u8], places: &[u8], k: usize)
     let index = LogIndex(k as u64 + 1);
     let from = 8 * k;
     let to = from + 1;
-    raft_log::put(log, 8, 1, index, Term(word / 256), 1, &places[from..to]);
+    raft_log::put(log, 8, 1, index, Term(word / 256), PayloadRef::Command(&places[from..to]));
 }
 
 // Puts what eight words say.
@@ -30,14 +30,10 @@ fn put_places(log: &mut [u8], places: &[u8])
 }
 
 // Whether four numbers tell a mismatch, or that there is none: 1 where there is one, its term, its index, the index of the difference.
-fn told(found: MismatchOption, fails: u64, term: u64, index: u64, difference: u64) -> bool {
+fn told(found: Option<Mismatch>, fails: u64, term: u64, index: u64, difference: u64) -> bool {
     match found {
-        MismatchOption::None => (fails == 0) & (term == 0) & (index == 0) & (difference == 0),
-        MismatchOption::Some {
-            term: t,
-            index: i,
-            difference: d,
-        } => (fails == 1) & (term == t.0) & (index == i.0) & (difference == d.0),
+        None => (fails == 0) & (term == 0) & (index == 0) & (difference == 0),
+        Some(m) => (fails == 1) & (term == m.term.0) & (index == m.index.0) & (difference == m.difference.0),
     }
 }
 

@@ -4,8 +4,9 @@ ghost use Rattle.std.specs.Prelude.{◌≡◌, ◌≤◌, ◌<◌, length};
 
 use crate::Tally;
 use faults_chaos::ChaosConfig;
-use faults_schedule::{DrawnSchedule, Scheduled};
+use faults_schedule::Made;
 use rng::Rng;
+use units::refusal::Refusal;
 use units::{Duration, SimTime};
 
 // Reads the ids of servers from the bytes of a word, the lowest first, up to the last that is not 0, and answers how many there are.
@@ -54,15 +55,14 @@ fn after_draws(state: u64, draws: u64) -> u64 {
     let mut g = Rng::new(state);
     let mut k: u64 = 0;
     while k < draws {
-        let draw = rng::drawn_u64(g);
-        g = draw.next;
+        g.next_u64();
         k += 1;
     }
     g.state
 }
 
 // Whether an answer is a head's: a refusal's number, or the number of entries, and draws that lead from its state to the next.
-fn answer_agrees(answer: Scheduled, head: &[u8]) -> bool
+fn answer_agrees(answer: Result<Made, Refusal>, head: &[u8]) -> bool
     requires { length head.now ≡ 128 }
 {
     let refusal = words::load(head, 0);
@@ -70,10 +70,10 @@ fn answer_agrees(answer: Scheduled, head: &[u8]) -> bool
     let before = words::load(head, 7);
     let after = words::load(head, 8);
     match answer {
-        Scheduled::Refused(number) => (number == refusal) & (entries == 0),
-        Scheduled::Made { count, draws } => (refusal == 0)
-            & (count == entries)
-            & (after_draws(before, draws) == after),
+        Err(refused) => (u64::from(refused) == refusal) & (entries == 0),
+        Ok(made) => (refusal == 0)
+            & (made.count == entries)
+            & (after_draws(before, made.draws) == after),
     }
 }
 
@@ -85,13 +85,18 @@ fn list_length(word: u64) -> usize
 }
 
 // The schedule of a word of servers, made in a list of bytes 0xFF.
-fn made_again(list: &mut [u8], servers: u64, config: ChaosConfig, g: Rng) -> DrawnSchedule
+fn made_again(
+    list: &mut [u8],
+    servers: u64,
+    config: ChaosConfig,
+    rng: &mut Rng,
+) -> Result<Made, Refusal>
     requires { length list.old ≤ 2048 }
 {
     fill(list);
     let mut ids = [0u8; 8];
     let n = read_servers(servers, &mut ids);
-    faults_schedule::drawn_schedule(&ids[0..n], config, list, g)
+    faults_schedule::chaos_schedule(&ids[0..n], config, list, rng)
 }
 
 // A head: refusal or 0, number of entries, servers, four times, state, next state, length of the list. The schedule is made in the list.
@@ -100,10 +105,14 @@ fn head_agrees(list: &mut [u8], size: usize, head: &[u8]) -> bool
 {
     let after = words::load(head, 8);
     let length = words::load(head, 9);
-    let g = Rng::new(words::load(head, 7));
-    let drawn = made_again(&mut list[0..size], words::load(head, 2), config_of(head), g);
-    let answer = drawn.value;
-    answer_agrees(answer, head) & (drawn.next.state == after) & (size as u64 == length)
+    let mut rng = Rng::new(words::load(head, 7));
+    let answer = made_again(
+        &mut list[0..size],
+        words::load(head, 2),
+        config_of(head),
+        &mut rng,
+    );
+    answer_agrees(answer, head) & (rng.state == after) & (size as u64 == length)
 }
 
 // As many bytes as are left, up to a row.

@@ -1,7 +1,7 @@
 // settings.bin: settings and limits of a start, the answer to questions 1 to 3, and the length of the area.
 ghost use Rattle.std.specs.Prelude.{◌≡◌, length};
 
-use config::{Config, Judged, Limits, SimConfig};
+use config::{Config, Limits, SimConfig};
 use units::Duration;
 
 // A row's settings of the consensus.
@@ -52,14 +52,11 @@ fn limits_of(row: &[u8]) -> Limits
 
 // Whether two numbers are the answer to questions 1 to 3 and the length of the area, 0 where it is refused.
 fn told(config: SimConfig, limits: Limits, answer: u64, bytes: u64) -> bool {
-    let judged = config::judge(config, limits);
-    match judged {
-        Judged::Accepted => {
+    match config::judge(config, limits) {
+        Ok(()) => {
             (answer == 0) & (config::area_length(config.servers, config.clients, limits) == bytes)
         }
-        Judged::Servers => (answer == 1) & (bytes == 0),
-        Judged::Consensus => (answer == 2) & (bytes == 0),
-        Judged::Settings => (answer == 3) & (bytes == 0),
+        Err(refusal) => (answer == u64::from(refusal)) & (bytes == 0),
     }
 }
 

@@ -2,7 +2,7 @@
 ghost use Rattle.std.specs.Prelude.{◌≡◌, length};
 
 use crate::Tally;
-use metrics::{Counted, Counts, Metrics};
+use metrics::{Counts, Metrics};
 use units::NodeId;
 
 // Counts that are all one value.
@@ -27,47 +27,39 @@ fn all_of(value: u64) -> Metrics {
     }
 }
 
-// Counters that were set.
-fn set(metrics: Metrics) -> Counted {
-    Counted {
-        fits: true,
-        metrics,
-    }
-}
-
 // A message of a server counted; one that is none sends nothing.
-fn sent(m: Metrics, server: u64, bytes: u64, entries: u64) -> Counted {
+fn sent(m: Metrics, server: u64, bytes: u64, entries: u64) -> Option<Metrics> {
     if server < 1 {
-        return set(m);
+        return Some(m);
     }
     if 8 < server {
-        return set(m);
+        return Some(m);
     }
     m.record_send(NodeId(server), bytes, entries)
 }
 
 // The counters of one server set to a value.
-fn sender_set(m: Metrics, server: u64, value: u64) -> Counted {
+fn sender_set(m: Metrics, server: u64, value: u64) -> Option<Metrics> {
     if server < 1 {
-        return set(m);
+        return Some(m);
     }
     if 8 < server {
-        return set(m);
+        return Some(m);
     }
     let at = (server - 1) as usize;
     let mut next = m;
     next.by_sender[at] = counts_of(value);
-    set(next)
+    Some(next)
 }
 
 // A row's operation: its kind and three numbers.
-fn operate(m: Metrics, kind: u64, first: u64, second: u64, third: u64) -> Counted {
+fn operate(m: Metrics, kind: u64, first: u64, second: u64, third: u64) -> Option<Metrics> {
     match kind {
         0 => sent(m, first, second, third),
         1 => m.deliver_to_leader(first),
         2 => m.record_sync(first),
         3 => m.record_reply(),
-        4 => set(all_of(first)),
+        4 => Some(all_of(first)),
         _ => sender_set(m, first, second),
     }
 }
@@ -138,10 +130,10 @@ fn metrics_row(m: Metrics, row: &[u8]) -> Replayed
         words::load(row, 2),
         words::load(row, 3),
     );
-    let metrics = after.metrics;
+    let metrics = after.unwrap_or(m);
     Replayed {
         metrics,
-        agrees: (number(after.fits) == words::load(row, 4)) & told(metrics, row),
+        agrees: (number(after.is_some()) == words::load(row, 4)) & told(metrics, row),
     }
 }
 

@@ -2,9 +2,9 @@
 ghost use Rattle.std.specs.Prelude.{◌≡◌, ◌≤◌, length};
 
 use crate::Tally;
-use leader::{LeaderOption, Reported};
+use leader::{Leading, Reported};
 use protocol::{Role, Status};
-use units::{LogIndex, NodeId, NodeOption, Term};
+use units::{LogIndex, NodeId, Term};
 
 // The role of its number and 1.
 fn role_of(number: u64) -> Role {
@@ -16,14 +16,14 @@ fn role_of(number: u64) -> Role {
 }
 
 // The leader so far after one more server, which has no status where it is stopped.
-fn after_server(best: LeaderOption, id: u64, role: u64, term: u64) -> LeaderOption {
+fn after_server(best: Option<Leading>, id: u64, role: u64, term: u64) -> Option<Leading> {
     if role == 0 {
         return best;
     }
     let status = Status {
         role: role_of(role),
         term: Term(term),
-        leader: NodeOption::None,
+        leader: None,
         commit_index: LogIndex(0),
     };
     leader::better(
@@ -36,10 +36,10 @@ fn after_server(best: LeaderOption, id: u64, role: u64, term: u64) -> LeaderOpti
 }
 
 // The leader of a row's servers.
-fn leader_of(row: &[u8]) -> LeaderOption
+fn leader_of(row: &[u8]) -> Option<Leading>
     requires { length row.now ≡ 152 }
 {
-    let mut best = LeaderOption::None;
+    let mut best = None;
     let mut k: usize = 0;
     while k < 8 {
         let role = words::load(row, 2 * k);
@@ -100,7 +100,7 @@ fn listed(row: &[u8], list: u64) -> [u64; 8]
 }
 
 // The same by the lists of ids, roles and terms of the servers that run.
-fn leader_listed(row: &[u8]) -> LeaderOption
+fn leader_listed(row: &[u8]) -> Option<Leading>
     requires { length row.now ≡ 152 }
 {
     let n = running(row);
@@ -111,15 +111,15 @@ fn leader_listed(row: &[u8]) -> LeaderOption
 }
 
 // Whether three numbers are a leader: 1 where there is one, its id, its term.
-fn told(found: LeaderOption, present: u64, id: u64, term: u64) -> bool {
+fn told(found: Option<Leading>, present: u64, id: u64, term: u64) -> bool {
     match found {
-        LeaderOption::None => (present == 0) & (id == 0) & (term == 0),
-        LeaderOption::Some { id: i, term: t } => (present == 1) & (id == i.0) & (term == t.0),
+        None => (present == 0) & (id == 0) & (term == 0),
+        Some(Leading { id: i, term: t }) => (present == 1) & (id == i.0) & (term == t.0),
     }
 }
 
 // Whether the last three words of a row are a leader.
-fn row_told(found: LeaderOption, row: &[u8]) -> bool
+fn row_told(found: Option<Leading>, row: &[u8]) -> bool
     requires { length row.now ≡ 152 }
 {
     told(

@@ -7,9 +7,8 @@ use checks::violations::Violation;
 use checks_durability::replies::Reply;
 use protocol::{Role, Status};
 use state::{Capacity, ServerState};
-use state_records::ViolationOption;
 use storage::HardState;
-use units::{LogIndex, NodeId, NodeOption, SimTime, Term, TermOption};
+use units::{LogIndex, NodeId, PayloadRef, SimTime, Term};
 
 // ---- the numbers of a row
 
@@ -67,10 +66,11 @@ fn put(area: &mut [u8], f: Capacity, row: &[u8]) -> u64
         return 99;
     }
     if mark < 2 {
-        return state_disk::write_put(area, f, k, LogIndex(index), Term(term), 0, b"");
+        return state_disk::write_put(area, f, k, LogIndex(index), Term(term), PayloadRef::Noop);
     }
     let end = 40 + command_length(mark);
-    state_disk::write_put(area, f, k, LogIndex(index), Term(term), 1, &row[40..end])
+    let command = PayloadRef::Command(&row[40..end]);
+    state_disk::write_put(area, f, k, LogIndex(index), Term(term), command)
 }
 
 // Checks the index of waiting write i.
@@ -125,7 +125,7 @@ fn set_next_apply(area: &mut [u8], f: Capacity, k: usize, index: u64)
 }
 
 // The term that a server leads.
-fn set_leading(area: &mut [u8], f: Capacity, k: usize, leading: TermOption)
+fn set_leading(area: &mut [u8], f: Capacity, k: usize, leading: Option<Term>)
     requires inside { Inside area.old f }
     requires k_lt_servers { k < f.servers }
 {
@@ -161,11 +161,10 @@ fn apply(
     requires index_bound { index.0 ≤ 3 }
     requires kind_bound { (kind ≤ 1) × (length src.now ≤ 256 * kind) × (length src.now ≤ f.limits.payload) }
 {
-    let asked = state_asks::apply::apply_asked(area, f, k, index, kind, src);
-    let code = asked.code;
-    if code != 0 {
-        return code;
-    }
+    let asked = match state_asks::apply::apply_asked(area, f, k, index, kind, src) {
+        Err(refusal) => return u64::from(refusal),
+        Ok(asked) => asked,
+    };
     let expected = state_asks::apply::next_apply_of(area, f, k);
     let server = NodeId(k as u64 + 1);
     state_checks::acts::on_apply_act(area, f, time, server, index, expected, kind, src, asked);
@@ -194,12 +193,8 @@ fn apply_row(area: &mut [u8], f: Capacity, row: &[u8]) -> u64
 // ---- status
 
 // The term that a server leads after a status.
-fn leading_after(leads: bool, term: u64) -> TermOption {
-    if leads {
-        TermOption::Some(Term(term))
-    } else {
-        TermOption::None
-    }
+fn leading_after(leads: bool, term: u64) -> Option<Term> {
+    if leads { Some(Term(term)) } else { None }
 }
 
 // A server's status of a role and a term.
@@ -210,7 +205,7 @@ fn status(area: &mut [u8], f: Capacity, k: usize, time: SimTime, role: u64, term
     let status = Status {
         role: role_of(role),
         term: Term(term),
-        leader: NodeOption::None,
+        leader: None,
         commit_index: LogIndex(0),
     };
     let asked = state_asks::status::status_asked(area, f, k, status);
@@ -293,7 +288,7 @@ fn plain(area: &mut [u8], f: Capacity, kind: u64, number: u64) -> u64
 fn state_of(term: u64) -> HardState {
     HardState {
         term: Term(term),
-        voted_for: NodeOption::None,
+        voted_for: None,
     }
 }
 
@@ -362,11 +357,11 @@ pub fn made(area: &mut [u8], row: &[u8]) -> u64
 fn numbers_told(v: Violation, told: &[u8]) -> bool
     requires { length told.now ≡ 40 }
 {
-    (v.first == words::load(told, 0))
-        & (v.second == words::load(told, 1))
-        & (v.third == words::load(told, 2))
-        & (v.fourth == words::load(told, 3))
-        & (v.fifth == words::load(told, 4))
+    (v.numbers[0] == words::load(told, 0))
+        & (v.numbers[1] == words::load(told, 1))
+        & (v.numbers[2] == words::load(told, 2))
+        & (v.numbers[3] == words::load(told, 3))
+        & (v.numbers[4] == words::load(told, 4))
 }
 
 // Whether a row tells a violation that there is.
@@ -387,8 +382,8 @@ fn place_told(area: &[u8], f: Capacity, row: &[u8]) -> bool
 {
     let place = words::load(row, 8);
     match state_records::violation_of(area, f, place as usize) {
-        ViolationOption::None => words::all_zero(&row[120..192]),
-        ViolationOption::Some(v) => violation_told(v, row),
+        None => words::all_zero(&row[120..192]),
+        Some(v) => violation_told(v, row),
     }
 }
 

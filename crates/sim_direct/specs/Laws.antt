@@ -1,6 +1,6 @@
 -- What the proofs of the direct calls cite. Assumes nothing.
 use Rattle.std.proofs.Math.Path.{◌≡◌, sym, ap, ap₂}
-use Rattle.std.specs.Prelude.{refl, Bool, true, false, not, List, eqb, ltb, length}
+use Rattle.std.specs.Prelude.{refl, Bool, true, false, not, List, eqb, ltb, length, Option}
 use Rattle.std.proofs.Common.{subst, ◌∙◌, arith}
 use Prim.Native.Nat.{ℕ, ◌+◌, ◌-◌, ◌≤◌, ◌<◌}
 use Rattle.std.proofs.Math.Dec.{leb}
@@ -20,10 +20,7 @@ use Rattle.model.specs.Calls.{is_closed, in_cluster, is_flag, fire_timer, timer_
 use Rattle.model.specs.Fits.{state_fits, phase_fits}
 use Rattle.state.specs.declared.Capacity.{Capacity}
 use Rattle.state.specs.declared.OpenInput.{OpenInput}
-use Rattle.state.specs.declared.StatusOption.{StatusOption}
-use Rattle.state.specs.declared.StatusOption.TheVariants as status
 use Rattle.state.specs.Parts.{open_of, phase_kind}
-use Rattle.state.specs.Server.{option_status}
 use Rattle.state.specs.Area.{Area, capacity_of}
 use Rattle.state.specs.Fitting.{area_fits}
 use Rattle.state.specs.FitsBy.{fits_test, server_count}
@@ -89,7 +86,7 @@ module _ (b : List ℕ) (F : Capacity) (server : ℕ) (o : OpenInput) (q : Reads
     unfolding faults.in_cluster ◌and◌
     asked_high l = unknown (λ s h ef. ap₂ (λ (t u : Bool). t and u) (le-leb 1 server (omega arith)) (lt-leb server (length s.servers) (omega (arith, count s h ef))))
 
-    pub asked_yes_lem : (x : StatusOption) (r : Bool) → 1 ≤ server → server ≤ F.servers → Reads b F x (status_at (server - 1)) → r ≡ status_runs x
+    pub asked_yes_lem : (x : Option Status) (r : Bool) → 1 ≤ server → server ≤ F.servers → Reads b F x (status_at (server - 1)) → r ≡ status_runs x
         → AsksDirect b F server (record { code = 0; slot = server - 1; running = r })
     unfolding direct_code server_runs status_at faults.in_cluster
     asked_yes_lem x r lo hi qx er = record {

@@ -1,9 +1,8 @@
 -- What the proofs of the functions cite. Assumes nothing.
-use Rattle.std.specs.Prelude.{◌≡◌, Bool, not, List, ℕ, ◌+◌, ◌-◌, ◌≤◌, ◌<◌}
+use Rattle.std.specs.Prelude.{◌≡◌, Bool, not, List, ℕ, ◌+◌, ◌-◌, ◌≤◌, ◌<◌, Option, None, Some}
 use Rattle.std.proofs.Math.Path.{refl, sym, ap, subst}
 use Rattle.std.proofs.Common.{◌∙◌, leb-true}
 use Rattle.std.proofs.Math.Bool.{true, false}
-use Rattle.std.proofs.Math.Option.{Option, none, some}
 use native.Mathlib.Omega.{arith}
 use Rattle.std.proofs.lemmas.Bool.{not-true, not-false}
 use Rattle.laws.specs.Bools.{pick, ◌and◌, and_left}
@@ -19,8 +18,6 @@ use Rattle.faults.specs.declared.Fault.TheVariants.{Crash, CrashDuringNextInput,
 use Rattle.network.specs.Network as network
 use Rattle.network.specs.declared.Network.{Network}
 use Rattle.protocol.specs.declared.Status.{Status}
-use Rattle.leader.specs.declared.LeaderOption.{LeaderOption}
-use Rattle.leader.specs.declared.LeaderOption.TheVariants as led
 use Rattle.queue.specs.Queue.{Scheduled}
 use Rattle.queue.specs.Range.{word}
 use Rattle.queue.specs.declared.Event.TheVariants as event
@@ -31,9 +28,6 @@ use Rattle.model.specs.Fits.{state_fits}
 use Rattle.state.specs.declared.Capacity.{Capacity}
 use Rattle.state.specs.declared.Run.{Run}
 use Rattle.state.specs.declared.ServerState.{ServerState}
-use Rattle.state.specs.declared.StatusOption.{StatusOption}
-use Rattle.state.specs.declared.StatusOption.TheVariants as status
-use Rattle.state.specs.Server.{option_status}
 use Rattle.state.specs.Area.{Area, capacity_of, run_of}
 use Rattle.state.specs.Fitting.{area_fits}
 use Rattle.state.specs.Lens.{servers_fit_lem}
@@ -54,6 +48,7 @@ use Rattle.sim_owed.specs.Fits.{settled_fits, fits_idle, fits_stop}
 use Rattle.sim_owed.specs.ServerLaws.{opens_after, opens_is}
 use Rattle.sim_faults.specs.Faults.{fault_at, network_after, network_move, crashing_state, crashing_at, stop_scheduled, stop_move, leader_test, leader_fits, restart_fits, fault_test, Known, Aimed, StopsKnown}
 use Rattle.sim_faults.specs.Fits.{ready_fits, fits_after, fits_crashing, restart_event, fits_stopped, stop_is, stopped_settled, leader_is_known}
+use Rattle.leader.specs.declared.Leading.{Leading}
 
 -- ---- the servers that a fault names
 
@@ -204,12 +199,12 @@ module _ (b b₁ b₂ : List ℕ) (F : Capacity) (n m : Network) (r : InputNumbe
 
 -- ---- one server
 
-module _ (b : List ℕ) (F : Capacity) (slot : ℕ) (x : StatusOption) (q : Reads b F x (status_at slot)) where
-  pub runs_no : x ≡ status.None → Reads b F false (runs_at slot)
+module _ (b : List ℕ) (F : Capacity) (slot : ℕ) (x : Option Status) (q : Reads b F x (status_at slot)) where
+  pub runs_no : x ≡ None → Reads b F false (runs_at slot)
   unfolding status_at runs_at status_runs
   runs_no e = record { to = λ s h ef. ap status_runs (sym e ∙ q.to s h ef) ∙ status_runs_lem (server_at s slot).status }
 
-  pub runs_yes : (y : Status) → x ≡ status.Some y → Reads b F true (runs_at slot)
+  pub runs_yes : (y : Status) → x ≡ Some y → Reads b F true (runs_at slot)
   unfolding status_at runs_at status_runs
   runs_yes y e = record { to = λ s h ef. ap status_runs (sym e ∙ q.to s h ef) ∙ status_runs_lem (server_at s slot).status }
 
@@ -290,22 +285,22 @@ crashing_set b b' F slot x y q e p = record {
 
 -- ---- the leader
 
-module _ (b : List ℕ) (F : Capacity) (x : LeaderOption) (q : Reads b F x leader_of) where
-  pub leaderless : (time : SimTime) (d : Duration) → x ≡ led.None → Reads b F true (leader_fits time d)
+module _ (b : List ℕ) (F : Capacity) (x : Option Leading) (q : Reads b F x leader_of) where
+  pub leaderless : (time : SimTime) (d : Duration) → x ≡ None → Reads b F true (leader_fits time d)
   unfolding leader_fits leader_test
-  leaderless time d e = record { to = λ s h ef. ap (λ (o : LeaderOption). leader_test o time d) (sym e ∙ q.to s h ef) }
+  leaderless time d e = record { to = λ s h ef. ap (λ (o : Option Leading). leader_test o time d) (sym e ∙ q.to s h ef) }
 
-  pub leader_due : (time : SimTime) (d : Duration) (id : NodeId) (term : Term) (a : Sum) → x ≡ led.Some id term → Sums time.0 d.0 a
+  pub leader_due : (time : SimTime) (d : Duration) (id : NodeId) (term : Term) (a : Sum) → x ≡ Some (record { id = id; term = term }) → Sums time.0 d.0 a
       → Reads b F a.fits (leader_fits time d)
   unfolding leader_fits leader_test
-  leader_due time d id term a e u = record { to = λ s h ef. u.fits ∙ ap (λ (o : LeaderOption). leader_test o time d) (sym e ∙ q.to s h ef) }
+  leader_due time d id term a e u = record { to = λ s h ef. u.fits ∙ ap (λ (o : Option Leading). leader_test o time d) (sym e ∙ q.to s h ef) }
 
-  pub leader_none : (b' : List ℕ) (d : Duration) (r : InputNumbers) → x ≡ led.None → Opens b b' F r idle_at
+  pub leader_none : (b' : List ℕ) (d : Duration) (r : InputNumbers) → x ≡ None → Opens b b' F r idle_at
       → Opens b b' F r (fault_at (CrashLeader d))
   unfolding fault_at apply_fault idle_at
-  leader_none b' d r e o = opens_is idle_at (fault_at (CrashLeader d)) o (λ s h ef. ap (λ (y : LeaderOption). idle (crash_leader s y d)) (sym e ∙ q.to s h ef))
+  leader_none b' d r e o = opens_is idle_at (fault_at (CrashLeader d)) o (λ s h ef. ap (λ (y : Option Leading). idle (crash_leader s y d)) (sym e ∙ q.to s h ef))
 
-  pub leader_some : (b' : List ℕ) (d : Duration) (r : InputNumbers) (id : NodeId) (term : Term) → x ≡ led.Some id term
+  pub leader_some : (b' : List ℕ) (d : Duration) (r : InputNumbers) (id : NodeId) (term : Term) → x ≡ Some (record { id = id; term = term })
       → StopsKnown b b' F id d r → Opens b b' F r (fault_at (CrashLeader d))
   unfolding fault_at apply_fault stop_move
   leader_some b' d r id term e o =
@@ -315,7 +310,7 @@ module _ (b : List ℕ) (F : Capacity) (x : LeaderOption) (q : Reads b F x leade
       let i = leader_is_known s (servers_fit_lem s (area_fits h)) x id term (q.to s h ef) e in
       o.to (record { low = i.0; high = subst (λ (m : ℕ). id.0 ≤ m) (sym n) i.1 }) in
       let is : (s : State) → Area b s → F ≡ capacity_of s → stop_move id d s ≡ fault_at (CrashLeader d) s =
-      λ s h ef. ap (λ (y : LeaderOption). idle (crash_leader s y d)) (sym e ∙ q.to s h ef) in
+      λ s h ef. ap (λ (y : Option Leading). idle (crash_leader s y d)) (sym e ∙ q.to s h ef) in
       record {
         changes = record { to = λ s rest h t. (opens_is (stop_move id d) (fault_at (CrashLeader d)) (stops s h.area h.capacity) is).changes.to s rest h t };
         input = λ s h ef t. (opens_is (stop_move id d) (fault_at (CrashLeader d)) (stops s h ef) is).input s h ef t;

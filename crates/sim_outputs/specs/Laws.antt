@@ -1,12 +1,11 @@
 -- What the proofs of lib.rt cite, and what a call in the sending phase gives. Assumes nothing.
-use Rattle.std.specs.Prelude.{◌≡◌, refl, Bool, true, false, not, ◌&&◌, List, ℕ, ◌+◌, ◌-◌, ◌^◌, ◌≤◌, ◌<◌, ltb}
+use Rattle.std.specs.Prelude.{◌≡◌, refl, Bool, true, false, not, ◌&&◌, List, ℕ, ◌+◌, ◌-◌, ◌^◌, ◌≤◌, ◌<◌, ltb, None, Some}
 use Rattle.std.proofs.Common.{sym, ap₂, subst, ◌∙◌, arith, Fits, lt-ltb, le-ltb, ltb-true}
 use Rattle.std.proofs.Math.Path.{ap}
 use Rattle.std.proofs.Math.Dec.{eqb}
 use Rattle.std.specs.Int.{w64}
 use Rattle.laws.specs.Bools.{pick, and_left}
 use Rattle.laws.specs.Decides.{false_true}
-use Rattle.units.specs.declared.NodeOption.TheVariants.{None, Some}
 use Rattle.model.specs.State.{State, Phase, closed, writing, sending, accepted, not_leader}
 use Rattle.model.specs.Calls.{done, output, ask}
 use Rattle.model.specs.Fits.{state_fits, phase_fits}

@@ -1,10 +1,9 @@
 -- What the proofs of closes.rt cite. Assumes nothing.
-use Rattle.std.specs.Prelude.{◌≡◌, refl, true, false, not, eqb, get_or}
+use Rattle.std.specs.Prelude.{◌≡◌, refl, true, false, not, eqb, get_or, Option, None, Some}
 use Rattle.std.proofs.Math.Path.{sym, ap, ap₂, subst}
 use Rattle.std.proofs.Common.{◌∙◌, add-one, arith, length-set, get_or-set_same, get_or-set_other, lt-ltb, le-ltb, eq-eqb, ne_eqb, eqb-true}
 use Rattle.std.proofs.Math.Bool.{Bool}
 use mathlib.Core.List.{List, map}
-use Rattle.std.proofs.Math.Option.{Option, none, some}
 use Prim.Native.Nat.{ℕ, suc, ◌+◌, ◌-◌, ◌≤◌, ◌<◌}
 use Rattle.std.proofs.Math.ListN.{length, set}
 use Rattle.std.proofs.lemmas.List.{length-map}
@@ -19,9 +18,6 @@ use Rattle.model.specs.Simulation.{no_input, running, idle, start_server, first_
 use Rattle.model.specs.Fits.{state_fits}
 use Rattle.state.specs.declared.Capacity.{Capacity}
 use Rattle.state.specs.declared.ServerState.{ServerState}
-use Rattle.state.specs.declared.StatusOption.{StatusOption}
-use Rattle.state.specs.declared.StatusOption.TheVariants as status
-use Rattle.state.specs.Server.{option_status}
 use Rattle.state.specs.Area.{Area, capacity_of}
 use Rattle.state.specs.Fitting.{area_fits}
 use Rattle.state.specs.FitsBy.{server_count}
@@ -115,7 +111,7 @@ pub runs_told : (b : List ℕ) (F : Capacity) (place slot : ℕ) (running : Bool
 unfolding runs_as
 runs_told b F place slot r e = record { to = λ s h ef. sym (ap (λ (t : Bool). pick t r (running s place)) (eq-eqb place slot e)) }
 
-pub runs_read : (b : List ℕ) (F : Capacity) (place slot : ℕ) (running : Bool) (x : StatusOption) (r : Bool) → (place ≡ slot → ⊥)
+pub runs_read : (b : List ℕ) (F : Capacity) (place slot : ℕ) (running : Bool) (x : Option Status) (r : Bool) → (place ≡ slot → ⊥)
     → Reads b F x (status_at place) → r ≡ status_runs x
     → Reads b F r (runs_as place slot running)
 unfolding runs_as status_at

@@ -1,5 +1,5 @@
 -- What goes on once an input is closed: what the contracts of closes.rt cite, and what a caller says of the state in which it closes one. Assumes nothing.
-use Rattle.std.specs.Prelude.{◌≡◌, Bool, true, false, List, map, ℕ, zero, suc, ◌+◌, ◌-◌, eqb, ltb, length, get_or, set}
+use Rattle.std.specs.Prelude.{◌≡◌, Bool, true, false, List, map, ℕ, zero, suc, ◌+◌, ◌-◌, eqb, ltb, length, get_or, set, Option}
 use Rattle.laws.specs.Bools.{pick}
 use Rattle.laws.specs.Lists.{is_some}
 use Rattle.config.specs.declared.SimConfig.{SimConfig}
@@ -10,14 +10,13 @@ use Rattle.model.specs.Simulation.{Moved, on_server, running, idle, construct_fr
 use Rattle.model.specs.Fits.{phase_fits}
 use Rattle.state.specs.declared.Capacity.{Capacity}
 use Rattle.state.specs.declared.ServerState.{ServerState}
-use Rattle.state.specs.declared.StatusOption.{StatusOption}
-use Rattle.state.specs.declared.StatusOption.TheVariants as status
 use Rattle.state.specs.Area.{Area, capacity_of}
 use Rattle.state.specs.Lens.{ServersIn}
 use Rattle.state.specs.Changes.{Inside, Changes, Reads}
 use Rattle.state_queue.specs.Events.{queue_room}
 use Rattle.answers.specs.declared.InputNumbers.{InputNumbers}
 use Rattle.sim_owed.specs.Servers.{Opens, can_rise, restart_test}
+use Rattle.protocol.specs.declared.Status.{Status}
 
 -- ---- nothing is owed
 

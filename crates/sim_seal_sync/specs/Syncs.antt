@@ -1,9 +1,9 @@
 -- A seal that does not cut: what contracts cite. Assumes nothing.
-use Rattle.std.specs.Prelude.{◌≡◌, Bool, true, List, ℕ, length, drop}
+use Rattle.std.specs.Prelude.{◌≡◌, Bool, true, List, ℕ, length, drop, Option, Some}
 use Rattle.laws.specs.Bools.{pick, ◌and◌}
 use Rattle.metrics.specs.Metrics.{record_sync, counters_fit}
 use Rattle.metrics.specs.declared.Metrics.{Metrics}
-use Rattle.metrics.specs.declared.Counted.{Counted}
+use Rattle.std.specs.Option.{is_some}
 use Rattle.storage.specs.Storage.{unsynced, unsynced_bytes, written}
 use Rattle.model.specs.State.{State, Phase, server_at}
 use Rattle.model.specs.Fields.{with_checker}
@@ -57,9 +57,9 @@ count_test k s =
     pick (unsynced v.storage) (counters_fit (record_sync s.metrics (unsynced_bytes v.storage.waiting))) true
 
 -- Whether they fit was answered, and where they do, the metrics.
-pub record CountsSync (b : List ℕ) (F : Capacity) (k : ℕ) (r : Counted) : Type 0 where
-  pub fits : Reads b F r.fits (count_test k)
-  pub metrics : r.fits ≡ true → Reads b F r.metrics (metrics_after k)
+pub record CountsSync (b : List ℕ) (F : Capacity) (k : ℕ) (r : Option Metrics) : Type 0 where
+  pub fits : Reads b F (is_some r) (count_test k)
+  pub metrics : (m : Metrics) → r ≡ Some m → Reads b F m (metrics_after k)
 
 -- The state with the server at k synced, and that counted.
 unfoldable pub sync_counted : ℕ → State → State

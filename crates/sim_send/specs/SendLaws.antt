@@ -1,5 +1,5 @@
 -- What the proof of output_send_in cites: question 10 of a message sent, the definition, and the exits. Assumes nothing.
-use Rattle.std.specs.Prelude.{◌≡◌, Bool, List, [], ◌∷◌, ℕ, zero, suc, ◌+◌, ◌^◌, ◌≤◌, ◌<◌, eqb, leb, length, get_or, set}
+use Rattle.std.specs.Prelude.{◌≡◌, Bool, List, [], ◌∷◌, ℕ, zero, suc, ◌+◌, ◌^◌, ◌≤◌, ◌<◌, eqb, leb, length, get_or, set, None, Some}
 use Rattle.std.proofs.Math.Path.{refl, sym, ap, ap₂}
 use Rattle.std.proofs.Common.{subst, ◌∙◌, arith}
 use Rattle.std.proofs.Math.Bool.{true, false}
@@ -18,7 +18,6 @@ use Rattle.network.specs.declared.Routed.{Routed}
 use Rattle.network.specs.declared.Chance.{Chance}
 use Rattle.network.specs.declared.Route.{Route}
 use Rattle.network.specs.declared.Route.TheVariants.{Dropped, Delivered}
-use Rattle.network.specs.declared.Duplicate.TheVariants.{None, After}
 use Rattle.network.specs.Network.{network_in_range, route, delivered, chance, delay, with_rng, link}
 use Rattle.metrics.specs.declared.Metrics.{Metrics}
 use Rattle.metrics.specs.Metrics.{metrics_fit, counters_fit, record_send}
@@ -202,7 +201,7 @@ pushed_mail : (s : State) (from to : NodeId) (entries : ℕ) (message : List ℕ
 unfolding mailed mail_of letters pushed_all pushed
 pushed_mail s from to entries message Dropped = refl
 pushed_mail s from to entries message (Delivered d None) = refl
-pushed_mail s from to entries message (Delivered d (After c)) = refl
+pushed_mail s from to entries message (Delivered d (Some c)) = refl
 
 send_is : (s : State) (k to entries : ℕ) (message : List ℕ)
     → send s k (record { 0 = to }) message entries ≡ sent (mail_due (k + 1) to s) (k + 1) to (bytes_counted (length message) s) entries message s

@@ -17,7 +17,8 @@ use Rattle.seeds.specs.Seeds.{stream_seed, stream_rng}
 use Rattle.seeds.specs.declared.Stream.TheVariants as stream
 use Rattle.config.specs.declared.SimConfig.{SimConfig}
 use Rattle.config.specs.declared.Limits.{Limits}
-use Rattle.config.specs.declared.Judged.{Judged}
+use Rattle.std.specs.declared.result.Result.{Result}
+use Rattle.units.specs.declared.refusal.Refusal.{Refusal}
 use Rattle.config.specs.Limits.{judge, judged_number, area_length, InLimits}
 use Rattle.queue.specs.Queue.{Scheduled}
 use Rattle.model.specs.State.{State, Phase, closed, writing, start_input, construction, new_server}
@@ -47,7 +48,7 @@ use Rattle.sim_start.specs.Fits.{accepted_limits, spread_fits, fits_unstarted}
 
 -- ---- the questions
 
-module _ (size : ℕ) (config : SimConfig) (limits : Limits) (j : Judged) (n : ℕ) (ej : j ≡ judge config limits) (en : n ≡ judged_number j) where
+module _ (size : ℕ) (config : SimConfig) (limits : Limits) (j : Result (Unit {0}) Refusal) (n : ℕ) (ej : j ≡ judge config limits) (en : n ≡ judged_number j) where
   number : n ≡ judged_number (judge config limits)
   number = en ∙ ap judged_number ej
 

@@ -1,10 +1,9 @@
 -- What the proofs of durability.rt cite. Assumes nothing.
-use Rattle.std.specs.Prelude.{◌≡◌, true, false, eqb, leb, ltb, get_or, set, drop, replicate}
+use Rattle.std.specs.Prelude.{◌≡◌, true, false, eqb, leb, ltb, get_or, set, drop, replicate, Option, None, Some}
 use Rattle.std.proofs.Math.Path.{refl, sym, ap, ap₂, subst}
 use Rattle.std.proofs.Common.{◌∙◌, add-one, arith, take-suc}
 use Rattle.std.proofs.Math.Bool.{Bool, not}
 use mathlib.Core.List.{List, [], ◌∷◌, ◌++◌, map}
-use Rattle.std.proofs.Math.Option.{Option, none, some}
 use Prim.Native.Nat.{ℕ, zero, suc, ◌+◌, ◌-◌, ◌*◌, ◌^◌, ◌≤◌, ◌<◌, max}
 use Rattle.std.proofs.Math.ListN.{length, take, length-set}
 use Rattle.std.proofs.Math.Seq.{take-suc-set, take_all}
@@ -320,13 +319,13 @@ durability_asked ru rs rc q = record {
 
 -- ---- reply_missing_of, reply_index_of
 
-at_past : {A : Type 0} (x : List A) (i : ℕ) → length x ≤ i → at' x i ≡ none
+at_past : {A : Type 0} (x : List A) (i : ℕ) → length x ≤ i → at' x i ≡ None
 unfolding at'
 at_past [] i h = refl
 at_past (a ∷ x) zero h = absurd (omega arith)
 at_past (a ∷ x) (suc i) h = at_past x i (omega arith)
 
-at_in : {A : Type 0} (x : List A) (i : ℕ) (d : A) → i < length x → at' x i ≡ some (get_or x i d)
+at_in : {A : Type 0} (x : List A) (i : ℕ) (d : A) → i < length x → at' x i ≡ Some (get_or x i d)
 unfolding at'
 at_in [] i d h = absurd (omega arith)
 at_in (a ∷ x) zero d h = refl
@@ -392,7 +391,7 @@ module _ {b : List ℕ} {F : Capacity} {counts : TableCounts} {n : ℕ} (rc : Re
         subst (λ (G : Capacity). Misses G.limits.payload bytes n m i r (lent_row at (G.limits.history * 5) b)
         (lent_row from v b)) e q in
         let any : Reply = record { sent = record { 0 = 0 }; received = record { 0 = 0 }; index = record { 0 = 0 }; client = 0; seq = 0 } in
-        let there : at' s.replies i ≡ some (get_or s.replies i any) = at_in s.replies i any (omega (arith, count_is s h e)) in
+        let there : at' s.replies i ≡ Some (get_or s.replies i any) = at_in s.replies i any (omega (arith, count_is s h e)) in
         a.to (applied_words (capacity_of s)) s.replies s.checker.applied
         (replies_held h y.reply_rows (ap (λ (t : TableCounts). t.replies) c) y.replies_begin)
         (payloads_held h y.applied_rows (ap (λ (t : TableCounts). t.applied) c) y.applied_begins y.applied_words_lem)

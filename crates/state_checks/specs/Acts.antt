@@ -1,6 +1,5 @@
 -- Each check acted on, where its question answered flags: what contracts cite. Assumes nothing.
-use Rattle.std.specs.Prelude.{◌≡◌, Bool, true, List, [], ◌∷◌, ℕ, ltb}
-use Rattle.std.proofs.Math.Option.{Option}
+use Rattle.std.specs.Prelude.{◌≡◌, Bool, true, List, [], ◌∷◌, ℕ, ltb, Option}
 use Rattle.units.specs.Types.{Payload}
 use Rattle.units.specs.declared.NodeId.{NodeId}
 use Rattle.units.specs.declared.Term.{Term}
@@ -9,7 +8,8 @@ use Rattle.units.specs.declared.SimTime.{SimTime}
 use Rattle.protocol.specs.declared.Status.{Status}
 use Rattle.raft_log.specs.Log.{Log}
 use Rattle.checks.specs.declared.Check.TheVariants.{Durability}
-use Rattle.checks.specs.Checks.{Mismatch, report_if, on_apply, on_write, on_status}
+use Rattle.checks.specs.declared.Mismatch.{Mismatch}
+use Rattle.checks.specs.Checks.{report_if, on_apply, on_write, on_status}
 use Rattle.checks_on_apply.specs.declared.ApplyAsked.{ApplyAsked}
 use Rattle.checks_on_apply.specs.OnApply.{apply_acts}
 use Rattle.checks_on_write.specs.declared.WriteAsked.{WriteAsked}

@@ -1,15 +1,15 @@
 -- A check of many, one after another: what checks the rest checks the whole, and a state before fits where the state after does. Assumes
 -- nothing.
-use Rattle.std.specs.Prelude.{◌≡◌, true, ℕ, ◌+◌, ◌-◌, get_or, drop}
+use Rattle.std.specs.Prelude.{◌≡◌, true, ℕ, ◌+◌, ◌-◌, get_or, drop, Option}
 use Rattle.std.proofs.Math.Path.{refl}
 use Rattle.std.proofs.Math.Bool.{Bool, not}
 use mathlib.Core.List.{List, [], ◌∷◌}
-use Rattle.std.proofs.Math.Option.{Option}
 use Rattle.laws.specs.Lists.{at}
 use Rattle.units.specs.declared.SimTime.{SimTime}
 use Rattle.units.specs.declared.LogIndex.{LogIndex}
 use Rattle.raft_log.specs.Log.{Log}
-use Rattle.checks.specs.Checks.{Mismatch, ServerLog, Acknowledged, AppliedUpTo, is_payload, on_writes, log_matching_failure}
+use Rattle.checks.specs.declared.Mismatch.{Mismatch}
+use Rattle.checks.specs.Checks.{ServerLog, Acknowledged, AppliedUpTo, is_payload, on_writes, log_matching_failure}
 use Rattle.checks.specs.Checks.{check_against, check_log_matching, check_acknowledged, check_applied_up_to}
 use Rattle.checks_log_matching.specs.Pairs.{reported_mismatch, server_log, server_logs, check_rest}
 use Rattle.model.specs.State.{State, server_at, id_of}

@@ -20,8 +20,11 @@ use Rattle.layout.specs.Tables.{Content, Tabled, content}
 use Rattle.layout.specs.Contents.{ok_prefix}
 use Rattle.config.specs.declared.SimConfig.{SimConfig}
 use Rattle.config.specs.declared.Limits.{Limits}
-use Rattle.config.specs.declared.Judged.{Judged}
-use Rattle.config.specs.Limits.{judge, judged_number, area_length}
+use Rattle.std.specs.Prelude.{Result}
+use Rattle.std.specs.Result.{is_ok}
+use Rattle.units.specs.declared.refusal.Refusal.{Refusal}
+use Rattle.units.specs.RefusalLaws.{answered_zero}
+use Rattle.config.specs.Limits.{judge, area_length}
 use Rattle.config.specs.Laws.{limits_counts}
 use Rattle.network_words.specs.NetworkCode.{network_code}
 use Rattle.metrics_words.specs.MetricsCode.{metrics_code}
@@ -131,10 +134,10 @@ module _ (F : Capacity) (b : List ℕ) (h : Inside b F) (B : Bytes b) where
       region_table F b 8 2048 4096 (omega arith) refl refl B (omega (arith, h.head)) violations 256 n r refl t
       ∙ ap (λ (m : ℕ). (content violations 256 m).ok (W (get_or (cut (sizes F) b) 8 []))) (e ∙ ap (λ (l : List ℕ). get_or (W l) 6 0) (region_lent F b 6 664 728 (omega arith) refl refl))
 
--- questions 1 to 3, by their number
-pub accepted_ok_lem : (c : SimConfig) (l : Limits) (j : Judged) (n : ℕ) → j ≡ judge c l → n ≡ judged_number j → eqb n 0 ≡ accepted_ok c l
+-- questions 1 to 3
+pub accepted_ok_lem : (c : SimConfig) (l : Limits) (j : Result (Unit {0}) Refusal) (r : Bool) → j ≡ judge c l → r ≡ is_ok j → r ≡ accepted_ok c l
 unfolding accepted_ok
-accepted_ok_lem c l j n e m = ap (λ (k : ℕ). eqb k 0) (m ∙ ap judged_number e)
+accepted_ok_lem c l j r e m = m ∙ ap is_ok e ∙ sym (answered_zero (judge c l))
 
 -- the header's nine regions: the numbers of the run and the counts of rows may be any
 pub header_ok : (F : Capacity) (b : List ℕ) (r₀ r₁ r₃ r₄ r₅ r₇ r₈ : Bool) → r₀ ≡ region_ok F b 0 → r₁ ≡ region_ok F b 1 → r₃ ≡ region_ok F b 3 → r₄ ≡ region_ok F b 4 → r₅ ≡ region_ok F b 5 → r₇ ≡ region_ok F b 7 → r₈ ≡ region_ok F b 8

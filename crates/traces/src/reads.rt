@@ -2,10 +2,7 @@
 ghost use Rattle.std.specs.Prelude.{◌≤◌};
 
 use crate::{row, told};
-use answers::{
-    HardStateAnswer, LogAnswer, MetricsAnswer, ReplyAnswer, RunAnswer, SettingsAnswer,
-    StatusAnswer, ViolationAnswer,
-};
+use answers::{HardStateAnswer, LogAnswer, MetricsAnswer, ReplyAnswer, RunAnswer, SettingsAnswer, StatusAnswer, ViolationAnswer};
 use api::reads;
 
 fn status(answer: &[u8], a: StatusAnswer) -> bool {

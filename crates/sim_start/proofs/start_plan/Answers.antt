@@ -1,4 +1,4 @@
--- Made by tools/uniform from proofs.txt, not by hand: ea919eb1c196ac4c
+-- Made by tools/uniform from proofs.txt, not by hand: eb7b951a2c5edf37
 use Rattle.sim_start.specs.Laws.{plan_judged, plan_limits, plan_sum, plan_short, plan_together, plan_full, plan_spread}
 use borrow.Author.Rules.{rules}
 use Rattle.sim_start.proofs.start_plan.Goals as goal
@@ -6,8 +6,8 @@ use Rattle.sim_start.proofs.start_plan.Goals as goal
 pub judge-requires : goal.judge-requires
 judge-requires c = search (plan_judged, plan_limits, plan_sum, plan_short, plan_together, plan_full, plan_spread, rules)
 
-pub number-judged-requires : goal.number-judged-requires
-number-judged-requires c = search (plan_judged, plan_limits, plan_sum, plan_short, plan_together, plan_full, plan_spread, rules)
+pub answer_number-judged-requires : goal.answer_number-judged-requires
+answer_number-judged-requires c = search (plan_judged, plan_limits, plan_sum, plan_short, plan_together, plan_full, plan_spread, rules)
 
 pub returns-then-judged-gt0 : goal.returns-then-judged-gt0
 returns-then-judged-gt0 c = search (plan_judged, plan_limits, plan_sum, plan_short, plan_together, plan_full, plan_spread, rules)
