@@ -1,6 +1,5 @@
 -- The numbers of every answer, as C gets them: of a refusal, and of what a call's definition gives. Assumes nothing.
-use Rattle.std.specs.Prelude.{Bool, true, false, List, [], ◌∷◌, ◌++◌, ℕ, ◌+◌, ◌-◌, length, get_or}
-use Rattle.std.proofs.Math.Option.{Option, none, some}
+use Rattle.std.specs.Prelude.{Bool, true, false, List, [], ◌∷◌, ◌++◌, ℕ, ◌+◌, ◌-◌, length, get_or, Option, None, Some}
 use Rattle.units.specs.Types.{Payload, noop, command, Entry}
 pub use Rattle.units.specs.Types.{node_flag as nodePresent, node_number as nodeId}
 pub use Rattle.layout.specs.Payload.{body_of as commandBytes}
@@ -11,8 +10,6 @@ use Rattle.protocol.specs.declared.Status.{Status}
 use Rattle.metrics.specs.declared.Counts.{Counts}
 use Rattle.storage.specs.declared.HardState.{HardState}
 use Rattle.checks.specs.Checks.{Violation, check_number}
-use Rattle.leader.specs.declared.LeaderOption.{LeaderOption}
-use Rattle.leader.specs.declared.LeaderOption.TheVariants as led
 use Rattle.checks_durability.specs.declared.replies.Reply.{Reply}
 use Rattle.model.specs.State.{Confirmation, Input, start_input, message_input, timer_input, propose_input, confirm_input, Phase, closed, writing, sending, id_of}
 use Rattle.model.specs.Simulation.{Opening, no_input, open_start, open_message, open_timer, open_proposal, open_confirmation}
@@ -39,6 +36,7 @@ use Rattle.answers.specs.declared.ConfirmationAnswer.{ConfirmationAnswer}
 use Rattle.answers.specs.declared.ViolationAnswer.{ViolationAnswer}
 use Rattle.answers.specs.declared.RunAnswer.{RunAnswer}
 use Rattle.answers.specs.declared.SettingsAnswer.{SettingsAnswer}
+use Rattle.leader.specs.declared.Leading.{Leading}
 
 -- ---- small values
 
@@ -123,8 +121,8 @@ status_no refusal = record { refusal = refusal; running = 0; role = 0; term = 0;
 
 -- A server's status: it is not running where there is none.
 abbrev pub status_yes : Option Status → StatusAnswer
-status_yes none = status_no 0
-status_yes (some s) = record {
+status_yes None = status_no 0
+status_yes (Some s) = record {
   refusal = 0;
   running = 1;
   role = role_number s.role;
@@ -156,17 +154,17 @@ entry_no refusal = record { refusal = refusal; present = 0; term = 0; kind = 0; 
 
 -- An entry of a log, or none.
 abbrev pub entry_yes : Option Entry → EntryAnswer
-entry_yes none = entry_no 0
-entry_yes (some e) = record { refusal = 0; present = 1; term = e.term.0; kind = payload_kind e.payload; length = length (commandBytes e.payload) }
+entry_yes None = entry_no 0
+entry_yes (Some e) = record { refusal = 0; present = 1; term = e.term.0; kind = payload_kind e.payload; length = length (commandBytes e.payload) }
 
 -- The leader of the highest term, refused.
 abbrev pub leader_no : ℕ → LeaderAnswer
 leader_no refusal = record { refusal = refusal; present = 0; server = 0; term = 0 }
 
 -- The leader of the highest term, or none.
-abbrev pub leader_yes : LeaderOption → LeaderAnswer
-leader_yes led.None = leader_no 0
-leader_yes (led.Some id term) = record { refusal = 0; present = 1; server = id.0; term = term.0 }
+abbrev pub leader_yes : Option Leading → LeaderAnswer
+leader_yes None = leader_no 0
+leader_yes (Some l) = record { refusal = 0; present = 1; server = l.id.0; term = l.term.0 }
 
 -- The highest index that a server has applied, refused.
 abbrev pub applied_no : ℕ → AppliedAnswer
@@ -182,8 +180,8 @@ applied_entry_no refusal = record { refusal = refusal; present = 0; kind = 0; le
 
 -- The first payload that any server applied at an index, or none.
 abbrev pub applied_entry_yes : Option Payload → AppliedEntryAnswer
-applied_entry_yes none = applied_entry_no 0
-applied_entry_yes (some p) = record { refusal = 0; present = 1; kind = payload_kind p; length = length (commandBytes p) }
+applied_entry_yes None = applied_entry_no 0
+applied_entry_yes (Some p) = record { refusal = 0; present = 1; kind = payload_kind p; length = length (commandBytes p) }
 
 -- The counters, refused.
 abbrev pub metrics_no : ℕ → MetricsAnswer
@@ -231,8 +229,8 @@ reply_no refusal = record { refusal = refusal; present = 0; sent = 0; received =
 
 -- A client's reply, or none.
 abbrev pub reply_yes : Option Reply → ReplyAnswer
-reply_yes none = reply_no 0
-reply_yes (some r) = record { refusal = 0; present = 1; sent = r.sent.0; received = r.received.0; index = r.index.0; client = r.client; sequence = r.seq }
+reply_yes None = reply_no 0
+reply_yes (Some r) = record { refusal = 0; present = 1; sent = r.sent.0; received = r.received.0; index = r.index.0; client = r.client; sequence = r.seq }
 
 -- A confirmation, refused.
 abbrev pub confirmation_no : ℕ → ConfirmationAnswer
@@ -240,18 +238,18 @@ confirmation_no refusal = record { refusal = refusal; present = 0; request = 0; 
 
 -- Whether there is a read index: of leadership that was lost there is none.
 abbrev pub read_index_flag : Option LogIndex → ℕ
-read_index_flag none = 0
-read_index_flag (some index) = 1
+read_index_flag None = 0
+read_index_flag (Some index) = 1
 
 -- The read index, or 0.
 abbrev pub read_index_number : Option LogIndex → ℕ
-read_index_number none = 0
-read_index_number (some index) = index.0
+read_index_number None = 0
+read_index_number (Some index) = index.0
 
 -- A confirmation, or none.
 abbrev pub confirmation_yes : Option Confirmation → ConfirmationAnswer
-confirmation_yes none = confirmation_no 0
-confirmation_yes (some c) = record {
+confirmation_yes None = confirmation_no 0
+confirmation_yes (Some c) = record {
   refusal = 0;
   present = 1;
   request = c.request.0;
@@ -265,8 +263,8 @@ violation_no refusal = record { refusal = refusal; present = 0; time = 0; check 
 
 -- A violation, with five places for its numbers, or none.
 abbrev pub violation_yes : Option Violation → ViolationAnswer
-violation_yes none = violation_no 0
-violation_yes (some v) =
+violation_yes None = violation_no 0
+violation_yes (Some v) =
     let d = v.detail in
     record {
       refusal = 0;

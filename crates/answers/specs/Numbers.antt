@@ -1,6 +1,5 @@
 -- An answer as a list of numbers, in the order of its struct, and the bytes that its call writes to the lent buffer. Assumes nothing.
-use Rattle.std.specs.Prelude.{List, [], ◌∷◌, ◌++◌, ℕ}
-use Rattle.std.proofs.Math.Option.{Option, none, some}
+use Rattle.std.specs.Prelude.{List, [], ◌∷◌, ◌++◌, ℕ, Option, None, Some}
 use Rattle.std.proofs.lemmas.List.Edits.{sets}
 use Rattle.units.specs.Types.{Payload, Entry}
 use Rattle.model.specs.Simulation.{Opening, no_input, open_start, open_message, open_timer, open_proposal, open_confirmation}
@@ -124,13 +123,13 @@ input_bytes (open_confirmation server request) = []
 
 -- The bytes of an entry's command.
 abbrev pub entry_bytes : Option Entry → List ℕ
-entry_bytes none = []
-entry_bytes (some e) = commandBytes e.payload
+entry_bytes None = []
+entry_bytes (Some e) = commandBytes e.payload
 
 -- The bytes of an applied command.
 abbrev pub applied_bytes : Option Payload → List ℕ
-applied_bytes none = []
-applied_bytes (some p) = commandBytes p
+applied_bytes None = []
+applied_bytes (Some p) = commandBytes p
 
 -- The bytes of what a read gave: those of a command.
 unfoldable pub reading_bytes : Reading → List ℕ

@@ -40,7 +40,7 @@ pub fn timer_input(server: NodeId, timer: Timer) -> InputNumbers
     InputNumbers {
         kind: 3,
         server: server.0,
-        first: timer.number(),
+        first: u64::from(timer),
         second: 0,
         third: 0,
     }

@@ -1,6 +1,8 @@
 -- What C gives as numbers, and what the calls without an area answer. Assumes nothing.
-use Rattle.std.specs.Prelude.{◌≡◌, List, [], ◌∷◌, ℕ, ◌/◌, ◌^◌, leb, ltb, eqb, length, get_or}
+use Rattle.std.specs.Prelude.{◌≡◌, List, [], ◌∷◌, ℕ, ◌/◌, ◌^◌, leb, ltb, eqb, length, get_or, Result, Ok, Err}
 use Rattle.laws.specs.Bools.{pick}
+use Rattle.units.specs.Refusals.{refusal_number}
+use Rattle.units.specs.declared.refusal.Refusal.{Refusal}
 use Rattle.seeds.specs.Seeds.{stream_seed}
 use Rattle.seeds.specs.declared.Stream.{Stream}
 use Rattle.seeds.specs.declared.Stream.TheVariants as stream
@@ -11,8 +13,7 @@ use Rattle.rng.specs.declared.Rng.{Rng}
 use Rattle.faults_chaos.specs.declared.ChaosConfig.{ChaosConfig}
 use Rattle.faults_chaos.specs.Schedule.{Chaos, chaos_schedule}
 use Rattle.faults_chaos.specs.Answers.{ids_of}
-use Rattle.faults_schedule.specs.declared.Scheduled.{Scheduled}
-use Rattle.faults_schedule.specs.declared.Scheduled.TheVariants as scheduled
+use Rattle.faults_schedule.specs.declared.Made.{Made}
 use Rattle.faults_schedule.specs.Schedules.{answer_of, list_after, generator_after}
 use Rattle.api.specs.declared.settings.SettingsNumbers.{SettingsNumbers}
 use Rattle.api.specs.declared.settings.LimitsNumbers.{LimitsNumbers}
@@ -86,9 +87,9 @@ chaos_given n = record {
 }
 
 -- A schedule's answer in numbers, with the generator after it.
-unfoldable pub schedule_told : Scheduled → Rng → ScheduleAnswer
-schedule_told (scheduled.Refused n) next = record { refusal = n; count = 0; generator = 0 }
-schedule_told (scheduled.Made count draws) next = record { refusal = 0; count = count; generator = next.state }
+unfoldable pub schedule_told : Result Made Refusal → Rng → ScheduleAnswer
+schedule_told (Err refusal) next = record { refusal = refusal_number refusal; count = 0; generator = 0 }
+schedule_told (Ok made) next = record { refusal = 0; count = made.count; generator = next.state }
 
 -- The schedule of these numbers, drawn for the servers into a list of so many bytes.
 unfoldable pub schedule_given : List ℕ → ChaosNumbers → ℕ → ℕ → Chaos

@@ -1,5 +1,5 @@
 -- What the proofs of the calls without an area cite. Assumes nothing.
-use Rattle.std.specs.Prelude.{◌≡◌, Bool, true, false, not, List, [], ◌∷◌, ℕ, zero, suc, ◌/◌, ◌^◌, ◌≤◌, ◌<◌, leb, ltb, eqb}
+use Rattle.std.specs.Prelude.{◌≡◌, Bool, true, false, not, List, [], ◌∷◌, ℕ, zero, suc, ◌/◌, ◌^◌, ◌≤◌, ◌<◌, leb, ltb, eqb, Result, Ok, Err}
 use Rattle.std.proofs.Math.Path.{refl, ap}
 use Rattle.std.proofs.Common.{sym, ap₂, ◌∙◌, arith}
 use Rattle.std.proofs.Math.ListN.{length}
@@ -7,6 +7,8 @@ use borrow.Author.Tests.{le-leb, lt-leb, lt-ltb, le-ltb}
 use Rattle.laws.specs.Bools.{pick, ◌and◌}
 use Rattle.laws.proofs.BoolLaws.{and_both}
 use Rattle.laws.specs.Decides.{false_true}
+use Rattle.units.specs.Refusals.{refusal_number}
+use Rattle.units.specs.declared.refusal.Refusal.{Refusal}
 use Rattle.seeds.specs.Seeds.{stream_seed}
 use Rattle.seeds.specs.declared.Stream.{Stream}
 use Rattle.seeds.specs.declared.Stream.TheVariants as stream
@@ -18,8 +20,7 @@ use Rattle.rng.specs.declared.Rng.{Rng}
 use Rattle.faults_chaos.specs.declared.ChaosConfig.{ChaosConfig}
 use Rattle.faults_chaos.specs.Schedule.{Chaos, chaos_schedule}
 use Rattle.faults_chaos.specs.Answers.{ids_of}
-use Rattle.faults_schedule.specs.declared.Scheduled.{Scheduled}
-use Rattle.faults_schedule.specs.declared.Scheduled.TheVariants as scheduled
+use Rattle.faults_schedule.specs.declared.Made.{Made}
 use Rattle.faults_schedule.specs.Schedules.{Schedules, answer_of, list_after, generator_after}
 use Rattle.model.specs.Calls.{start}
 use Rattle.state.specs.Call.{starting}
@@ -117,15 +118,17 @@ seed_given seed n server incarnation x r l k ex er =
 
 -- ---- a schedule
 
-pub told_refused : (r : Scheduled) (next : Rng) (n : ℕ) → r ≡ scheduled.Refused n → record { refusal = n; count = 0; generator = 0 } ≡ schedule_told r next
+pub told_refused : (r : Result Made Refusal) (next : Rng) (refusal : Refusal) (n : ℕ) → r ≡ Err refusal → n ≡ refusal_number refusal
+    → record { refusal = n; count = 0; generator = 0 } ≡ schedule_told r next
 unfolding schedule_told
-told_refused r next n e = rw e refl
+told_refused r next refusal n e k = rw (e, k) refl
 
-pub told_made : (r : Scheduled) (next : Rng) (count draws : ℕ) → r ≡ scheduled.Made count draws → record { refusal = 0; count = count; generator = next.state } ≡ schedule_told r next
+pub told_made : (r : Result Made Refusal) (next : Rng) (made : Made) → r ≡ Ok made
+    → record { refusal = 0; count = made.count; generator = next.state } ≡ schedule_told r next
 unfolding schedule_told
-told_made r next count draws e = rw e refl
+told_made r next made e = rw e refl
 
-pub schedule_drawn : (servers : List ℕ) (n : ChaosNumbers) (generator : ℕ) (c : ChaosConfig) (g g' : Rng) (b b' : List ℕ) (m : Scheduled) (r : ScheduleAnswer)
+pub schedule_drawn : (servers : List ℕ) (n : ChaosNumbers) (generator : ℕ) (c : ChaosConfig) (g g' : Rng) (b b' : List ℕ) (m : Result Made Refusal) (r : ScheduleAnswer)
     → c ≡ chaos_given n → g ≡ record { state = generator } → Schedules (chaos_schedule (ids_of servers) c (length b / 32) g) m b b' g g' → r ≡ schedule_told m g'
     → ScheduleDrawn servers n generator r b b'
 unfolding schedule_given

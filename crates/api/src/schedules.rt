@@ -5,9 +5,10 @@ ghost use Rattle.api.specs.Given.{length_of, stream_of, seed_of, chaos_given, sc
 use crate::settings;
 use crate::settings::LimitsNumbers;
 use faults_chaos::ChaosConfig;
-use faults_schedule::Scheduled;
+use faults_schedule::Made;
 use rng::Rng;
 use seeds::Stream;
+use units::refusal::Refusal;
 use units::{Duration, NodeId, SimTime};
 
 // The length of an area in bytes.
@@ -127,18 +128,18 @@ fn chaos_given(n: ChaosNumbers) -> ChaosConfig
 }
 
 // A schedule's answer in numbers.
-fn schedule_told(r: Scheduled, next: Rng) -> ScheduleAnswer
+fn schedule_told(r: Result<Made, Refusal>, next: Rng) -> ScheduleAnswer
     ensures { result ≡ schedule_told r next }
 {
     match r {
-        Scheduled::Refused(refusal) => ScheduleAnswer {
-            refusal,
+        Err(refusal) => ScheduleAnswer {
+            refusal: u64::from(refusal),
             count: 0,
             generator: 0,
         },
-        Scheduled::Made { count, draws } => ScheduleAnswer {
+        Ok(made) => ScheduleAnswer {
             refusal: 0,
-            count,
+            count: made.count,
             generator: next.state,
         },
     }
@@ -154,7 +155,7 @@ pub fn sim_chaos_schedule(
     ensures { ScheduleDrawn servers.now chaos generator result list.old list.new }
 {
     let config = chaos_given(chaos);
-    let drawn = faults_schedule::drawn_schedule(servers, config, list, Rng::new(generator));
-    let value = drawn.value;
-    schedule_told(value, drawn.next)
+    let mut rng = Rng::new(generator);
+    let made = faults_schedule::chaos_schedule(servers, config, list, &mut rng);
+    schedule_told(made, rng)
 }

@@ -6,9 +6,8 @@ use crate::{accepted, report};
 use layout::marked::Kind;
 use protocol::{Role, Status};
 use state::Capacity;
-use state_records::{PayloadOption, ViolationOption};
 use std::io;
-use units::{LogIndex, NodeId, NodeOption, SimTime, Term};
+use units::{LogIndex, NodeId, PayloadRef, SimTime, Term};
 
 // The first payload applied at index 1, in order.
 fn applied(area: &mut [u8]) -> bool {
@@ -33,7 +32,9 @@ fn first_applied(area: &mut [u8], f: Capacity) -> bool
     requires le_servers { 1 ≤ f.servers }
     requires le_payload { 3 ≤ f.limits.payload }
 {
-    let asked = state_asks::apply::apply_asked(area, f, 0, LogIndex(1), 1, b"abc");
+    let Ok(asked) = state_asks::apply::apply_asked(area, f, 0, LogIndex(1), 1, b"abc") else {
+        return false;
+    };
     let next = asked.next;
     let expected = state_asks::apply::next_apply_of(area, f, 0);
     state_checks::acts::on_apply_act(
@@ -63,8 +64,8 @@ fn applied_read(area: &[u8]) -> bool {
     }
     let mut buffer = [0u8; 256];
     let there = match state_records::read_applied(area, f, LogIndex(1), &mut buffer) {
-        PayloadOption::None => false,
-        PayloadOption::Some(kind) => match kind {
+        None => false,
+        Some(kind) => match kind {
             Kind::Noop => false,
             Kind::Command(n) => n == 3,
         },
@@ -95,7 +96,9 @@ fn other_applied(area: &mut [u8], f: Capacity) -> bool
     requires le_servers { 2 ≤ f.servers }
     requires le_payload { 3 ≤ f.limits.payload }
 {
-    let asked = state_asks::apply::apply_asked(area, f, 1, LogIndex(1), 1, b"xyz");
+    let Ok(asked) = state_asks::apply::apply_asked(area, f, 1, LogIndex(1), 1, b"xyz") else {
+        return false;
+    };
     let both = asked.late & asked.other & !asked.next;
     let expected = state_asks::apply::next_apply_of(area, f, 1);
     state_checks::acts::on_apply_act(
@@ -120,8 +123,8 @@ fn violation_read(area: &[u8]) -> bool {
         return false;
     }
     match state_records::violation_of(area, f, 1) {
-        ViolationOption::None => false,
-        ViolationOption::Some(v) => v.time.0 == 8,
+        None => false,
+        Some(v) => v.time.0 == 8,
     }
 }
 
@@ -138,7 +141,7 @@ fn status_checked(area: &mut [u8]) -> bool {
     let status = Status {
         role: Role::Leader,
         term: Term(4),
-        leader: NodeOption::None,
+        leader: None,
         commit_index: LogIndex(0),
     };
     let asked = state_asks::status::status_asked(area, f, 1, status);
@@ -170,7 +173,7 @@ fn put_seen(area: &mut [u8], f: Capacity) -> bool
     requires le_servers { 1 ≤ f.servers }
     requires bound { 1 ≤ f.limits.log_indexes }
 {
-    let put = state_disk::write_put(area, f, 0, LogIndex(1), Term(4), 0, b"");
+    let put = state_disk::write_put(area, f, 0, LogIndex(1), Term(4), PayloadRef::Noop);
     let all = state_asks::writes::writes_asked(area, f, 0);
     let index = state_asks::writes::written_index(area, f, 0, 0);
     let asked = state_asks::writes::write_asked(area, f, 0, index);
@@ -191,7 +194,7 @@ fn matching_asked(area: &mut [u8]) -> bool {
     let asked = state_asks::matching::matching_asked(area, f);
     let found = state_asks::matching::mismatch_of(area, f, 0, 1);
     state_checks::acts::matching_act(area, f, SimTime(9), NodeId(1), NodeId(2), found);
-    (asked.code == 0) & (asked.reports == 0) & accepted(area)
+    matches!(asked, Ok(0)) & accepted(area)
 }
 
 // Payloads applied.

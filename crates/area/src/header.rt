@@ -87,9 +87,7 @@ fn metrics_set(area: &mut [u8]) -> bool {
         return false;
     }
     let m = state_header::metrics_of(area, f);
-    let synced = m.record_sync(21);
-    let counted = synced.metrics;
-    state_header::set_metrics(area, f, counted);
+    state_header::set_metrics(area, f, m.record_sync(21).unwrap_or(m));
     let after = state_header::metrics_of(area, f);
     (after.fsyncs == 1) & (after.storage_bytes == 21) & accepted(area)
 }

@@ -4,12 +4,12 @@ ghost use Rattle.state.specs.Changes.{Inside};
 
 use crate::{accepted, report};
 use client::ClientKey;
+use leader::Leading;
 use protocol::{Role, Status};
-use raft_log::Place;
-use state::{Capacity, ServerState, StatusOption};
+use state::{Capacity, ServerState};
 use std::io;
 use storage::HardState;
-use units::{LogIndex, NodeId, NodeOption, Term, TermOption};
+use units::{LogIndex, NodeId, PayloadRef, Term};
 
 // The state of the second server: it leads term 3.
 fn server_set(area: &mut [u8]) -> bool {
@@ -21,10 +21,10 @@ fn server_set(area: &mut [u8]) -> bool {
     if f.servers < 2 {
         return false;
     }
-    let status = StatusOption::Some(Status {
+    let status = Some(Status {
         role: Role::Leader,
         term: Term(3),
-        leader: NodeOption::None,
+        leader: None,
         commit_index: LogIndex(0),
     });
     let x = ServerState {
@@ -35,7 +35,7 @@ fn server_set(area: &mut [u8]) -> bool {
         crash_on_next_input: true,
         next_apply: 2,
         pending: 0,
-        leading: TermOption::Some(Term(3)),
+        leading: Some(Term(3)),
     };
     state_server::set_server(area, f, 1, x);
     let after = state_server::server_of(area, f, 1);
@@ -51,8 +51,8 @@ fn leader_read(area: &[u8]) -> bool {
     }
     let leader = state_server::leader_of(area, f);
     match leader {
-        leader::LeaderOption::None => false,
-        leader::LeaderOption::Some { id, term } => (id.0 == 2) & (term.0 == 3),
+        None => false,
+        Some(Leading { id, term }) => (id.0 == 2) & (term.0 == 3),
     }
 }
 
@@ -131,10 +131,11 @@ fn writes_made(area: &mut [u8], f: Capacity) -> bool
 {
     let state = HardState {
         term: Term(3),
-        voted_for: NodeOption::Some(NodeId(2)),
+        voted_for: Some(NodeId(2)),
     };
     let first = state_disk::write_hard_state(area, f, 1, state);
-    let second = state_disk::write_put(area, f, 1, LogIndex(2), Term(3), 1, b"abc");
+    let command = PayloadRef::Command(b"abc");
+    let second = state_disk::write_put(area, f, 1, LogIndex(2), Term(3), command);
     let third = state_disk::write_truncate(area, f, 1, LogIndex(1));
     (first == 0) & (second == 0) & (third == 10) & accepted(area)
 }
@@ -156,11 +157,7 @@ fn entry_read(area: &[u8]) -> bool {
     let mut buffer = [0u8; 256];
     let place = state_disk::read_entry(area, f, 1, LogIndex(2), &mut buffer);
     let numbers = state_disk::log_numbers(area, f, 1);
-    let there = match place {
-        Place::None => false,
-        Place::Noop { term: _ } => false,
-        Place::Command { term, length } => (term.0 == 3) & (length == 3),
-    };
+    let there = place.is_some_and(|entry| entry.term == Term(3) && entry.payload.length() == 3);
     there & (buffer[1] == 98) & (numbers.gaps == 1) & (numbers.last.0 == 2)
 }
 

@@ -4,13 +4,12 @@ ghost use Rattle.state.specs.Changes.{Inside};
 
 use crate::{accepted, report};
 use checks_durability::replies::Reply;
-use clients::confirmations::{Confirmation, IndexOption};
-use clients::{Client, OutstandingOption};
+use clients::confirmations::Confirmation;
+use clients::{Client, Outstanding};
 use protocol::RequestId;
 use queue::Event;
+use queue::table::Earliest;
 use state::Capacity;
-use state_queue::NextEvent;
-use state_records::{ConfirmationOption, ReplyOption};
 use std::io;
 use units::{LogIndex, NodeId, SimTime};
 
@@ -46,10 +45,10 @@ fn two_pushed(area: &mut [u8], f: Capacity) -> bool
 }
 
 // Whether the first event is at a time, with a message of so many bytes.
-fn first_is(next: NextEvent, time: u64, length: u64) -> bool {
+fn first_is(next: Option<Earliest>, time: u64, length: u64) -> bool {
     match next {
-        NextEvent::None => false,
-        NextEvent::Some(e) => (e.time.0 == time) & (e.length == length),
+        None => false,
+        Some(e) => (e.time.0 == time) & (e.length == length),
     }
 }
 
@@ -94,10 +93,10 @@ fn client_set(area: &mut [u8]) -> bool {
     if f.clients < 1 {
         return false;
     }
-    let outstanding = OutstandingOption::Some {
+    let outstanding = Some(Outstanding {
         seq: 0,
         first_sent: SimTime(7),
-    };
+    });
     let waiting = Client {
         target: 1,
         next_seq: 1,
@@ -125,12 +124,12 @@ fn reply_appended(area: &mut [u8]) -> bool {
     };
     state_records::append_reply(area, f, reply);
     let there = match state_records::reply_of(area, f, 0) {
-        ReplyOption::None => false,
-        ReplyOption::Some(r) => r.received.0 == 8,
+        None => false,
+        Some(r) => r.received.0 == 8,
     };
     let behind = match state_records::reply_of(area, f, 1) {
-        ReplyOption::None => true,
-        ReplyOption::Some(_) => false,
+        None => true,
+        Some(_) => false,
     };
     (state_records::reply_count(area, f) == 1) & there & behind & accepted(area)
 }
@@ -144,12 +143,12 @@ fn confirmation_appended(area: &mut [u8]) -> bool {
     }
     let confirmed = Confirmation {
         request: RequestId(11),
-        read_index: IndexOption::Some(LogIndex(2)),
+        read_index: Some(LogIndex(2)),
     };
     state_records::append_confirmation(area, f, confirmed);
     let there = match state_records::confirmation_of(area, f, 0) {
-        ConfirmationOption::None => false,
-        ConfirmationOption::Some(c) => c.request.0 == 11,
+        None => false,
+        Some(c) => c.request.0 == 11,
     };
     (state_records::confirmation_count(area, f) == 1) & there & accepted(area)
 }

@@ -1,10 +1,9 @@
 -- The outcome of every output is fine. Assumes nothing.
-use Rattle.std.specs.Prelude.{◌≡◌, ℕ, ◌^◌, length}
+use Rattle.std.specs.Prelude.{◌≡◌, ℕ, ◌^◌, length, None, Some}
 use Rattle.std.proofs.Math.Path.{refl}
 use Rattle.std.proofs.Common.{◌∙◌}
 use mathlib.Core.List.Memᴰ
 use mathlib.Core.List.{List}
-use Rattle.std.proofs.Math.Option.{none, some}
 use Rattle.std.proofs.Math.Dec.{leb, ltb}
 use borrow.Author.Tests.{leb-true}
 use Rattle.laws.specs.Bools.{◌and◌, and_left}
@@ -72,10 +71,10 @@ module _ (b : Book) (s : State) (i : Inv b s.phase s) where
   unfolding model.output_confirmed confirm
   fine_output_confirmed request read_index =
       let o = calls.confirmed request read_index in
-      fine_output o (λ slot e h left. left _ refl (held_confirm (give b o) nowhere slot s (holds_more h _) request (some read_index) (Memᴰ.head (rw e))))
+      fine_output o (λ slot e h left. left _ refl (held_confirm (give b o) nowhere slot s (holds_more h _) request (Some read_index) (Memᴰ.head (rw e))))
 
   pub fine_output_lost : (request : RequestId) → Fine act b (output (calls.lost request)) (model.output_lost request s)
   unfolding model.output_lost confirm
   fine_output_lost request =
       let o = calls.lost request in
-      fine_output o (λ slot e h left. left _ refl (held_confirm (give b o) nowhere slot s (holds_more h _) request none (Memᴰ.head (rw e))))
+      fine_output o (λ slot e h left. left _ refl (held_confirm (give b o) nowhere slot s (holds_more h _) request None (Memᴰ.head (rw e))))

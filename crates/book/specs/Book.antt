@@ -1,18 +1,14 @@
 -- The book of demand 3 (document 01): it is told each call's arguments and, of the answer, whether the call was accepted, whose input it opened, and whether it synced
 -- or cut. From this it says what a server that starts must find, and what may be handed back. Assumes nothing.
-use Rattle.std.specs.Prelude.{Bool, true, false, ◌≡◌, ℕ, zero, suc, ◌+◌, leb, eqb}
+use Rattle.std.specs.Prelude.{Bool, true, false, ◌≡◌, ℕ, zero, suc, ◌+◌, leb, eqb, Option, None, Some}
 use mathlib.Core.List.{List, [], ◌∷◌, ◌++◌, Memᴰ}
-use Rattle.std.proofs.Math.Option.{Option, none, some}
 use Rattle.laws.specs.Bools.{pick}
 use Rattle.laws.specs.Lists.{is_some}
 use Rattle.units.specs.Types.{Payload, noop, command, Entry}
 use Rattle.units.specs.declared.NodeId.{NodeId}
-use Rattle.units.specs.declared.NodeOption.{NodeOption}
-use Rattle.units.specs.declared.NodeOption.TheVariants.{None, Some}
 use Rattle.units.specs.declared.LogIndex.{LogIndex}
 use Rattle.units.specs.declared.Duration.{Duration}
 use Rattle.client.specs.Key.{decode}
-use Rattle.client.specs.declared.Decoded.TheVariants.{Key}
 use Rattle.protocol.specs.declared.Timer.{Timer}
 use Rattle.protocol.specs.declared.Timer.TheVariants.{Election, Heartbeat}
 use Rattle.protocol.specs.declared.RequestId.{RequestId}
@@ -32,7 +28,7 @@ use Rattle.claims.specs.Claim.{accepted}
 -- ---- arguments, as document 01 reads them
 
 -- A vote that may be absent: 1 says that there is one.
-abbrev pub vote_of : ℕ → ℕ → NodeOption
+abbrev pub vote_of : ℕ → ℕ → Option NodeId
 vote_of present id = pick (eqb present 1) (Some (record { 0 = id })) None
 
 -- A payload: kind 0 is a noop, kind 1 a command of the bytes.
@@ -52,13 +48,13 @@ pub record Found : Type 0 where
 
 -- Term 0, no vote, no entry.
 abbrev pub empty : Found
-empty = record { hard_state = record { term = record { 0 = 0 }; voted_for = None }; log = λ index. none }
+empty = record { hard_state = record { term = record { 0 = 0 }; voted_for = None }; log = λ index. None }
 
 -- One write done: hard state sets term and vote, put sets its index, truncate removes its index and all above.
 abbrev pub do_write : Found → Write → Found
 do_write d (storage.write_hard_state h) = record { hard_state = h; log = d.log }
-do_write d (storage.write_put index e) = record { hard_state = d.hard_state; log = λ i. pick (eqb i index.0) (some e) (d.log i) }
-do_write d (storage.write_truncate from) = record { hard_state = d.hard_state; log = λ i. pick (leb from.0 i) none (d.log i) }
+do_write d (storage.write_put index e) = record { hard_state = d.hard_state; log = λ i. pick (eqb i index.0) (Some e) (d.log i) }
+do_write d (storage.write_truncate from) = record { hard_state = d.hard_state; log = λ i. pick (leb from.0 i) None (d.log i) }
 
 -- Writes done in order.
 unfoldable pub do_writes : Found → List Write → Found
@@ -120,8 +116,8 @@ none_open b = record { last_index = b.last_index; finished = b.finished; waiting
 
 -- Whose input was opened; with none opened nothing changes.
 abbrev pub tell_opened : Book → Option NodeId → Book
-tell_opened b none = b
-tell_opened b (some server) = open_input b server
+tell_opened b None = b
+tell_opened b (Some server) = open_input b server
 
 -- A write waits.
 abbrev pub wait : Book → Write → Book
@@ -151,9 +147,9 @@ pub data Ending : Type 0 where
 
 -- A seal that syncs finishes the input; one that cuts strikes it, and the next start may open.
 abbrev pub tell_seal : Book → Option Ending → Option NodeId → Book
-tell_seal b none next = b
-tell_seal b (some by_sync) next = finish_input b
-tell_seal b (some by_cut) next = tell_opened (strike_input b) next
+tell_seal b None next = b
+tell_seal b (Some by_sync) next = finish_input b
+tell_seal b (Some by_cut) next = tell_opened (strike_input b) next
 
 -- The write of a call's arguments.
 abbrev pub write_of : WriteCall → Write
@@ -167,8 +163,8 @@ give_output server (send to message entries) given = sent server (record { 0 = t
 give_output server (set_timer timer duration) given = timer_set server (timer_of timer) duration ∷ given
 give_output server (cancel_timer timer) given = given
 give_output server (apply index kind bytes) given = was_applied server index (payload_of kind bytes) ∷ given
-give_output server (confirmed request read_index) given = answered server request (some read_index) ∷ given
-give_output server (lost request) given = answered server request none ∷ given
+give_output server (confirmed request read_index) given = answered server request (Some read_index) ∷ given
+give_output server (lost request) given = answered server request None ∷ given
 
 -- An output call has handed something over.
 abbrev pub give : Book → OutputCall → Book
@@ -185,12 +181,12 @@ pub record Told : Type 0 where
 
 -- Whose input was opened.
 abbrev pub whose : Opening → Option NodeId
-whose no_input = none
-whose (open_start server incarnation seed) = some server
-whose (open_message server sender entries bytes) = some server
-whose (open_timer server timer) = some server
-whose (open_proposal server client seq) = some server
-whose (open_confirmation server request) = some server
+whose no_input = None
+whose (open_start server incarnation seed) = Some server
+whose (open_message server sender entries bytes) = Some server
+whose (open_timer server timer) = Some server
+whose (open_proposal server client seq) = Some server
+whose (open_confirmation server request) = Some server
 
 -- What a direct call opened.
 abbrev pub asked_opening : Asked → Opening
@@ -215,13 +211,13 @@ ending_of cut = by_cut
 
 -- How an answer sealed, if its call was a seal.
 abbrev pub sealed_by : Answer → Option Ending
-sealed_by (sealed s) = some (ending_of s.sealing)
-sealed_by (no number) = none
-sealed_by acted = none
-sealed_by (opened next) = none
-sealed_by (stepped s) = none
-sealed_by (asked a) = none
-sealed_by (got x) = none
+sealed_by (sealed s) = Some (ending_of s.sealing)
+sealed_by (no number) = None
+sealed_by acted = None
+sealed_by (opened next) = None
+sealed_by (stepped s) = None
+sealed_by (asked a) = None
+sealed_by (got x) = None
 
 -- What the book is told of an answer.
 abbrev pub told_of : Answer → Told
@@ -266,7 +262,7 @@ HandedOver given (open_confirmation server request) = Unit {0}
 pub record KeyApplied (given : List Given) (client seq : ℕ) (index : LogIndex) : Type 0 where
   pub server : NodeId
   pub bytes : List ℕ
-  pub key : decode bytes ≡ Key (record { client = client; seq = seq })
+  pub key : decode bytes ≡ Some (record { client = client; seq = seq })
   pub handed : Memᴰ (was_applied server index (command bytes)) given
 
 -- What the answer of an accepted read must be: (a) what the book says of what the server has written so far; (c) what was handed over, in every field that both carry.
@@ -277,10 +273,10 @@ RightRead b (read_entry server index buffer) a = (e : Option Entry) → a ≡ go
 RightRead b (read_applied server) a =
     (n : ℕ) → a ≡ got (got_applied (suc n)) → (p : Payload) × Memᴰ (was_applied (record { 0 = server }) (record { 0 = suc n }) p) b.given
 RightRead b (read_applied_entry index buffer) a =
-    (p : Payload) → a ≡ got (got_applied_entry (some p)) → (server : NodeId) × Memᴰ (was_applied server (record { 0 = index }) p) b.given
-RightRead b (read_reply place) a = (r : Reply) → a ≡ got (got_reply (some r)) → KeyApplied b.given r.client r.seq r.index
+    (p : Payload) → a ≡ got (got_applied_entry (Some p)) → (server : NodeId) × Memᴰ (was_applied server (record { 0 = index }) p) b.given
+RightRead b (read_reply place) a = (r : Reply) → a ≡ got (got_reply (Some r)) → KeyApplied b.given r.client r.seq r.index
 RightRead b (read_confirmation place) a =
-    (r : Confirmation) → a ≡ got (got_confirmation (some r)) → (server : NodeId) × Memᴰ (answered server r.request r.read_index) b.given
+    (r : Confirmation) → a ≡ got (got_confirmation (Some r)) → (server : NodeId) × Memᴰ (answered server r.request r.read_index) b.given
 RightRead b (read_status server) a = Unit {0}
 RightRead b read_leader a = Unit {0}
 RightRead b read_metrics a = Unit {0}
@@ -301,7 +297,7 @@ Right b (fire_timer server timer) a = b.waiting ≡ []
 Right b (confirm_leadership server request) a = b.waiting ≡ []
 Right b (schedule time kind first second groups) a = opening_of a ≡ no_input
 Right b (write w) a = opening_of a ≡ no_input
-Right b (calls.seal refusal present leader) a = (sealed_by a ≡ some by_cut → ⊥) → opening_of a ≡ no_input
+Right b (calls.seal refusal present leader) a = (sealed_by a ≡ Some by_cut → ⊥) → opening_of a ≡ no_input
 Right b (end role term present leader commit) a = b.waiting ≡ []
 Right b check_log_matching a = opening_of a ≡ no_input
 Right b check_durability a = opening_of a ≡ no_input

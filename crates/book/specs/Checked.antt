@@ -1,7 +1,6 @@
 -- The first payload applied at each index: every check but that of an applied entry leaves them as they are. Assumes nothing.
-use Rattle.std.specs.Prelude.{◌≡◌, refl, Bool, not, ◌&&◌, List, [], ◌∷◌, ℕ, zero, suc, ◌-◌, ltb, eqb, length}
+use Rattle.std.specs.Prelude.{◌≡◌, refl, Bool, not, ◌&&◌, List, [], ◌∷◌, ℕ, zero, suc, ◌-◌, ltb, eqb, length, Option, None, Some}
 use Rattle.std.proofs.Common.{◌∙◌, eqb-true}
-use Rattle.std.proofs.Math.Option.{Option, none, some}
 use Rattle.laws.specs.Bools.{cases}
 use Rattle.laws.specs.Lists.{at}
 use Rattle.laws.specs.Order.{numbers, pairs, lookup}
@@ -14,7 +13,8 @@ use Rattle.units.specs.declared.SimTime.{SimTime}
 use Rattle.protocol.specs.Numbers.{leads}
 use Rattle.protocol.specs.declared.Status.{Status}
 use Rattle.raft_log.specs.Log.{Log, entry_at}
-use Rattle.checks.specs.Checks.{Checker, report, report_if, compare_applied, record_applied, on_apply, Seen, compare_seen, written_entry, on_write, on_writes, compare_leader, first_missing, report_missing, check_leader_completeness, on_status, already_leads, leader_key, seen_key, Mismatch, report_mismatch, log_matching_failure, ServerLog, check_against, check_log_matching, Acknowledged, AppliedUpTo, check_acknowledged, highest_of, check_applied_up_to, check_durability, is_payload}
+use Rattle.checks.specs.declared.Mismatch.{Mismatch}
+use Rattle.checks.specs.Checks.{Checker, report, report_if, compare_applied, record_applied, on_apply, Seen, compare_seen, written_entry, on_write, on_writes, compare_leader, first_missing, report_missing, check_leader_completeness, on_status, already_leads, leader_key, seen_key, report_mismatch, log_matching_failure, ServerLog, check_against, check_log_matching, Acknowledged, AppliedUpTo, check_acknowledged, highest_of, check_applied_up_to, check_durability, is_payload}
 use Rattle.checks.specs.Reports.{applied_if_lem}
 use Rattle.checks.specs.declared.Check.TheVariants.{StateMachineSafety, ApplyOrder, Durability}
 use Rattle.checks.specs.declared.TermLeader.{TermLeader}
@@ -22,12 +22,12 @@ use Rattle.checks.specs.declared.TermLeader.{TermLeader}
 -- ---- written entries
 
 written_applied : (e : Option Entry) (c : Checker) (time : SimTime) (server : NodeId) (index : LogIndex) → (written_entry e c time server index).applied ≡ c.applied
-written_applied none c time server index = refl
-written_applied (some e) c time server index = by (lookup pairs seen_key (index.0, e.term.0) c.entries)
+written_applied None c time server index = refl
+written_applied (Some e) c time server index = by (lookup pairs seen_key (index.0, e.term.0) c.entries)
   where
     by : (first : Option Seen) → (compare_seen first c time server index e).applied ≡ c.applied
-    by none = refl
-    by (some first) = applied_if_lem (not (same_payload first.payload e.payload)) c time _ _
+    by None = refl
+    by (Some first) = applied_if_lem (not (same_payload first.payload e.payload)) c time _ _
 
 pub on_writes_applied : (c : Checker) (time : SimTime) (server : NodeId) (log : Log) (is : List LogIndex) → (on_writes c time server log is).applied ≡ c.applied
 unfolding on_writes on_write
@@ -38,13 +38,13 @@ on_writes_applied c time server log (i ∷ is) =
 -- ---- status
 
 leader_applied : (first : Option TermLeader) (c : Checker) (time : SimTime) (server : NodeId) (term : Term) → (compare_leader first c time server term).applied ≡ c.applied
-leader_applied none c time server term = refl
-leader_applied (some first) c time server term = applied_if_lem (not (eqb first.server.0 server.0)) c time _ _
+leader_applied None c time server term = refl
+leader_applied (Some first) c time server term = applied_if_lem (not (eqb first.server.0 server.0)) c time _ _
 
-missing_applied : (first : Option ℕ) (c : Checker) (time : SimTime) (server : NodeId) (term : Term) → (report_missing first c time server term).applied ≡ c.applied
+missing_applied : (first : Option LogIndex) (c : Checker) (time : SimTime) (server : NodeId) (term : Term) → (report_missing first c time server term).applied ≡ c.applied
 unfolding report
-missing_applied none c time server term = refl
-missing_applied (some index) c time server term = refl
+missing_applied None c time server term = refl
+missing_applied (Some index) c time server term = refl
 
 pub on_status_applied : (wanted : Bool) (c : Checker) (time : SimTime) (server : NodeId) (status : Status) (log : Log) (leading : Option Term)
     → (on_status wanted c time server status log leading).checker.applied ≡ c.applied
@@ -64,8 +64,8 @@ on_status_applied wanted c time server status log leading =
 
 mismatch_applied : (m : Option Mismatch) (c : Checker) (time : SimTime) (x y : NodeId) → (report_mismatch m c time x y).applied ≡ c.applied
 unfolding report
-mismatch_applied none c time x y = refl
-mismatch_applied (some m) c time x y = refl
+mismatch_applied None c time x y = refl
+mismatch_applied (Some m) c time x y = refl
 
 against_applied : (c : Checker) (time : SimTime) (x : ServerLog) (ys : List ServerLog) → (check_against c time x ys).applied ≡ c.applied
 unfolding check_against
@@ -110,11 +110,11 @@ on_apply_applied P c time server index payload expected p h =
   where
     compared : (first : Option Payload) (d : Checker) (place : ℕ) → P place payload → Each P d.applied
         → Each P (compare_applied first d time server place payload).applied
-    compared none d place q k =
+    compared None d place q k =
         cases (eqb place (length d.applied))
         (λ e. rw e (each_snoc P d.applied payload k (rw (eqb-true place (length d.applied) e) at q)))
         (λ e. rw e k)
-    compared (some first) d place q k =
+    compared (Some first) d place q k =
         rw (applied_if_lem (not (same_payload first payload)) d time StateMachineSafety (server.0 ∷ suc place ∷ [])) k
 
     by : (n : ℕ) → ((i : ℕ) → n ≡ suc i → P i payload) → (d : Checker) → Each P d.applied → Each P (record_applied n d time server payload).applied

@@ -1,8 +1,7 @@
 -- A disk and what the book says of it agree, and go on to agree as writes are done. Assumes nothing.
-use Rattle.std.specs.Prelude.{◌≡◌, refl, Bool, true, false, List, [], ◌∷◌, ◌++◌, ℕ, zero, suc, ◌+◌, ◌-◌, ◌≤◌, ◌<◌, leb, eqb, length, get_or, set, take}
+use Rattle.std.specs.Prelude.{◌≡◌, refl, Bool, true, false, List, [], ◌∷◌, ◌++◌, ℕ, zero, suc, ◌+◌, ◌-◌, ◌≤◌, ◌<◌, leb, eqb, length, get_or, set, take, Option, None, Some}
 use Rattle.std.proofs.Common.{sym, ap, ◌∙◌, arith, length-append, length-set, length-take, get_or-set_same, get_or-set_other, take-suc, eqb-true, leb-true, leb-false}
 use Rattle.std.proofs.Math.Path.{fun_ext}
-use Rattle.std.proofs.Math.Option.{Option, none, some}
 use Rattle.std.proofs.Math.Dec.{eqb-zero-suc, eqb-suc-suc}
 use Rattle.std.proofs.lemmas.List.{length-replicate}
 use Rattle.std.proofs.Math.Seq.{take-length}
@@ -30,56 +29,56 @@ InLog last (write_truncate from) = Unit {0}
 -- ---- an entry after a write
 
 entry_put_lem : (log : Log) (index : ℕ) (e : Entry) (i : ℕ) → 1 ≤ index → index ≤ length log
-    → entry_at (put_at log index e) i ≡ pick (eqb i index) (some e) (entry_at log i)
+    → entry_at (put_at log index e) i ≡ pick (eqb i index) (Some e) (entry_at log i)
 unfolding entry_at put_at
 entry_put_lem log zero e i h k = absurd (omega arith)
 entry_put_lem log (suc index) e zero h k = sym (rw eqb-zero-suc)
 entry_put_lem log (suc index) e (suc i) h k = rw eqb-suc-suc (by (eqb i index) refl)
   where
-    by : (t : Bool) → eqb i index ≡ t → get_or (set log index (some e)) i none ≡ pick t (some e) (get_or log i none)
-    by true t = rw (eqb-true i index t) (get_or-set_same log index (some e) none (omega arith))
-    by false t = get_or-set_other log index i (some e) none (eqb-false i index t)
+    by : (t : Bool) → eqb i index ≡ t → get_or (set log index (Some e)) i None ≡ pick t (Some e) (get_or log i None)
+    by true t = rw (eqb-true i index t) (get_or-set_same log index (Some e) None (omega arith))
+    by false t = get_or-set_other log index i (Some e) None (eqb-false i index t)
 
-get_d_empty : (n i : ℕ) → get_or (empty_log n) i none ≡ none
+get_d_empty : (n i : ℕ) → get_or (empty_log n) i None ≡ None
 get_d_empty zero i = refl
 get_d_empty (suc n) zero = refl
 get_d_empty (suc n) (suc i) = get_d_empty n i
 
-kept : (n m : ℕ) (log : Log) (i : ℕ) → i < n → get_or (take n log ++ empty_log m) i none ≡ get_or log i none
+kept : (n m : ℕ) (log : Log) (i : ℕ) → i < n → get_or (take n log ++ empty_log m) i None ≡ get_or log i None
 kept zero m log i h = absurd (omega arith)
 kept (suc n) m [] i h = get_d_empty m i
 kept (suc n) m (x ∷ log) zero h = refl
 kept (suc n) m (x ∷ log) (suc i) h = kept n m log i (omega arith)
 
-removed : (n m : ℕ) (log : Log) (i : ℕ) → n ≤ i → get_or (take n log ++ empty_log m) i none ≡ none
+removed : (n m : ℕ) (log : Log) (i : ℕ) → n ≤ i → get_or (take n log ++ empty_log m) i None ≡ None
 removed zero m log i h = get_d_empty m i
 removed (suc n) m [] i h = get_d_empty m i
 removed (suc n) m (x ∷ log) zero h = absurd (omega arith)
 removed (suc n) m (x ∷ log) (suc i) h = removed n m log i (omega arith)
 
-entry_truncate : (log : Log) (from i : ℕ) → entry_at (truncate_at log from) i ≡ pick (leb from i) none (entry_at log i)
+entry_truncate : (log : Log) (from i : ℕ) → entry_at (truncate_at log from) i ≡ pick (leb from i) None (entry_at log i)
 unfolding entry_at truncate_at
 entry_truncate log from zero = by (leb from zero)
   where
-    by : (t : Bool) → ◌≡◌ {A = Option Entry} none (pick t none none)
+    by : (t : Bool) → ◌≡◌ {A = Option Entry} None (pick t None None)
     by true = refl
     by false = refl
 entry_truncate log from (suc i) = by (leb from (suc i)) refl
   where
-    by : (t : Bool) → leb from (suc i) ≡ t → get_or (take (from - 1) log ++ empty_log (length log - (from - 1))) i none ≡ pick t none (get_or log i none)
+    by : (t : Bool) → leb from (suc i) ≡ t → get_or (take (from - 1) log ++ empty_log (length log - (from - 1))) i None ≡ pick t None (get_or log i None)
     by true t = removed (from - 1) (length log - (from - 1)) log i (omega (arith, leb-true from (suc i) t))
     by false t = kept (from - 1) (length log - (from - 1)) log i (omega (arith, leb-false from (suc i) t))
 
 length_put : (log : Log) (index : ℕ) (e : Entry) → length (put_at log index e) ≡ length log
 unfolding put_at
 length_put log zero e = refl
-length_put log (suc index) e = length-set log index (some e)
+length_put log (suc index) e = length-set log index (Some e)
 
 length_truncate : (log : Log) (from : ℕ) → length (truncate_at log from) ≡ length log
 unfolding truncate_at
 length_truncate log from =
     length-append (take (from - 1) log) (empty_log (length log - (from - 1)))
-    ∙ omega (arith, length-take (from - 1) log, length-replicate {A = Option Entry} (length log - (from - 1)) none)
+    ∙ omega (arith, length-take (from - 1) log, length-replicate {A = Option Entry} (length log - (from - 1)) None)
 
 -- ---- a disk after writes
 
@@ -89,13 +88,13 @@ agrees_write {last} {d} {f} (write_put index e) a i =
     record {
       hard_state = a.hard_state;
       size = length_put d.log index.0 e ∙ a.size;
-      log = λ k. entry_put_lem d.log index.0 e k i.0 (rw a.size i.1) ∙ ap (pick (eqb k index.0) (some e)) (a.log k);
+      log = λ k. entry_put_lem d.log index.0 e k i.0 (rw a.size i.1) ∙ ap (pick (eqb k index.0) (Some e)) (a.log k);
     }
 agrees_write {last} {d} {f} (write_truncate from) a i =
     record {
       hard_state = a.hard_state;
       size = length_truncate d.log from.0 ∙ a.size;
-      log = λ k. entry_truncate d.log from.0 k ∙ ap (pick (leb from.0 k) none) (a.log k);
+      log = λ k. entry_truncate d.log from.0 k ∙ ap (pick (leb from.0 k) None) (a.log k);
     }
 
 pub agrees_writes : {last : ℕ} {d : Disk} {f : Found} (ws : List Write) → Agrees last d f → Each (λ _. InLog last) ws
@@ -106,9 +105,9 @@ agrees_writes {last = last} {d = d} {f = f} (w ∷ ws) a i = agrees_writes {d = 
 
 pub agrees_empty : (last : ℕ) → Agrees last (empty_disk last) empty
 unfolding entry_at
-agrees_empty last = record { hard_state = refl; size = length-replicate last none; log = entry_empty }
+agrees_empty last = record { hard_state = refl; size = length-replicate last None; log = entry_empty }
   where
-    entry_empty : (i : ℕ) → entry_at (empty_log last) i ≡ none
+    entry_empty : (i : ℕ) → entry_at (empty_log last) i ≡ None
     entry_empty zero = refl
     entry_empty (suc i) = get_d_empty last i
 
@@ -123,7 +122,7 @@ count_take : (log : Log) (n : ℕ) → n ≤ length log → count (take n log) �
 unfolding count count_up_to entry_at
 count_take log zero h = refl
 count_take log (suc n) h =
-    ap count (take-suc log n none h) ∙ count_snoc (take n log) (get_or log n none) ∙ ap (λ (m : ℕ). pick (is_some (get_or log n none)) 1 0 + m) (count_take log n (omega arith))
+    ap count (take-suc log n None h) ∙ count_snoc (take n log) (get_or log n None) ∙ ap (λ (m : ℕ). pick (is_some (get_or log n None)) 1 0 + m) (count_take log n (omega arith))
 
 pub agrees_count : {last : ℕ} {d : Disk} {f : Found} → Agrees last d f → count d.log ≡ count_up_to last f.log
 agrees_count {last} {d} {f} a =

@@ -1,9 +1,8 @@
 -- An input's writes, seal, outputs and end keep the invariant. Assumes nothing.
-use Rattle.std.specs.Prelude.{◌≡◌, refl, ℕ, suc, ◌+◌, ◌≤◌, eqb}
+use Rattle.std.specs.Prelude.{◌≡◌, refl, ℕ, suc, ◌+◌, ◌≤◌, eqb, Option, None, Some}
 use Rattle.std.proofs.Common.{sym, ap, arith, eq-eqb, ne_eqb}
 use mathlib.Core.List.Memᴰ
 use mathlib.Core.List.{List, [], ◌∷◌, ◌++◌, Memᴰ}
-use Rattle.std.proofs.Math.Option.{Option}
 use Rattle.laws.specs.Bools.{cases}
 use Rattle.laws.specs.Lists.{is_some}
 use Rattle.laws.specs.Order.{pairs, lookup}
@@ -12,14 +11,11 @@ use Rattle.units.specs.declared.NodeId.{NodeId}
 use Rattle.units.specs.declared.LogIndex.{LogIndex}
 use Rattle.units.specs.declared.Duration.{Duration}
 use Rattle.client.specs.Key.{decode, key_of}
-use Rattle.client.specs.declared.Decoded.{Decoded}
-use Rattle.client.specs.declared.Decoded.TheVariants as decoded
 use Rattle.protocol.specs.declared.Timer.{Timer}
 use Rattle.protocol.specs.declared.Timer.TheVariants.{Election, Heartbeat}
 use Rattle.protocol.specs.declared.RequestId.{RequestId}
 use Rattle.protocol.specs.declared.Status.{Status}
 use Rattle.network.specs.Network as network
-use Rattle.network.specs.declared.Duplicate.TheVariants as duplicate
 use Rattle.network.specs.declared.Route.{Route}
 use Rattle.network.specs.declared.Route.TheVariants.{Dropped, Delivered}
 use Rattle.storage.specs.Storage.{Write, sync, unsynced, written}
@@ -34,6 +30,7 @@ use Rattle.book.specs.Checked.{on_writes_applied, on_status_applied, on_apply_ap
 use Rattle.book.specs.Holds.{Held, nowhere, only, only_at, only_other, holds_push, holds_server, holds_change, holds_confirmation, holds_firsts, holds_applied}
 use Rattle.book.specs.Invariant.{Inv, Moves}
 use Rattle.book.specs.Moves.{held_stop, moves_close}
+use Rattle.client.specs.declared.ClientKey.{ClientKey}
 
 -- writes done after others
 do_writes_append : (f : Found) (ws vs : List Write) → do_writes f (ws ++ vs) ≡ do_writes (do_writes f ws) vs
@@ -102,8 +99,8 @@ module _ (b : Book) (waits : ℕ → List Write) (slot : ℕ) (s : State) (h : H
     where
       by : (r : Route) (t : State) → Held b waits t → Held b waits (push_routed t (id_of slot) to entries message r)
       by Dropped t k = k
-      by (Delivered delay duplicate.None) t k = holds_push k _ _ _ (l, m)
-      by (Delivered delay (duplicate.After second)) t k = holds_push (holds_push k _ _ _ (l, m)) _ _ _ (l, m)
+      by (Delivered delay None) t k = holds_push k _ _ _ (l, m)
+      by (Delivered delay (Some second)) t k = holds_push (holds_push k _ _ _ (l, m)) _ _ _ (l, m)
 
   held_raised : (timer : Timer) → Held b waits (on_server s slot (λ v. raised v timer))
   held_raised Election = holds_server h slot _ (λ v x. x)
@@ -128,9 +125,9 @@ held_reply_for : (b : Book) (waits : ℕ → List Write) (slot : ℕ) (s : State
 held_reply_for b waits slot s index noop m h = h
 held_reply_for b waits slot s index (command bytes) m h = by (decode bytes) refl
   where
-    by : (d : Decoded) → decode bytes ≡ d → Held b waits (reply_to s slot index d)
-    by decoded.None e = h
-    by (decoded.Key k) e =
+    by : (d : Option ClientKey) → decode bytes ≡ d → Held b waits (reply_to s slot index d)
+    by None e = h
+    by (Some k) e =
         cases (is_some (lookup pairs key_of (key_of k) (server_at s slot).pending))
         (λ t. rw t (holds_push (holds_server h slot _ (λ v x. x)) _ _ [] (record { server = id_of slot; bytes = bytes; key = e; handed = m })))
         (λ t. rw t h)
@@ -160,16 +157,16 @@ send_phase s slot to message entries = by (network.route s.network (id_of slot) 
   where
     by : (r : Route) (t : State) → (push_routed t (id_of slot) to entries message r).phase ≡ t.phase
     by Dropped t = refl
-    by (Delivered delay duplicate.None) t = refl
-    by (Delivered delay (duplicate.After second)) t = refl
+    by (Delivered delay None) t = refl
+    by (Delivered delay (Some second)) t = refl
 
 pub apply_phase : (s : State) (slot : ℕ) (index : LogIndex) (payload : Payload) → (apply s slot index payload).phase ≡ s.phase
 unfolding apply
 apply_phase s slot index payload = by payload _
   where
-    decoded_phase : (d : Decoded) (t : State) → (reply_to t slot index d).phase ≡ t.phase
-    decoded_phase decoded.None t = refl
-    decoded_phase (decoded.Key k) t = cases (is_some (lookup pairs key_of (key_of k) (server_at t slot).pending)) (λ e. rw e) (λ e. rw e)
+    decoded_phase : (d : Option ClientKey) (t : State) → (reply_to t slot index d).phase ≡ t.phase
+    decoded_phase None t = refl
+    decoded_phase (Some k) t = cases (is_some (lookup pairs key_of (key_of k) (server_at t slot).pending)) (λ e. rw e) (λ e. rw e)
 
     by : (p : Payload) (t : State) → (reply_for t slot index p).phase ≡ t.phase
     by noop t = refl

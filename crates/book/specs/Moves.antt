@@ -1,5 +1,5 @@
 -- Every function that opens an input or none keeps the invariant, the book being told the opening. Assumes nothing.
-use Rattle.std.specs.Prelude.{◌≡◌, false, not, ◌&&◌, List, [], ltb, length}
+use Rattle.std.specs.Prelude.{◌≡◌, false, not, ◌&&◌, List, [], ltb, length, Option, None, Some}
 use Rattle.std.proofs.Math.Path.{refl}
 use Prim.Native.Nat.{ℕ, zero, suc, ◌-◌}
 use Rattle.std.proofs.Common.{arith}
@@ -17,8 +17,6 @@ use Rattle.faults.specs.declared.Fault.TheVariants.{Crash, CrashDuringNextInput,
 use Rattle.storage.specs.Storage.{Write}
 use Rattle.queue.specs.declared.Event.{Event}
 use Rattle.queue.specs.declared.Event.TheVariants as event
-use Rattle.leader.specs.declared.LeaderOption.{LeaderOption}
-use Rattle.leader.specs.declared.LeaderOption.TheVariants as led
 use Rattle.model.specs.State.{State, Server, new_server, Input, Owed, nothing, construction, healing, closed, writing, server_at, id_of, slot_of}
 use Rattle.model.specs.Fields.{with_crash_on_next_input}
 use Rattle.model.specs.Simulation.{on_server, running, start_server, stop_server, restart_server, construct_from, heal_from, close_input, crash_leader, leader_of, apply_fault, client_arrive, latest, contends, deliver, generation_of, process, new_servers, unstarted, begin}
@@ -28,6 +26,7 @@ use Rattle.book.specs.Handed.{EventGiven}
 use Rattle.book.specs.Holds.{PlaceHolds, Held, nowhere, only, only_none, only_other, holds_push, holds_server, holds_change}
 use Rattle.book.specs.Invariant.{Phased, Inv, Moves, id_slot}
 use Rattle.book.specs.Clients.{held_first_sends, held_spread_starts, held_attempt, held_send, held_redirect, held_timeout, held_reply}
+use Rattle.leader.specs.declared.Leading.{Leading}
 
 -- ---- a server stops
 
@@ -84,9 +83,9 @@ module _ (b : Book) (q : Phased b closed) where
   held_stopped : (s : State) (slot : ℕ) → Held b nowhere s → Held b nowhere (stop_server s slot)
   held_stopped s slot h = held_stop b slot [] s (rw (only_none slot) h)
 
-  held_crash_leader : (s : State) (l : LeaderOption) (downtime : Duration) → Held b nowhere s → Held b nowhere (crash_leader s l downtime)
-  held_crash_leader s led.None downtime h = h
-  held_crash_leader s (led.Some id term) downtime h = holds_push (held_stopped s (slot_of id) h) _ _ [] tt
+  held_crash_leader : (s : State) (l : Option Leading) (downtime : Duration) → Held b nowhere s → Held b nowhere (crash_leader s l downtime)
+  held_crash_leader s None downtime h = h
+  held_crash_leader s (Some l) downtime h = holds_push (held_stopped s (slot_of l.id) h) _ _ [] tt
 
   moves_fault : (s : State) (fault : Fault) → Held b nowhere s → Moves b (apply_fault s fault)
   unfolding apply_fault

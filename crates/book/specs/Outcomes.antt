@@ -1,11 +1,9 @@
 -- When the outcome of a call is fine: refused, or with a right answer and a state that keeps the invariant with the book after it. Assumes nothing.
-use Rattle.std.specs.Prelude.{◌≡◌, refl, Bool, true, false, ℕ}
+use Rattle.std.specs.Prelude.{◌≡◌, refl, Bool, true, false, ℕ, Option, None, Some}
 use Rattle.std.proofs.Common.{subst, arith}
 use Rattle.model.specs.State.{State, Phase, closed, writing, sending, Input, Verdict, Owed}
 use Rattle.faults.specs.Fault.{within_limits}
 use Rattle.faults.specs.declared.Fault.{Fault}
-use Rattle.faults.specs.declared.FaultOption.{FaultOption}
-use Rattle.faults.specs.declared.FaultOption.TheVariants.{None, Some}
 use Rattle.model.specs.Calls.{Out, refused, done, ask, is_closed, while_writing, while_sending, with_fault}
 use Rattle.model.specs.Outcome.{Call, Answer, given}
 use Rattle.claims.specs.Claim.{accepted}
@@ -24,7 +22,7 @@ module _ {A : Type 0} {f : A → Answer} {b : Book} {c : Call} where
   fine_ask false number h = no_change
 
   -- a call with a fault
-  pub fine_fault : (o : FaultOption) {g : Fault → Out A} → ((fault : Fault) → Fine f b c (g fault)) → Fine f b c (with_fault o g)
+  pub fine_fault : (o : Option Fault) {g : Fault → Out A} → ((fault : Fault) → Fine f b c (g fault)) → Fine f b c (with_fault o g)
   fine_fault None h = no_change
   fine_fault (Some fault) h = fine_ask (within_limits fault) 9 (λ _. h fault)
 

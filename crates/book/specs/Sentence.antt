@@ -1,10 +1,9 @@
 -- Demand 3's sentence as a claim about lists of calls: whenever a server starts, first or again, it finds what the book says, got by replaying on an empty log, in order, the
 -- writes of its finished inputs since the latest fresh start. Here is what its proof rests on; the theorem is in proofs/Sentence.antt. Assumes nothing.
-use Rattle.std.specs.Prelude.{◌≡◌, Bool, List, [], ℕ, ◌+◌, ◌<◌, eqb, length}
+use Rattle.std.specs.Prelude.{◌≡◌, Bool, List, [], ℕ, ◌+◌, ◌<◌, eqb, length, Option, None, Some}
 use Rattle.std.proofs.Math.Path.{refl}
 use Rattle.std.proofs.Common.{sym, ap, subst, ◌∙◌, arith, ltb-true, le-leb}
 use Rattle.std.proofs.Math.Bool.{true, false}
-use Rattle.std.proofs.Math.Option.{Option, none, some}
 use Rattle.laws.specs.Bools.{pick, and_left}
 use Rattle.laws.proofs.BoolLaws.{and_both}
 use Rattle.config.specs.declared.SimConfig.{SimConfig}
@@ -54,7 +53,7 @@ module _ {server : NodeId} {incarnation seed : ℕ} where
   opens_accepted (sealed s) e = refl
   opens_accepted (got x) e = absurd (no_start e)
 
-  just_opened : (b : Book) (c : Call) (a : Answer) → opening_of a ≡ open_start server incarnation seed → Right b c a → JustOpened (enter b c (some server) (sealed_by a)) server
+  just_opened : (b : Book) (c : Call) (a : Answer) → opening_of a ≡ open_start server incarnation seed → Right b c a → JustOpened (enter b c (Some server) (sealed_by a)) server
   just_opened b (start config limits s) a e r = record { input = refl; whom = refl; none_waits = refl }
   just_opened b (step deadline buffer) a e r = record { input = refl; whom = refl; none_waits = r.0 }
   just_opened b (propose s) a e r = record { input = refl; whom = refl; none_waits = r }
@@ -63,10 +62,10 @@ module _ {server : NodeId} {incarnation seed : ℕ} where
   just_opened b (end role term present leader commit) a e r = record { input = refl; whom = refl; none_waits = r }
   just_opened b (seal refusal present leader) a e r = by (sealed_by a) (λ n. no_start (sym (r n) ∙ e))
     where
-      by : (how : Option Ending) → ((how ≡ some by_cut → ⊥) → ⊥) → JustOpened (enter b (seal refusal present leader) (some server) how) server
-      by none k = absurd (k (λ q. let z : ◌≡◌ {A = ℕ} 0 1 = cc in absurd (omega arith)))
-      by (some by_sync) k = absurd (k (λ q. let z : ◌≡◌ {A = ℕ} 0 1 = cc in absurd (omega arith)))
-      by (some by_cut) k = record { input = refl; whom = refl; none_waits = refl }
+      by : (how : Option Ending) → ((how ≡ Some by_cut → ⊥) → ⊥) → JustOpened (enter b (seal refusal present leader) (Some server) how) server
+      by None k = absurd (k (λ q. let z : ◌≡◌ {A = ℕ} 0 1 = cc in absurd (omega arith)))
+      by (Some by_sync) k = absurd (k (λ q. let z : ◌≡◌ {A = ℕ} 0 1 = cc in absurd (omega arith)))
+      by (Some by_cut) k = record { input = refl; whom = refl; none_waits = refl }
   just_opened b (schedule time kind first second groups) a e r = absurd (no_start (sym r ∙ e))
   just_opened b (write w) a e r = absurd (no_start (sym r ∙ e))
   just_opened b (output o) a e r = absurd (no_start (sym r.1 ∙ e))
@@ -108,9 +107,9 @@ pub opened_found : (b : Book) (t : State) (c : Call) (a : Answer) → Goes b c a
 unfolding note
 opened_found b t c a g f server incarnation seed e =
     let yes : accepted a ≡ true = opens_accepted a e in
-    let who : whose (opening_of a) ≡ some server = ap whose e in
-    let j : JustOpened (enter b c (some server) (sealed_by a)) server = just_opened b c a e (g.0 yes) in
-    let n : note b c (told_of a) ≡ enter b c (some server) (sealed_by a) = rw (yes, who) in
+    let who : whose (opening_of a) ≡ Some server = ap whose e in
+    let j : JustOpened (enter b c (Some server) (sealed_by a)) server = just_opened b c a e (g.0 yes) in
+    let n : note b c (told_of a) ≡ enter b c (Some server) (sealed_by a) = rw (yes, who) in
     found_read (note b c (told_of a)) t server g.1 f (subst (λ (d : Book). JustOpened d server) (sym n) j)
 
 pub begun : (b : Book) (s t : State) (config : SimConfig) (limits : Limits) (seed : ℕ) (a : Answer) → outcome (start config limits seed) s ≡ done a t → state_fits t ≡ true

@@ -1,7 +1,6 @@
 -- Demand 3 as a claim about lists of calls, and what its proof rests on; the theorems are in proofs/Theorem.antt. Assumes nothing.
-use Rattle.std.specs.Prelude.{◌≡◌, refl, Bool, true, ℕ, leb}
+use Rattle.std.specs.Prelude.{◌≡◌, refl, Bool, true, ℕ, leb, Option}
 use Rattle.std.proofs.Common.{ap}
-use Rattle.std.proofs.Math.Option.{Option}
 use Rattle.config.specs.declared.SimConfig.{SimConfig}
 use Rattle.config.specs.declared.Limits.{Limits}
 use Rattle.units.specs.Types.{Entry}

@@ -1,14 +1,10 @@
 -- Document 01's cases, proved of the definitions by one theorem over a table: what is computed, and what it must be. Assumes nothing.
-use Rattle.std.specs.Prelude.{◌≡◌, refl, Bool, true, false, List, [], ◌∷◌, ◌++◌, map, ℕ, ◌+◌, ◌*◌, length, replicate}
-use Rattle.std.proofs.Math.Option.{Option, none, some}
+use Rattle.std.specs.Prelude.{◌≡◌, refl, Bool, true, false, List, [], ◌∷◌, ◌++◌, map, ℕ, ◌+◌, ◌*◌, length, replicate, Option, None, Some}
 use Rattle.laws.specs.Bools.{◌and◌, every}
 use Rattle.laws.specs.Lists.{same_list, list_from}
 use Rattle.laws.specs.Order.{push_by}
 use Rattle.units.specs.Types.{Entry, command, same_payload}
-use Rattle.units.specs.declared.NodeOption.TheVariants.{None}
 use Rattle.rng.specs.Rng.{mix, new, next_u64, under, below, bounded_number}
-use Rattle.rng.specs.declared.Bounded.{Bounded}
-use Rattle.rng.specs.declared.Bounded.TheVariants.{Value, ZeroBound}
 use Rattle.seeds.specs.Seeds.{tag}
 use Rattle.seeds.specs.declared.Stream.TheVariants.{Server}
 use Rattle.record.specs.Postcard.{varint_in, varint, option, payload, hard_state_record, put_record, truncate_record, framed, record_bytes}
@@ -18,7 +14,8 @@ use Rattle.raft_log.specs.Log.{entry_at, put_at, truncate_at, count, last_index,
 use Rattle.storage.specs.Storage.{Storage, write_put, write_truncate, empty_storage, unsynced, write, crash}
 use Rattle.network.specs.Network.{partition, separated, elsewhere, count_true, blocked_pairs}
 use Rattle.network.specs.Network as network
-use Rattle.checks.specs.Checks.{Mismatch, mismatch_from, log_matching_failure, report}
+use Rattle.checks.specs.declared.Mismatch.{Mismatch}
+use Rattle.checks.specs.Checks.{mismatch_from, log_matching_failure, report}
 use Rattle.checks.specs.Reports.{report_all, reports}
 
 -- An entry of term 1 whose command is one byte.
@@ -39,9 +36,9 @@ bit true = 1
 bit false = 0
 
 -- The number that a draw below a bound gave, or 0.
-abbrev value_of : Bounded → ℕ
-value_of (Value v) = v
-value_of ZeroBound = 0
+abbrev value_of : Option ℕ → ℕ
+value_of (Some v) = v
+value_of None = 0
 
 -- A message of one byte pushed at a time, and the messages in the order in which they leave.
 abbrev at : ℕ → ℕ → Queue → Queue
@@ -56,8 +53,8 @@ joined (x ∷ xs) = x ++ joined xs
 
 -- Where two logs fail to match, and where they first differ.
 abbrev shown : Option Mismatch → List ℕ
-shown none = []
-shown (some m) = m.index ∷ m.difference ∷ []
+shown None = []
+shown (Some m) = m.index.0 ∷ m.difference.0 ∷ []
 
 -- What a case computes, and what it must be.
 pub record Case : Type 0 where
@@ -102,8 +99,8 @@ cases =
     -- C11: single entries, same term, other payloads: no log matching failure; an equal entry following at 2: failure at 2, difference at 1
     ∷ record {
       computed =
-          length (shown (log_matching_failure (some (entry 1) ∷ []) (some (entry 2) ∷ [])))
-          ∷ shown (log_matching_failure (some (entry 1) ∷ some (entry 3) ∷ []) (some (entry 2) ∷ some (entry 3) ∷ []));
+          length (shown (log_matching_failure (Some (entry 1) ∷ []) (Some (entry 2) ∷ [])))
+          ∷ shown (log_matching_failure (Some (entry 1) ∷ Some (entry 3) ∷ []) (Some (entry 2) ∷ Some (entry 3) ∷ []));
       expected = 0 ∷ 2 ∷ 1 ∷ [];
     }
     -- C12: 33 reports: 32 kept, total 33

@@ -3,18 +3,14 @@
 
 ghost use Rattle.std.specs.Prelude.{◌≤◌, length};
 
-use checks::violations::{Detail, Tally};
-use checks::{Check, violations};
-use checks_log_matching::MismatchOption;
+use checks::{Check, Mismatch, violations};
 use network::Network;
 use queue::{Event, table};
-use record::PayloadShape;
-use rng::{Bounded, Rng};
+use rng::Rng;
 use seeds::Stream;
 use std::io;
-use storage::write::Written;
 use storage::{HardState, StorageState, write};
-use units::{Duration, LogIndex, NodeId, NodeOption, SimTime, Term};
+use units::{Duration, LogIndex, NodeId, PayloadRef, PayloadShape, SimTime, Term};
 
 // Writes that a case holds, or that it does not.
 fn report(rt: &impl Print, name: &str, holds: bool) -> io::Result<()> {
@@ -22,41 +18,16 @@ fn report(rt: &impl Print, name: &str, holds: bool) -> io::Result<()> {
     println!(rt; "{name} {verdict}")
 }
 
-// 1 for true.
-fn one(b: bool) -> u64
-    ensures { result ≤ 1 }
-{
-    if b { 1 } else { 0 }
-}
-
-// Whether a draw below a bound gave this number.
-fn is_value(drawn: Bounded, n: u64) -> bool {
-    match drawn {
-        Bounded::Value(v) => v == n,
-        Bounded::ZeroBound => false,
-    }
-}
-
 // How many ordered pairs of servers have a blocked link.
-fn blocked_pairs(n: Network) -> u64 {
-    let links = n.blocked;
-    let mut pairs: u64 = 0;
-    let mut k: usize = 0;
-    while k < 64 {
-        pairs += one(links[k]);
-        k += 1;
-    }
-    pairs
+fn blocked_pairs(n: Network) -> usize {
+    n.blocked.iter().filter(|blocked| **blocked).count()
 }
 
 // Puts at 1 and 3 leave one gap; a truncation from 2 removes one entry and leaves none. The bytes are a log of four places.
-fn gaps_close(s: &mut [u8]) -> bool {
-    if s.len() != 128 {
-        return false;
-    }
+fn gaps_close(s: &mut [u8; 128]) -> bool {
     raft_log::clear(s, 4, 12);
-    raft_log::put(s, 4, 12, LogIndex(1), Term(1), 0, b"");
-    raft_log::put(s, 4, 12, LogIndex(3), Term(1), 0, b"");
+    raft_log::put(s, 4, 12, LogIndex(1), Term(1), PayloadRef::Noop);
+    raft_log::put(s, 4, 12, LogIndex(3), Term(1), PayloadRef::Noop);
     let before = raft_log::gaps(s, 4, 12);
     let removed = raft_log::truncate(s, 4, 12, LogIndex(2));
     (before == 1) & (removed == 1) & (raft_log::gaps(s, 4, 12) == 0)
@@ -66,7 +37,7 @@ fn gaps_close(s: &mut [u8]) -> bool {
 fn state(waiting: u64) -> StorageState {
     let state = HardState {
         term: Term(0),
-        voted_for: NodeOption::None,
+        voted_for: None,
     };
     StorageState {
         current: state,
@@ -76,13 +47,20 @@ fn state(waiting: u64) -> StorageState {
     }
 }
 
-// A put, then a crash. The bytes are a disk of four places a log and two waiting writes; where they are not, a write is left to wait.
-fn put_and_crash(disk: &mut [u8]) -> StorageState {
-    if disk.len() != 336 {
-        return state(1);
-    }
-    let put = write::put(state(0), disk, 4, 2, 12, LogIndex(1), Term(1), 0, b"");
-    let Written::Done(written) = put else {
+// A put, then a crash; where the put is not made, a write is left to wait. The bytes are a disk of four places a log and two waiting
+// writes.
+fn put_and_crash(disk: &mut [u8; 336]) -> StorageState {
+    let put = write::put(
+        state(0),
+        disk,
+        4,
+        2,
+        12,
+        LogIndex(1),
+        Term(1),
+        PayloadRef::Noop,
+    );
+    let Ok(written) = put else {
         return state(1);
     };
     if 2 < written.waiting {
@@ -92,48 +70,31 @@ fn put_and_crash(disk: &mut [u8]) -> StorageState {
 }
 
 // Whether a sync has nothing to write.
-fn nothing_to_sync(v: StorageState, disk: &mut [u8]) -> bool {
-    if disk.len() != 336 {
-        return false;
-    }
-    if v.waiting != 0 {
-        return false;
-    }
-    let synced = storage::sync(v, disk, 4, 2, 12);
-    !synced.wrote
+fn nothing_to_sync(v: StorageState, disk: &mut [u8; 336]) -> bool {
+    v.waiting == 0 && storage::sync(v, disk, 4, 2, 12).written.is_none()
 }
 
 // Whether the current log of a disk has no entry.
-fn no_entry(disk: &[u8]) -> bool {
-    if disk.len() != 336 {
-        return false;
-    }
+fn no_entry(disk: &[u8; 336]) -> bool {
     raft_log::last_index(&disk[0..128], 4, 12).0 == 0
 }
 
 // A put that is lost in a crash: the log is empty again, and a sync has nothing to write.
-fn crash_forgets(disk: &mut [u8]) -> bool {
+fn crash_forgets(disk: &mut [u8; 336]) -> bool {
     let crashed = put_and_crash(disk);
     no_entry(disk) & nothing_to_sync(crashed, disk)
 }
 
 // The client of the earliest event.
-fn earliest_client(s: &[u8]) -> u64
-    requires { 56 ≤ length s.now }
-{
-    let first = table::first(s);
-    let event = first.event;
-    match event {
-        Event::ClientSend { client } => client,
-        _ => 0,
+fn earliest_client(s: &[u8; 168]) -> Option<u64> {
+    match table::first(s).event {
+        Event::ClientSend { client } => Some(client),
+        _ => None,
     }
 }
 
 // Events of clients 1, 2 and 3 pushed at 5, 3 and 5 leave as 2, 1, 3. The bytes are a queue of three places.
-fn earliest_first(s: &mut [u8]) -> bool {
-    if s.len() != 168 {
-        return false;
-    }
+fn earliest_first(s: &mut [u8; 168]) -> bool {
     table::push(s, 0, 0, SimTime(5), Event::ClientSend { client: 1 }, b"");
     table::push(s, 1, 0, SimTime(3), Event::ClientSend { client: 2 }, b"");
     table::push(s, 2, 0, SimTime(5), Event::ClientSend { client: 3 }, b"");
@@ -141,100 +102,69 @@ fn earliest_first(s: &mut [u8]) -> bool {
     table::remove_first(s, 3, 0);
     let second = earliest_client(s);
     table::remove_first(s, 2, 0);
-    (first == 2) & (second == 1) & (earliest_client(s) == 3)
-}
-
-// Whether there is no mismatch.
-fn no_mismatch(found: MismatchOption) -> bool {
-    match found {
-        MismatchOption::None => true,
-        MismatchOption::Some {
-            term: _,
-            index: _,
-            difference: _,
-        } => false,
-    }
+    (first == Some(2)) & (second == Some(1)) & (earliest_client(s) == Some(3))
 }
 
 // Whether there is a mismatch at an index, after a difference at another.
-fn mismatch_at(found: MismatchOption, at: u64, differ: u64) -> bool {
-    match found {
-        MismatchOption::None => false,
-        MismatchOption::Some {
-            term: _,
-            index,
-            difference,
-        } => (index.0 == at) & (difference.0 == differ),
-    }
+fn mismatch_at(found: Option<Mismatch>, at: u64, differ: u64) -> bool {
+    found.is_some_and(|m| m.index == LogIndex(at) && m.difference == LogIndex(differ))
 }
 
 // A log of two places whose one entry is a command of term 1.
-fn single(s: &mut [u8], command: &[u8])
-    requires { (64 ≤ length s.old) × (length command.now ≤ 12) }
+fn single(s: &mut [u8; 64], command: &[u8])
+    requires { length command.now ≤ 12 }
 {
     raft_log::clear(s, 2, 12);
-    raft_log::put(s, 2, 12, LogIndex(1), Term(1), 1, command);
+    raft_log::put(s, 2, 12, LogIndex(1), Term(1), PayloadRef::Command(command));
 }
 
 // Single entries of one term with other payloads are no mismatch; an equal entry following at 2 is one, after a difference at 1. The bytes
 // are two logs of two places.
-fn mismatch_at_2(a: &mut [u8], b: &mut [u8]) -> bool {
-    if a.len() != 64 {
-        return false;
-    }
-    if b.len() != 64 {
-        return false;
-    }
+fn mismatch_at_2(a: &mut [u8; 64], b: &mut [u8; 64]) -> bool {
     single(a, b"1");
     single(b, b"2");
     let alone = checks_log_matching::log_matching_failure(a, b, 2, 12);
-    raft_log::put(a, 2, 12, LogIndex(2), Term(1), 1, b"3");
-    raft_log::put(b, 2, 12, LogIndex(2), Term(1), 1, b"3");
+    raft_log::put(a, 2, 12, LogIndex(2), Term(1), PayloadRef::Command(b"3"));
+    raft_log::put(b, 2, 12, LogIndex(2), Term(1), PayloadRef::Command(b"3"));
     let followed = checks_log_matching::log_matching_failure(a, b, 2, 12);
-    no_mismatch(alone) & mismatch_at(followed, 2, 1)
+    alone.is_none() & mismatch_at(followed, 2, 1)
 }
 
 // Of 33 reports 32 are kept. The bytes have room for 32 violations.
-fn first_32_kept(v: &mut [u8]) -> bool {
-    if v.len() != 2048 {
-        return false;
-    }
+fn first_32_kept(v: &mut [u8; 2048]) -> bool {
     let mut kept: usize = 0;
     let mut total: u64 = 0;
-    let mut i: u64 = 0;
-    while i < 33 {
-        let detail = Detail::Three(1, 2, 1);
+    for _ in 0..33 {
         let reported = violations::report(
             v,
             kept,
             total,
             SimTime(0),
             Check::ElectionSafety,
-            detail,
+            &[1, 2, 1],
         );
-        let Tally::Counted { kept: k, total: t } = reported else {
+        let Some(tally) = reported else {
             return false;
         };
-        kept = k;
-        total = t;
-        i += 1;
+        kept = tally.kept;
+        total = tally.total;
     }
     (kept == 32) & (total == 33)
 }
 
 // The cases of numbers and records.
 fn report_numbers(rt: &impl Print) -> io::Result<()> {
-    let draw = rng::drawn_u64(Rng::new(0));
-    report(rt, "C1", draw.next.state == 0x9E37_79B9_7F4A_7C15)?;
-    let below = rng::drawn_below(Rng::new(0), 1);
-    let drawn = below.value;
-    report(rt, "C2", is_value(drawn, 0))?;
+    let mut g = Rng::new(0);
+    g.next_u64();
+    report(rt, "C1", g.state == 0x9E37_79B9_7F4A_7C15)?;
+    let drawn = Rng::new(0).below(1);
+    report(rt, "C2", drawn == Some(0))?;
     let server = Stream::Server {
         id: NodeId(1),
         incarnation: 0,
     };
     report(rt, "C3", server.tag() == 0x0500_0000_0000_0001)?;
-    let state = record::hard_state_bytes(Term(0), NodeOption::None);
+    let state = record::hard_state_bytes(Term(0), None);
     report(rt, "C4", state == 7)?;
     let command = PayloadShape::Command { length: 12 };
     let put = record::put_bytes(LogIndex(1), Term(1), command);

@@ -1,6 +1,5 @@
 -- Applied payloads compared index by index (applied.rt), over the table of payloads of `layout`. Assumes nothing.
-use Rattle.std.specs.Prelude.{◌≡◌, Bool, true, false, List, [], ◌∷◌, ℕ, zero, suc, ◌+◌, eqb, length}
-use Rattle.std.proofs.Math.Option.{Option, none, some}
+use Rattle.std.specs.Prelude.{◌≡◌, Bool, true, false, List, [], ◌∷◌, ℕ, zero, suc, ◌+◌, eqb, length, Option, None, Some}
 use Rattle.laws.specs.Bools.{pick}
 use Rattle.laws.specs.Lists.{at}
 use Rattle.units.specs.Types.{Payload, same_payload}
@@ -32,8 +31,8 @@ is_next Further = false
 
 -- A payload against the one at its place, or against the end of the list where there is none.
 unfoldable pub place_seen : Option Payload → Bool → Payload → AppliedSeen
-place_seen (some first) next x = pick (same_payload first x) Same Other
-place_seen none next x = pick next Next Further
+place_seen (Some first) next x = pick (same_payload first x) Same Other
+place_seen None next x = pick next Next Further
 
 -- A payload against the first applied at its index; index 0 has no place.
 unfoldable pub applied_seen : List Payload → ℕ → Payload → AppliedSeen

@@ -1,9 +1,8 @@
 -- What the proofs of applied.rt cite. Assumes nothing.
-use Rattle.std.specs.Prelude.{◌≡◌, Bool, not, List, [], ◌∷◌, length}
+use Rattle.std.specs.Prelude.{◌≡◌, Bool, not, List, [], ◌∷◌, length, Option, None, Some}
 use Rattle.std.proofs.Math.Path.{refl, sym, ap, ap₂}
 use Rattle.std.proofs.Common.{◌∙◌}
 use Rattle.std.proofs.Math.Bool.{true, false}
-use Rattle.std.proofs.Math.Option.{Option, none, some}
 use Prim.Native.Nat.{ℕ, zero, suc, ◌+◌, ◌-◌, ◌*◌, ◌≤◌, ◌<◌}
 use native.Mathlib.Omega.{arith}
 use Rattle.std.proofs.Math.Dec.{eqb}
@@ -37,14 +36,14 @@ module _ (c : Checker) (time : SimTime) (server : NodeId) (x : Payload) where
   place_after : (o : Option Payload) (place : ℕ)
       → compare_applied o c time server place x ≡ applied_after (place_seen o (eqb place (length c.applied)) x) c time server (suc place) x
   unfolding place_seen
-  place_after (some first) place = by (same_payload first x)
+  place_after (Some first) place = by (same_payload first x)
     where
       by : (t : Bool)
           → report_if (not t) c time StateMachineSafety (server.0 ∷ suc place ∷ [])
           ≡ applied_after (pick t Same Other) c time server (suc place) x
       by true = refl
       by false = refl
-  place_after none place = by (eqb place (length c.applied))
+  place_after None place = by (eqb place (length c.applied))
     where
       by : (t : Bool) → append_if t x c ≡ applied_after (pick t Next Further) c time server (suc place) x
       by true = refl

@@ -1,6 +1,9 @@
 -- What the checks become where a question answered flags, and what a refusal says: each check asks first, and then acts. Assumes nothing.
-use Rattle.std.specs.Prelude.{Bool, [], ◌∷◌, ◌++◌, ℕ, ◌^◌, leb, ltb}
+use Rattle.std.specs.Prelude.{Bool, [], ◌∷◌, ◌++◌, ℕ, ◌^◌, leb, ltb, Ok, Err}
+use Rattle.std.specs.declared.result.Result.{Result}
 use Rattle.laws.specs.Bools.{pick, ◌and◌}
+use Rattle.units.specs.declared.refusal.Refusal.{Refusal}
+use Rattle.units.specs.declared.refusal.Refusal.TheVariants.{Room}
 use Rattle.laws.specs.Order.{numbers, pairs, insert_by}
 use Rattle.units.specs.Types.{Payload, Entry}
 use Rattle.units.specs.declared.LogIndex.{LogIndex}
@@ -10,6 +13,10 @@ use Rattle.checks.specs.Checks.{Checker, Seen, seen_key, leader_key, with_applie
 -- 0 where so many rows have room and the total has 64 bits; else 10 (question 10).
 unfoldable pub counts_code : (rows room total : ℕ) → ℕ
 counts_code rows room total = pick (leb rows room and ltb total (2 ^ 64)) 0 10
+
+-- An answer where so many rows have room and the total has 64 bits; else question 10 is answered no.
+unfoldable pub where_fits : {A : Type 0} → (rows room total : ℕ) → A → Result A Refusal
+where_fits rows room total a = pick (leb rows room and ltb total (2 ^ 64)) (Ok a) (Err Room)
 
 -- A payload after the last applied, where a test is true.
 abbrev pub append_if : Bool → Payload → Checker → Checker

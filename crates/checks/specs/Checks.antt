@@ -1,6 +1,5 @@
 -- Safety checks (checks.rs), over numbers and tables without limit. Assumes nothing.
-use Rattle.std.specs.Prelude.{Bool, true, false, not, ◌&&◌, List, [], ◌∷◌, ◌++◌, ℕ, zero, suc, ◌+◌, ◌-◌, min, max, ltb, eqb, length}
-use Rattle.std.proofs.Math.Option.{Option, none, some}
+use Rattle.std.specs.Prelude.{Bool, true, false, not, ◌&&◌, List, [], ◌∷◌, ◌++◌, ℕ, zero, suc, ◌+◌, ◌-◌, min, max, ltb, eqb, length, Option, None, Some}
 use Rattle.laws.specs.Bools.{pick}
 use Rattle.laws.specs.Lists.{at}
 use Rattle.laws.specs.Order.{numbers, pairs, lookup, insert_by}
@@ -15,6 +14,7 @@ use Rattle.raft_log.specs.Log.{Log, entry_at, last_index}
 use Rattle.checks.specs.declared.Check.{Check}
 use Rattle.checks.specs.declared.Check.TheVariants.{ElectionSafety, StateMachineSafety, ApplyOrder, UniqueEntries, Durability, Liveness, LogMatching, LeaderCompleteness}
 use Rattle.checks.specs.declared.TermLeader.{TermLeader}
+use Rattle.checks.specs.declared.Mismatch.{Mismatch}
 
 -- Document 01's number of a check: its place in the Rust's order.
 abbrev pub check_number : Check → ℕ
@@ -94,9 +94,9 @@ report_if broken c time check detail = pick broken (report c time check detail) 
 
 -- An applied payload compared with the first applied at its place, or kept where the place is the next free one.
 abbrev pub compare_applied : Option Payload → Checker → SimTime → NodeId → ℕ → Payload → Checker
-compare_applied (some first) c time server place payload =
+compare_applied (Some first) c time server place payload =
     report_if (not (same_payload first payload)) c time StateMachineSafety (server.0 ∷ suc place ∷ [])
-compare_applied none c time server place payload =
+compare_applied None c time server place payload =
     pick (eqb place (length c.applied)) (with_applied c (c.applied ++ payload ∷ [])) c
 
 -- The same by index: index 0 has no place.
@@ -121,15 +121,15 @@ seen_key s = (s.index.0, s.term.0)
 
 -- An entry compared with the first seen under its index and term, or seen now.
 abbrev pub compare_seen : Option Seen → Checker → SimTime → NodeId → LogIndex → Entry → Checker
-compare_seen (some first) c time server index e =
+compare_seen (Some first) c time server index e =
     report_if (not (same_payload first.payload e.payload)) c time UniqueEntries (server.0 ∷ index.0 ∷ e.term.0 ∷ [])
-compare_seen none c time server index e =
+compare_seen None c time server index e =
     with_entries c (insert_by pairs seen_key (record { index = index; term = e.term; payload = e.payload }) c.entries)
 
 -- The entry at a written index, if it is still there.
 abbrev pub written_entry : Option Entry → Checker → SimTime → NodeId → LogIndex → Checker
-written_entry none c time server index = c
-written_entry (some e) c time server index =
+written_entry None c time server index = c
+written_entry (Some e) c time server index =
     compare_seen (lookup pairs seen_key (index.0, e.term.0) c.entries) c time server index e
 
 -- A server has written at an index (on_write).
@@ -149,24 +149,24 @@ leader_key l = l.term.0
 
 -- A leader compared with the first of its term, or seen now.
 abbrev pub compare_leader : Option TermLeader → Checker → SimTime → NodeId → Term → Checker
-compare_leader (some other) c time server term =
+compare_leader (Some other) c time server term =
     report_if (not (eqb other.server.0 server.0)) c time ElectionSafety (other.server.0 ∷ server.0 ∷ term.0 ∷ [])
-compare_leader none c time server term = with_leaders c (insert_by numbers leader_key (record { term = term; server = server }) c.leaders)
+compare_leader None c time server term = with_leaders c (insert_by numbers leader_key (record { term = term; server = server }) c.leaders)
 
 -- Whether a log's entry has a payload.
 abbrev pub holds : Option Entry → Payload → Bool
-holds none payload = false
-holds (some e) payload = same_payload e.payload payload
+holds None payload = false
+holds (Some e) payload = same_payload e.payload payload
 
 -- The first index from `index` on whose applied payload a log does not hold.
-unfoldable pub first_missing : Log → ℕ → List Payload → Option ℕ
-first_missing log index [] = none
-first_missing log index (payload ∷ payloads) = pick (holds (entry_at log index) payload) (first_missing log (suc index) payloads) (some index)
+unfoldable pub first_missing : Log → ℕ → List Payload → Option LogIndex
+first_missing log index [] = None
+first_missing log index (payload ∷ payloads) = pick (holds (entry_at log index) payload) (first_missing log (suc index) payloads) (Some (record { 0 = index }))
 
 -- The missing index reported, if there is one.
-abbrev pub report_missing : Option ℕ → Checker → SimTime → NodeId → Term → Checker
-report_missing none c time server term = c
-report_missing (some index) c time server term = report c time LeaderCompleteness (server.0 ∷ term.0 ∷ index ∷ [])
+abbrev pub report_missing : Option LogIndex → Checker → SimTime → NodeId → Term → Checker
+report_missing None c time server term = c
+report_missing (Some index) c time server term = report c time LeaderCompleteness (server.0 ∷ term.0 ∷ index.0 ∷ [])
 
 -- A new leader's log holds every applied payload (check_leader_completeness).
 unfoldable pub check_leader_completeness : Checker → SimTime → NodeId → Term → Log → Checker
@@ -179,8 +179,8 @@ pub record Led : Type 0 where
 
 -- Whether a server already leads a term.
 abbrev pub already_leads : Option Term → Term → Bool
-already_leads none term = false
-already_leads (some led) term = eqb led.0 term.0
+already_leads None term = false
+already_leads (Some led) term = eqb led.0 term.0
 
 -- A server's status after an input (on_status), with the term that it led before; leader completeness is asked only where it is wanted and the led term changes.
 unfoldable pub on_status : Bool → Checker → SimTime → NodeId → Status → Log → Option Term → Led
@@ -190,58 +190,53 @@ on_status raft_checks c time server status log leading =
     pick (leads status.role)
     (record {
       checker = pick (raft_checks && not (already_leads leading term)) (check_leader_completeness seen time server term log) seen;
-      leading = some term;
+      leading = Some term;
     })
-    (record { checker = c; leading = none })
+    (record { checker = c; leading = None })
 
 -- ---- log matching
 
 -- Whether two places hold equal entries, or neither holds one.
 abbrev pub same_entry : Option Entry → Option Entry → Bool
-same_entry none none = true
-same_entry none (some y) = false
-same_entry (some x) none = false
-same_entry (some x) (some y) = eqb x.term.0 y.term.0 && same_payload x.payload y.payload
+same_entry None None = true
+same_entry None (Some y) = false
+same_entry (Some x) None = false
+same_entry (Some x) (Some y) = eqb x.term.0 y.term.0 && same_payload x.payload y.payload
 
 -- Two entries of one term: that term.
-abbrev pub shared_term : Option Entry → Option Entry → Option ℕ
-shared_term none y = none
-shared_term (some x) none = none
-shared_term (some x) (some y) = pick (eqb x.term.0 y.term.0) (some x.term.0) none
-
--- How two logs break log matching: a term that both hold at an index, and an earlier index at which they differ.
-pub record Mismatch : Type 0 where
-  pub term : ℕ
-  pub index : ℕ
-  pub difference : ℕ
+abbrev pub shared_term : Option Entry → Option Entry → Option Term
+shared_term None y = None
+shared_term (Some x) None = None
+shared_term (Some x) (Some y) = pick (eqb x.term.0 y.term.0) (Some x.term) None
 
 -- A mismatch at an index, where a difference came before it and both logs hold a term there; else what follows.
-abbrev pub mismatch_at : Option ℕ → Option ℕ → ℕ → Option Mismatch → Option Mismatch
-mismatch_at none term index later = later
-mismatch_at (some difference) none index later = later
-mismatch_at (some difference) (some term) index later = some (record { term = term; index = index; difference = difference })
+abbrev pub mismatch_at : Option LogIndex → Option Term → LogIndex → Option Mismatch → Option Mismatch
+mismatch_at None term index later = later
+mismatch_at (Some difference) None index later = later
+mismatch_at (Some difference) (Some term) index later = Some (record { term = term; index = index; difference = difference })
 
 -- The first difference so far, or this index where there was none and the entries differ.
-abbrev pub difference_at : Option ℕ → Bool → ℕ → Option ℕ
-difference_at (some difference) same index = some difference
-difference_at none same index = pick same none (some index)
+abbrev pub difference_at : Option LogIndex → Bool → LogIndex → Option LogIndex
+difference_at (Some difference) same index = Some difference
+difference_at None same index = pick same None (Some index)
 
 -- The first mismatch among so many indexes from `index` on: the term there is compared before the entries are.
-unfoldable pub mismatch_from : ℕ → ℕ → Option ℕ → Log → Log → Option Mismatch
-mismatch_from zero index difference a b = none
+unfoldable pub mismatch_from : ℕ → ℕ → Option LogIndex → Log → Log → Option Mismatch
+mismatch_from zero index difference a b = None
 mismatch_from (suc left) index difference a b =
     let x = entry_at a index in
     let y = entry_at b index in
-    mismatch_at difference (shared_term x y) index (mismatch_from left (suc index) (difference_at difference (same_entry x y) index) a b)
+    let at : LogIndex = record { 0 = index } in
+    mismatch_at difference (shared_term x y) at (mismatch_from left (suc index) (difference_at difference (same_entry x y) at) a b)
 
 -- How two logs break log matching, up to the smaller last index (log_matching_failure).
 unfoldable pub log_matching_failure : Log → Log → Option Mismatch
-log_matching_failure a b = mismatch_from (min (last_index a) (last_index b)) 1 none a b
+log_matching_failure a b = mismatch_from (min (last_index a) (last_index b)) 1 None a b
 
 -- The mismatch of two servers' logs reported, if there is one.
 abbrev pub report_mismatch : Option Mismatch → Checker → SimTime → NodeId → NodeId → Checker
-report_mismatch none c time a b = c
-report_mismatch (some m) c time a b = report c time LogMatching (a.0 ∷ b.0 ∷ m.term ∷ m.index ∷ m.difference ∷ [])
+report_mismatch None c time a b = c
+report_mismatch (Some m) c time a b = report c time LogMatching (a.0 ∷ b.0 ∷ m.term.0 ∷ m.index.0 ∷ m.difference.0 ∷ [])
 
 -- A server's log.
 pub record ServerLog : Type 0 where
@@ -272,8 +267,8 @@ pub record AppliedUpTo : Type 0 where
 
 -- Whether a payload is there and equal to another.
 abbrev pub is_payload : Option Payload → Payload → Bool
-is_payload none payload = false
-is_payload (some first) payload = same_payload first payload
+is_payload None payload = false
+is_payload (Some first) payload = same_payload first payload
 
 -- Each acknowledged command is the payload applied at its index; index 0 is compared with the payload at 1.
 unfoldable pub check_acknowledged : Checker → SimTime → List Acknowledged → Checker

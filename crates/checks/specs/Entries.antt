@@ -1,6 +1,5 @@
 -- Entries seen as a table (entries.rt): rows of the index, the term and the payload, rising by index and term. Assumes nothing.
-use Rattle.std.specs.Prelude.{◌≡◌, refl, Bool, true, false, List, [], ◌∷◌, map, ℕ, ◌+◌, leb}
-use Rattle.std.proofs.Math.Option.{Option, none, some}
+use Rattle.std.specs.Prelude.{◌≡◌, refl, Bool, List, [], ◌∷◌, map, ℕ, ◌+◌, leb, Option, None, Some}
 use Rattle.std.proofs.Common.{arith}
 use Rattle.laws.specs.Bools.{pick, ◌and◌}
 use Rattle.laws.specs.Order.{pairs, rising, lookup, insert_by}
@@ -14,8 +13,9 @@ use Rattle.layout.specs.Tables.{Holds, Table, such_table, Held}
 use Rattle.layout.specs.Marked.{words_for}
 use Rattle.layout.specs.Payload.{payload}
 use Rattle.checks.specs.declared.Check.TheVariants.{UniqueEntries}
-use Rattle.checks.specs.declared.entries.EntrySeen.{EntrySeen}
-use Rattle.checks.specs.declared.entries.EntrySeen.TheVariants.{Same, Other, New}
+use Rattle.checks.specs.declared.Compared.{Compared}
+use Rattle.checks.specs.declared.Compared.TheVariants.{Same, Other, New}
+use Rattle.checks.specs.Compared.{is_other, is_new}
 use Rattle.checks.specs.Checks.{Checker, Seen, seen_key, report_if}
 use Rattle.checks.specs.Asked.{insert_seen_if, seen_of}
 
@@ -49,35 +49,23 @@ seen_in L p = such_table (seen p) (index_within L)
 
 -- ---- answers
 
--- Whether an answer is that another payload was seen there.
-abbrev pub is_other : EntrySeen → Bool
-is_other Same = false
-is_other Other = true
-is_other New = false
-
--- Whether an answer is that none was seen there.
-abbrev pub is_new : EntrySeen → Bool
-is_new Same = false
-is_new Other = false
-is_new New = true
-
 -- A payload against the first seen.
-unfoldable pub entry_seen : Option Seen → Payload → EntrySeen
-entry_seen none x = New
-entry_seen (some first) x = pick (same_payload first.payload x) Same Other
+unfoldable pub entry_seen : Option Seen → Payload → Compared (Unit {0})
+entry_seen None x = New
+entry_seen (Some first) x = pick (same_payload first.payload x) Same (Other (tt {0}))
 
 -- What the checks become by an answer: another payload is reported; a new entry is seen now.
-abbrev pub entry_after : EntrySeen → Checker → SimTime → NodeId → LogIndex → Entry → Checker
+abbrev pub entry_after : Compared (Unit {0}) → Checker → SimTime → NodeId → LogIndex → Entry → Checker
 entry_after r c time server index e =
     insert_seen_if (is_new r) (seen_of index e) (report_if (is_other r) c time UniqueEntries (server.0 ∷ index.0 ∷ e.term.0 ∷ []))
 
 -- An entry was compared: the answer, whatever n entries b holds and whatever payload the lent words hold.
-pub record AsksSeen (p : ℕ) (index : LogIndex) (term : Term) (content : List ℕ) (n : ℕ) (r : EntrySeen) (b : List ℕ) : Type 0 where
+pub record AsksSeen (p : ℕ) (index : LogIndex) (term : Term) (content : List ℕ) (n : ℕ) (r : Compared (Unit {0})) (b : List ℕ) : Type 0 where
   pub to : (N : ℕ) (xs : List Seen) (x : Payload) → Holds (payload p) content x → Held (seen p) N n b xs
       → r ≡ entry_seen (lookup pairs seen_key (index.0, term.0) xs) x
 
 -- An entry that was not there was put in, whatever payload the lent words hold.
 pub record InsertsSeen (p : ℕ) (index : LogIndex) (term : Term) (content : List ℕ) (n : ℕ) (b b' : List ℕ) : Type 0 where
   pub to : (N : ℕ) (xs : List Seen) (x : Payload) → Holds (payload p) content x → Held (seen p) N n b xs
-      → lookup pairs seen_key (index.0, term.0) xs ≡ none
+      → lookup pairs seen_key (index.0, term.0) xs ≡ None
       → Held (seen p) N (n + 1) b' (insert_by pairs seen_key (record { index = index; term = term; payload = x }) xs)

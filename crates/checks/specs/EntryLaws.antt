@@ -1,8 +1,7 @@
 -- What the proofs of entries.rt cite. Assumes nothing.
-use Rattle.std.specs.Prelude.{◌≡◌, refl, Bool, true, false, not, List, [], ◌∷◌, ℕ, ◌+◌, ◌-◌, ◌*◌, ◌^◌, ◌≤◌, ◌<◌, leb, length, get_or, take, drop}
+use Rattle.std.specs.Prelude.{◌≡◌, refl, ◌⊎◌, Bool, true, false, not, List, [], ◌∷◌, ℕ, ◌+◌, ◌-◌, ◌*◌, ◌^◌, ◌≤◌, ◌<◌, leb, length, get_or, take, drop, Option, None, Some, Result, Ok, Err}
 use Rattle.std.proofs.Math.Path.{sym, ap}
-use Rattle.std.proofs.Common.{ap₂, ◌∙◌, arith, get_or-drop, Fits, lt-ltb, le-leb}
-use Rattle.std.proofs.Math.Option.{Option, none, some}
+use Rattle.std.proofs.Common.{ap₂, inl, inr, ◌∙◌, arith, get_or-drop, Fits, lt-ltb, le-leb}
 use Rattle.std.proofs.lemmas.List.Edits.{sets}
 use Rattle.std.specs.Int.{w64}
 use Rattle.std.proofs.lemmas.Bool.{lt-leb}
@@ -18,22 +17,21 @@ use Rattle.units.specs.declared.NodeId.{NodeId}
 use Rattle.units.specs.declared.Term.{Term}
 use Rattle.units.specs.declared.LogIndex.{LogIndex}
 use Rattle.units.specs.declared.SimTime.{SimTime}
-use Rattle.layout.specs.declared.rows.Found.{Found}
-use Rattle.layout.specs.declared.rows.Found.TheVariants.{At, Absent}
 use Rattle.layout.specs.Code.{word, pair}
 use Rattle.layout.specs.Tables.{Holds, Held, opened, rows_in}
-use Rattle.layout.specs.TableLaws.{rows_are, rowed_start, rowed_done}
+use Rattle.layout.specs.TableLaws.{rows_are}
 use Rattle.layout.specs.Order.{find, place, two, heads}
 use Rattle.layout.specs.RowLaws.{heads_are}
 use Rattle.layout.specs.SortedTables.{Keyed, found_inside, found_row, found_none}
 use Rattle.layout.specs.Marked.{words_for}
-use Rattle.layout.specs.Parts.{lent_row, row_lent, pair_second, part_ok, lent_fine, lent_fails}
+use Rattle.layout.specs.Parts.{lent_row, row_lent, pair_second, part_ok}
 use Rattle.layout.specs.Payload.{payload}
 use Rattle.layout.specs.MarkedLaws.{payloads_same}
 use Rattle.checks.specs.declared.Check.TheVariants.{UniqueEntries}
-use Rattle.checks.specs.declared.entries.EntrySeen.TheVariants.{Same, Other, New}
+use Rattle.checks.specs.declared.Compared.TheVariants.{Same, Other, New}
+use Rattle.checks.specs.Compared.{is_new}
 use Rattle.checks.specs.Checks.{Checker, Seen, seen_key, report_if, compare_seen}
-use Rattle.checks.specs.Entries.{seen_parts, to_parts, seen_row, seen, index_within, seen_in, is_new, entry_seen, entry_after, AsksSeen}
+use Rattle.checks.specs.Entries.{seen_parts, to_parts, seen_row, seen, index_within, seen_in, entry_seen, entry_after, AsksSeen}
 use Rattle.checks.specs.Entries.{InsertsSeen}
 use Rattle.checks.specs.InsertLaws.{insert_length, place_insert}
 use Rattle.checks.specs.Asked.{insert_seen_if}
@@ -56,15 +54,15 @@ w p = 3 + words_for p
 
 -- ---- an entry compared: f is what the search said
 
-module _ (p n : ℕ) (b content : List ℕ) (index : LogIndex) (term : Term) (f : Found) (e : f
+module _ (p n : ℕ) (b content : List ℕ) (index : LogIndex) (term : Term) (f : Result ℕ ℕ) (e : f
     ≡ find pairs (index.0, term.0) (heads two (3 + words_for p) n (W b))) (i : ℕ) where
-  module _ (t : f ≡ At i) (at : ℕ) (a : at ≡ i * (3 + words_for p)) (q : Bool)
+  module _ (t : f ≡ Ok i) (at : ℕ) (a : at ≡ i * (3 + words_for p)) (q : Bool)
       (d : Decides q (take (8 * (at + (3 + words_for p)) - 8 * (at + 2)) (drop (8 * (at + 2)) b) ≡ content)) where
-    there : (N : ℕ) (x : List Seen) → Held (seen p) N n b x → lookup pairs seen_key (index.0, term.0) x ≡ some (get_or x i no_seen)
+    there : (N : ℕ) (x : List Seen) → Held (seen p) N n b x → lookup pairs seen_key (index.0, term.0) x ≡ Some (get_or x i no_seen)
     there N x h =
         ap (lookup pairs seen_key (index.0, term.0)) (sym (rows_are h))
         ∙ found_row pairs (index.0, term.0) two (seen_row p) seen_key n b f i (seen_read p) e no_seen t
-        ∙ ap (λ (y : List Seen). some (get_or y i no_seen)) (rows_are h)
+        ∙ ap (λ (y : List Seen). Some (get_or y i no_seen)) (rows_are h)
 
     same : (N : ℕ) (x : List Seen) (y : Payload) → Holds (payload p) content y → Held (seen p) N n b x
         → same_payload (get_or x i no_seen).payload y ≡ q
@@ -75,18 +73,18 @@ module _ (p n : ℕ) (b content : List ℕ) (index : LogIndex) (term : Term) (f 
         sym (payloads_same p _ content s.payload y q (pair_second (pair word word) (payload p) b at (w p) (omega arith) u) k d)
 
     row_seen : (N : ℕ) (x : List Seen) (y : Payload) → Holds (payload p) content y → Held (seen p) N n b x
-        → pick q Same Other ≡ entry_seen (lookup pairs seen_key (index.0, term.0) x) y
+        → pick q Same (Other (tt {0})) ≡ entry_seen (lookup pairs seen_key (index.0, term.0) x) y
     unfolding entry_seen
-    row_seen N x y k h = ap (λ (t : Bool). pick t Same Other) (sym (same N x y k h))
+    row_seen N x y k h = ap (λ (t : Bool). pick t Same (Other (tt {0}))) (sym (same N x y k h))
         ∙ sym (ap (λ (o : Option Seen). entry_seen o y) (there N x h))
 
     pub entry_same : q ≡ true → AsksSeen p index term content n Same b
-    entry_same g = record { to = λ N x y k h. sym (ap (λ (t : Bool). pick t Same Other) g) ∙ row_seen N x y k h }
+    entry_same g = record { to = λ N x y k h. sym (ap (λ (t : Bool). pick t Same (Other (tt {0}))) g) ∙ row_seen N x y k h }
 
-    pub entry_other : q ≡ false → AsksSeen p index term content n Other b
-    entry_other g = record { to = λ N x y k h. sym (ap (λ (t : Bool). pick t Same Other) g) ∙ row_seen N x y k h }
+    pub entry_other : q ≡ false → AsksSeen p index term content n (Other (tt {0})) b
+    entry_other g = record { to = λ N x y k h. sym (ap (λ (t : Bool). pick t Same (Other (tt {0}))) g) ∙ row_seen N x y k h }
 
-  pub entry_new : f ≡ Absent i → AsksSeen p index term content n New b
+  pub entry_new : f ≡ Err i → AsksSeen p index term content n New b
   unfolding entry_seen
   entry_new t = record {
     to = λ N x y k h.
@@ -123,26 +121,26 @@ entry_inserts {p} {n} {b} {content} {index} {term} {i} {at} {b₁} {b₂} {b₃}
 pub entry_after_lem : (o : Option Seen) (c : Checker) (time : SimTime) (server : NodeId) (index : LogIndex) (e : Entry)
     → compare_seen o c time server index e ≡ entry_after (entry_seen o e.payload) c time server index e
 unfolding entry_seen
-entry_after_lem none c time server index e = refl
-entry_after_lem (some first) c time server index e = by (same_payload first.payload e.payload)
+entry_after_lem None c time server index e = refl
+entry_after_lem (Some first) c time server index e = by (same_payload first.payload e.payload)
   where
     by : (t : Bool)
         → report_if (not t) c time UniqueEntries (server.0 ∷ index.0 ∷ e.term.0 ∷ [])
-        ≡ entry_after (pick t Same Other) c time server index e
+        ≡ entry_after (pick t Same (Other (tt {0}))) c time server index e
     by true = refl
     by false = refl
 
 -- where none was there
-pub entry_absent : (o : Option Seen) (x : Payload) → is_new (entry_seen o x) ≡ true → o ≡ none
+pub entry_absent : (o : Option Seen) (x : Payload) → is_new (entry_seen o x) ≡ true → o ≡ None
 unfolding entry_seen
-entry_absent none x e = refl
-entry_absent (some first) x e = absurd (by (same_payload first.payload x) e)
+entry_absent None x e = refl
+entry_absent (Some first) x e = absurd (by (same_payload first.payload x) e)
   where
-    by : (t : Bool) → is_new (pick t Same Other) ≡ true → ⊥
+    by : (t : Bool) → is_new (pick t Same (Other (tt {0}))) ≡ true → ⊥
     by true e = false_true e
     by false e = false_true e
 
-pub entry_rows : (t : Bool) (s : Seen) (c : Checker) → (t ≡ true → lookup pairs seen_key (seen_key s) c.entries ≡ none)
+pub entry_rows : (t : Bool) (s : Seen) (c : Checker) → (t ≡ true → lookup pairs seen_key (seen_key s) c.entries ≡ None)
     → length (insert_seen_if t s c).entries ≡ length c.entries + pick t 1 0
 entry_rows true s c f = insert_length pairs seen_key s c.entries (f refl)
 entry_rows false s c f = omega arith
@@ -150,11 +148,9 @@ entry_rows false s c f = omega arith
 -- ---- the test of a row: its index, then its payload
 
 module _ (L p : ℕ) (s : List ℕ) (B : Bytes s) (l : length s ≡ 8 * (3 + words_for p)) (x : ℕ) (e : x ≡ get_or (W s) 0 0) where
-  pub index_zero : x < 1 → false ≡ (seen_in L p).row.ok (W s)
-  index_zero h = sym (and_no _ _ (no_and _ _ (ap (leb 1) (sym e) ∙ lt-leb 1 x h)))
-
-  pub index_above : L < x → false ≡ (seen_in L p).row.ok (W s)
-  index_above h = sym (and_no _ _ (and_no _ _ (ap (λ (y : ℕ). leb y L) (sym e) ∙ lt-leb x L h)))
+  pub index_past : (x < 1) ⊎ ((1 ≤ x) × (L < x)) → false ≡ (seen_in L p).row.ok (W s)
+  index_past (inl h) = sym (and_no _ _ (no_and _ _ (ap (leb 1) (sym e) ∙ lt-leb 1 x h)))
+  index_past (inr h) = sym (and_no _ _ (and_no _ _ (ap (λ (y : ℕ). leb y L) (sym e) ∙ lt-leb x L h.1)))
 
   pub index_fine : (q : Bool) → 1 ≤ x → x ≤ L → q ≡ (payload p).ok (W (take (8 * (3 + words_for p) - 16) (drop 16 s)))
       → q ≡ (seen_in L p).row.ok (W s)
@@ -165,9 +161,7 @@ module _ (L p : ℕ) (s : List ℕ) (B : Bytes s) (l : length s ≡ 8 * (3 + wor
       t ∙ part_ok (payload p) s 2 (3 + words_for p) B (omega arith) (omega arith)
       ∙ sym (ap (λ (v : Bool). ((true and true) and y) and v) z ∙ and_true _ ∙ ap (λ (v : Bool). v and y) (true_and true) ∙ true_and y)
 
-pub ruleset index_tests = (index_zero, index_above, index_fine)
-
-pub ruleset index_rows = (rowed_start, lent_fine, lent_fails, rowed_done)
+pub ruleset index_tests = (index_past, index_fine)
 
 -- ---- check: the order of the words is that of the rows
 

@@ -1,32 +1,29 @@
 -- What the proofs of leaders.rt cite. Assumes nothing.
-use Rattle.std.specs.Prelude.{◌≡◌, refl, Bool, true, false, not, List, [], ◌∷◌, ℕ, ◌+◌, ◌*◌, ◌^◌, ◌≤◌, ◌<◌, leb, eqb, length, get_or, drop}
+use Rattle.std.specs.Prelude.{◌≡◌, refl, Bool, true, false, not, List, [], ◌∷◌, ℕ, ◌+◌, ◌*◌, ◌^◌, ◌≤◌, ◌<◌, leb, eqb, length, get_or, drop, Option, None, Some, Result, Ok, Err}
 use Rattle.std.proofs.Math.Path.{sym, ap}
 use Rattle.std.proofs.Common.{◌∙◌, arith, get_or-drop, Fits, lt-ltb, le-leb, eq-eqb, ne_eqb}
-use Rattle.std.proofs.Math.Option.{Option, none, some}
 use Rattle.std.proofs.lemmas.List.Edits.{sets}
 use Rattle.std.specs.Int.{w64}
 use Rattle.std.proofs.lemmas.Bool.{lt-leb}
-use Rattle.laws.specs.Bools.{pick, no_and}
-use Rattle.laws.proofs.BoolLaws.{and_both, and_no}
+use Rattle.laws.specs.Bools.{pick, ◌and◌, no_and}
+use Rattle.laws.proofs.BoolLaws.{and_both, true_and}
 use Rattle.laws.specs.Decides.{false_true}
 use Rattle.laws.specs.Order.{numbers, rising, lookup}
 use Rattle.words.specs.Words.{bytes, W}
 use Rattle.units.specs.declared.NodeId.{NodeId}
 use Rattle.units.specs.declared.Term.{Term}
 use Rattle.units.specs.declared.SimTime.{SimTime}
-use Rattle.layout.specs.declared.rows.Found.{Found}
-use Rattle.layout.specs.declared.rows.Found.TheVariants.{At, Absent}
-use Rattle.layout.specs.Code.{ok_n}
 use Rattle.layout.specs.Tables.{Held, opened, rows_in}
-use Rattle.layout.specs.TableLaws.{rows_are, row_parsed, Rowed, rowed_start, rowed_turn, rowed_fail, rowed_done}
+use Rattle.layout.specs.TableLaws.{rows_are, row_parsed}
 use Rattle.layout.specs.Order.{find, place, one, heads}
 use Rattle.layout.specs.RowLaws.{heads_are}
 use Rattle.layout.specs.SortedTables.{Keyed, found_inside, found_row, found_none}
 use Rattle.checks.specs.declared.Check.TheVariants.{ElectionSafety}
 use Rattle.checks.specs.declared.TermLeader.{TermLeader}
-use Rattle.checks.specs.declared.leaders.LeaderSeen.TheVariants.{Same, Other, New}
+use Rattle.checks.specs.declared.Compared.TheVariants.{Same, Other, New}
+use Rattle.checks.specs.Compared.{is_new}
 use Rattle.checks.specs.Checks.{Checker, leader_key, report_if, compare_leader}
-use Rattle.checks.specs.Leaders.{leader_row, leaders, is_new, leader_seen, leader_after, AsksLeader, InsertsLeader}
+use Rattle.checks.specs.Leaders.{leader_row, leaders, leader_seen, leader_after, AsksLeader, InsertsLeader}
 use Rattle.checks.specs.InsertLaws.{insert_length, place_insert}
 use Rattle.checks.specs.Asked.{insert_leader_if}
 
@@ -44,9 +41,9 @@ no_leader = record { term = record { 0 = 0 }; server = record { 0 = 0 } }
 
 -- ---- a leader compared: f is what the search said
 
-module _ (n : ℕ) (b : List ℕ) (server : NodeId) (term : Term) (f : Found) (e : f
+module _ (n : ℕ) (b : List ℕ) (server : NodeId) (term : Term) (f : Result ℕ ℕ) (e : f
     ≡ find numbers term.0 (heads one 2 n (W b))) (i : ℕ) where
-  module _ (t : f ≡ At i) (at : ℕ) (a : at ≡ i * 2) (first : ℕ) (e₁ : first ≡ get_or (W b) (at + 1) 0) where
+  module _ (t : f ≡ Ok i) (at : ℕ) (a : at ≡ i * 2) (first : ℕ) (e₁ : first ≡ get_or (W b) (at + 1) 0) where
     -- the row of that term
     abbrev row : TermLeader
     row = leader_row.parse (drop (i * 2) (W b))
@@ -54,11 +51,11 @@ module _ (n : ℕ) (b : List ℕ) (server : NodeId) (term : Term) (f : Found) (e
     row_server : row.server.0 ≡ first
     row_server = get_or-drop 1 (drop (i * 2) (W b)) 0 0 ∙ get_or-drop (i * 2) (W b) 1 0 ∙ sym (e₁ ∙ ap (λ (j : ℕ). get_or (W b) (j + 1) 0) a)
 
-    there : (S N : ℕ) (x : List TermLeader) → Held (leaders S) N n b x → lookup numbers leader_key term.0 x ≡ some row
+    there : (S N : ℕ) (x : List TermLeader) → Held (leaders S) N n b x → lookup numbers leader_key term.0 x ≡ Some row
     there S N x h =
         ap (lookup numbers leader_key term.0) (sym (rows_are h))
         ∙ found_row numbers term.0 one (leaders S).row leader_key n b f i leader_read e no_leader t
-        ∙ ap some (row_parsed (leaders S).row n b i no_leader (found_inside numbers term.0 one 2 n (W b) f i e t))
+        ∙ ap Some (row_parsed (leaders S).row n b i no_leader (found_inside numbers term.0 one 2 n (W b) f i e t))
 
     row_seen : (S N : ℕ) (x : List TermLeader) → Held (leaders S) N n b x
         → pick (eqb first server.0) Same (Other (record { 0 = first })) ≡ leader_seen (lookup numbers leader_key term.0 x) server
@@ -77,7 +74,7 @@ module _ (n : ℕ) (b : List ℕ) (server : NodeId) (term : Term) (f : Found) (e
       to = λ S N x h. sym (ap (λ (t : Bool). pick t Same (Other (record { 0 = first }))) (ne_eqb first server.0 q)) ∙ row_seen S N x h;
     }
 
-  pub leader_new : f ≡ Absent i → AsksLeader server term n New b
+  pub leader_new : f ≡ Err i → AsksLeader server term n New b
   unfolding leader_seen
   leader_new t = record {
     to = λ S N x h.
@@ -108,8 +105,8 @@ leader_inserts {n} {b} {server} {term} {i} {at} {b₁} {b₂} r p q e a e₁ e�
 pub leader_after_lem : (o : Option TermLeader) (c : Checker) (time : SimTime) (server : NodeId) (term : Term)
     → compare_leader o c time server term ≡ leader_after (leader_seen o server) c time server term
 unfolding leader_seen
-leader_after_lem none c time server term = refl
-leader_after_lem (some first) c time server term = by (eqb first.server.0 server.0)
+leader_after_lem None c time server term = refl
+leader_after_lem (Some first) c time server term = by (eqb first.server.0 server.0)
   where
     by : (t : Bool)
         → report_if (not t) c time ElectionSafety (first.server.0 ∷ server.0 ∷ term.0 ∷ [])
@@ -118,39 +115,36 @@ leader_after_lem (some first) c time server term = by (eqb first.server.0 server
     by false = refl
 
 -- where none was there
-pub leader_absent : (o : Option TermLeader) (server : NodeId) → is_new (leader_seen o server) ≡ true → o ≡ none
+pub leader_absent : (o : Option TermLeader) (server : NodeId) → is_new (leader_seen o server) ≡ true → o ≡ None
 unfolding leader_seen
-leader_absent none server e = refl
-leader_absent (some first) server e = absurd (by (eqb first.server.0 server.0) e)
+leader_absent None server e = refl
+leader_absent (Some first) server e = absurd (by (eqb first.server.0 server.0) e)
   where
     by : (t : Bool) → is_new (pick t Same (Other first.server)) ≡ true → ⊥
     by true e = false_true e
     by false e = false_true e
 
-pub leader_rows : (t : Bool) (l : TermLeader) (c : Checker) → (t ≡ true → lookup numbers leader_key (leader_key l) c.leaders ≡ none)
+pub leader_rows : (t : Bool) (l : TermLeader) (c : Checker) → (t ≡ true → lookup numbers leader_key (leader_key l) c.leaders ≡ None)
     → length (insert_leader_if t l c).leaders ≡ length c.leaders + pick t 1 0
 leader_rows true l c f = insert_length numbers leader_key l c.leaders (f refl)
 leader_rows false l c f = omega arith
 
--- ---- the test of each row
+-- ---- the test of a row: its server
 
-module _ (n : ℕ) (ws : List ℕ) (S i x : ℕ) (r : Rowed (leaders S).row n ws i) (h : i < n) (e : x ≡ get_or ws (i * 2 + 1) 0) where
-  server_at_lem : get_or (drop 1 (drop (i * 2) ws)) 0 0 ≡ x
-  server_at_lem = get_or-drop 1 (drop (i * 2) ws) 0 0 ∙ get_or-drop (i * 2) ws 1 0 ∙ sym e
+module _ (ws : List ℕ) (S k x : ℕ) (e : x ≡ get_or ws (k * 2 + 1) 0) where
+  row_is : (leaders S).row.ok (drop (k * 2) ws) ≡ (leb 1 x and leb x S)
+  row_is =
+      let y : ℕ = get_or (drop 1 (drop (k * 2) ws)) 0 0 in
+      ap (λ (b : Bool). b and (leb 1 y and leb y S)) (true_and true) ∙ true_and (leb 1 y and leb y S)
+      ∙ ap (λ (y : ℕ). leb 1 y and leb y S) (get_or-drop 1 (drop (k * 2) ws) 0 0 ∙ get_or-drop (k * 2) ws 1 0 ∙ sym e)
 
-  pub server_zero : x < 1 → false ≡ ok_n (leaders S).row n ws
-  server_zero l = rowed_fail (leaders S).row n ws i r h (and_no _ _ (no_and _ _ (ap (leb 1) server_at_lem ∙ lt-leb 1 x l)))
+  pub server_zero : x < 1 → leb 1 x ≡ (leaders S).row.ok (drop (k * 2) ws)
+  server_zero h = lt-leb 1 x h ∙ sym (row_is ∙ no_and _ _ (lt-leb 1 x h))
 
-  pub server_above : S < x → false ≡ ok_n (leaders S).row n ws
-  server_above l = rowed_fail (leaders S).row n ws i r h (and_no _ _ (and_no _ _ (ap (λ (y : ℕ). leb y S) server_at_lem ∙ lt-leb x S l)))
+  pub server_tested : 1 ≤ x → leb x S ≡ (leaders S).row.ok (drop (k * 2) ws)
+  server_tested h = sym (row_is ∙ ap (λ (b : Bool). b and leb x S) (le-leb 1 x h) ∙ true_and _)
 
-  pub server_fine : 1 ≤ x → x ≤ S → Rowed (leaders S).row n ws (i + 1)
-  server_fine p q =
-      rowed_turn (leaders S).row n ws i r h
-      (and_both _ _ (and_both _ _ refl refl) (and_both _ _ (ap (leb 1) server_at_lem ∙ le-leb 1 x p) (ap (λ (y : ℕ). leb y S) server_at_lem
-      ∙ le-leb x S q)))
-
-pub ruleset server_rows = (rowed_start, server_zero, server_above, server_fine, rowed_done)
+pub ruleset server_rows = (server_zero, server_tested)
 
 -- ---- check: the order of the words is that of the rows
 

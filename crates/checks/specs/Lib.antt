@@ -6,6 +6,7 @@ pub mod Outcomes
 pub mod Asked
 pub mod AskedLaws
 pub mod InsertLaws
+pub mod Compared
 pub mod Leaders
 pub mod LeaderLaws
 pub mod Entries

@@ -1,10 +1,9 @@
 -- What the checks that ask for the total first have in common: the violations due, counted, and what became of the regions. Assumes
 -- nothing.
-use Rattle.std.specs.Prelude.{◌≡◌, Bool, List, ℕ, ◌^◌, ◌≤◌}
+use Rattle.std.specs.Prelude.{◌≡◌, Bool, List, ℕ, ◌^◌, ◌≤◌, Option, None, Some}
 use Rattle.laws.specs.Bools.{pick}
 use Rattle.layout.specs.Tables.{Held}
 use Rattle.checks.specs.declared.violations.Tally.{Tally}
-use Rattle.checks.specs.declared.violations.Tally.TheVariants.{Counted, Past64Bits}
 use Rattle.checks.specs.Checks.{Checker}
 use Rattle.checks.specs.Violations.{violations}
 
@@ -23,6 +22,6 @@ pub record Untold (v v' : List ℕ) (c : Checker) : Type 0 where
   pub same : v' ≡ v
   pub past : 2 ^ 64 ≤ c.total
 
-abbrev pub Outcome : Tally → (M : ℕ) (v v' : List ℕ) → Checker → Type 0
-Outcome (Counted kept total) M v v' c = Told M v' c kept total
-Outcome Past64Bits M v v' c = Untold v v' c
+abbrev pub Outcome : Option Tally → (M : ℕ) (v v' : List ℕ) → Checker → Type 0
+Outcome (Some t) M v v' c = Told M v' c t.kept t.total
+Outcome None M v v' c = Untold v v' c

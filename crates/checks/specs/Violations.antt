@@ -1,5 +1,5 @@
 -- Violations as a table (violations.rt): rows of 8 words, the time, the check's number, how many numbers, and five numbers padded with zeros. Assumes nothing.
-use Rattle.std.specs.Prelude.{◌≡◌, refl, Bool, true, List, [], ◌∷◌, map, ℕ, zero, suc, ◌+◌, ◌^◌, ◌≤◌, ◌<◌, ltb, leb, length, get_or}
+use Rattle.std.specs.Prelude.{◌≡◌, refl, Bool, true, List, [], ◌∷◌, map, ℕ, zero, suc, ◌+◌, ◌^◌, ◌≤◌, ◌<◌, ltb, leb, length, get_or, Option, None, Some}
 use Rattle.std.proofs.Common.{ap, ◌∙◌, arith, ltb-true}
 use Rattle.laws.specs.Bools.{pick, and_left}
 use Rattle.laws.proofs.BoolLaws.{and_right}
@@ -10,10 +10,7 @@ use Rattle.layout.specs.Tables.{Table, Held}
 use Rattle.layout.specs.UpTo.{up_to}
 use Rattle.checks.specs.declared.Check.{Check}
 use Rattle.checks.specs.declared.Check.TheVariants.{ElectionSafety, StateMachineSafety, ApplyOrder, UniqueEntries, Durability, Liveness, LogMatching, LeaderCompleteness}
-use Rattle.checks.specs.declared.violations.Detail.{Detail}
-use Rattle.checks.specs.declared.violations.Detail.TheVariants.{One, Two, Three, Five}
 use Rattle.checks.specs.declared.violations.Tally.{Tally}
-use Rattle.checks.specs.declared.violations.Tally.TheVariants.{Counted, Past64Bits}
 use Rattle.checks.specs.declared.violations.Violation.{Violation as Numbers}
 use Rattle.checks.specs.Checks.{Checker, Violation, check_number, max_recorded, report, report_if}
 
@@ -85,24 +82,13 @@ violations = record { row = violation_row; rule = λ x. leb (length x) max_recor
 
 -- ---- what the code passes and answers
 
--- The numbers of a violation's text.
-abbrev pub detail_of : Detail → List ℕ
-detail_of (One a) = a ∷ []
-detail_of (Two a b) = a ∷ b ∷ []
-detail_of (Three a b c) = a ∷ b ∷ c ∷ []
-detail_of (Five a b c d e) = a ∷ b ∷ c ∷ d ∷ e ∷ []
-
 -- A violation as the code hands it out: its numbers, those that are not there as zeros.
 abbrev pub given : Violation → Numbers
 given v = record {
   time = v.time;
   check = check_number v.check;
   count = length v.detail;
-  first = get_or v.detail 0 0;
-  second = get_or v.detail 1 0;
-  third = get_or v.detail 2 0;
-  fourth = get_or v.detail 3 0;
-  fifth = get_or v.detail 4 0;
+  numbers = get_or v.detail 0 0 ∷ get_or v.detail 1 0 ∷ get_or v.detail 2 0 ∷ get_or v.detail 3 0 ∷ get_or v.detail 4 0 ∷ [];
 }
 
 -- Any violation, for `get_or`.
@@ -113,9 +99,9 @@ no_violation = record { time = record { 0 = 0 }; check = ElectionSafety; detail 
 abbrev pub kept_after : ℕ → ℕ
 kept_after kept = pick (ltb kept max_recorded) (kept + 1) kept
 
--- The counts after one more report; a total past 64 bits is answered.
-unfoldable pub tally : ℕ → ℕ → Tally
-tally kept total = pick (ltb (total + 1) (2 ^ 64)) (Counted (kept_after kept) (total + 1)) Past64Bits
+-- The counts after one more report, if the total has 64 bits.
+unfoldable pub tally : ℕ → ℕ → Option Tally
+tally kept total = pick (ltb (total + 1) (2 ^ 64)) (Some (record { kept = kept_after kept; total = total + 1 })) None
 
 -- A violation that is due was kept in b, which held `kept` of a checker's: how many are kept now, and what b' holds.
 pub record Keeps (due : Bool) (time : SimTime) (check : Check) (detail : List ℕ) (kept r : ℕ) (b b' : List ℕ) : Type 0 where
@@ -123,7 +109,7 @@ pub record Keeps (due : Bool) (time : SimTime) (check : Check) (detail : List �
   pub to : (c : Checker) (N : ℕ) → Held violations N kept b c.violations → Held violations N r b' (report_if due c time check detail).violations
 
 -- A violation was reported to b, which held `kept` of the `total` violations of a checker: the counts, and what b' holds; nothing changed where the total is past 64 bits.
-pub record Reports (time : SimTime) (check : Check) (detail : List ℕ) (kept total : ℕ) (r : Tally) (b b' : List ℕ) : Type 0 where
+pub record Reports (time : SimTime) (check : Check) (detail : List ℕ) (kept total : ℕ) (r : Option Tally) (b b' : List ℕ) : Type 0 where
   pub answer : r ≡ tally kept total
   pub counted : total + 1 < 2 ^ 64 → (c : Checker) (N : ℕ) → Held violations N kept b c.violations
       → Held violations N (kept_after kept) b' (report c time check detail).violations

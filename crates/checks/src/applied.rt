@@ -8,7 +8,7 @@ use layout::rows;
 use units::LogIndex;
 
 // A payload against the first applied at its index: the same; another, which breaks state machine safety; none, and the place is the next
-// free one; or the place is further on.
+// free one; or the place is further on. (d) No `Compared`, which has no word for a place further on.
 #[derive(Clone, Copy)]
 pub enum AppliedSeen {
     Same,
@@ -22,28 +22,19 @@ impl AppliedSeen {
     pub fn is_other(self) -> bool
         ensures { result ≡ is_other self }
     {
-        match self {
-            AppliedSeen::Same => false,
-            AppliedSeen::Other => true,
-            AppliedSeen::Next => false,
-            AppliedSeen::Further => false,
-        }
+        matches!(self, AppliedSeen::Other)
     }
 
     // Whether the place is the next free one.
     pub fn is_next(self) -> bool
         ensures { result ≡ is_next self }
     {
-        match self {
-            AppliedSeen::Same => false,
-            AppliedSeen::Other => false,
-            AppliedSeen::Next => true,
-            AppliedSeen::Further => false,
-        }
+        matches!(self, AppliedSeen::Next)
     }
 }
 
 // Compares a payload, lent in words, with the first applied at its index (on_apply). Index 0 has no place.
+#[tactic(auto, using(crate::specs::AppliedLaws::applied_asks))]
 pub fn ask(s: &[u8], n: usize, p: usize, index: LogIndex, content: &[u8]) -> AppliedSeen
     requires p_bound { p ≤ 256 }
     requires p_in_bounds { 8 * (n * (1 + words_for p)) ≤ length s.now }
@@ -65,12 +56,14 @@ pub fn ask(s: &[u8], n: usize, p: usize, index: LogIndex, content: &[u8]) -> App
     let a = 8 * at;
     let e = 8 * (at + w);
     if words::equal(&s[a..e], content) {
-        return AppliedSeen::Same;
+        AppliedSeen::Same
+    } else {
+        AppliedSeen::Other
     }
-    AppliedSeen::Other
 }
 
 // One payload more, lent in words; there is room for it.
+#[tactic(auto, using(crate::specs::AppliedLaws::applied_appends))]
 pub fn append(s: &mut [u8], n: usize, p: usize, content: &[u8])
     requires p_bound { p ≤ 256 }
     requires p_in_bounds { 8 * (n * (1 + words_for p) + (1 + words_for p)) ≤ length s.old }

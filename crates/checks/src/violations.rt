@@ -1,25 +1,16 @@
 // The violations that are kept (`violations` of checks.rs): rows of 8 words, in the order in which they were reported, the first 32 of all.
 // The caller keeps how many are kept, and how many there were.
-ghost use Rattle.std.specs.Prelude.{◌≡◌, ◌+◌, ◌*◌, ◌≤◌, ◌<◌, length, get_or};
+ghost use Rattle.std.specs.Prelude.{◌≡◌, ◌+◌, ◌*◌, ◌≤◌, ◌<◌, length, get_or, drop};
 ghost use Rattle.laws.specs.Decides.{Decides};
 ghost use Rattle.words.specs.Words.{W};
 ghost use Rattle.layout.specs.Code.{ok_n};
 ghost use Rattle.layout.specs.Tables.{Tabled, Gives};
 ghost use Rattle.checks.specs.Outcomes.{one_if};
-ghost use Rattle.checks.specs.Violations.{violation_row, violations, detail_of, given, no_violation, Keeps, Reports};
+ghost use Rattle.checks.specs.Violations.{violation_row, violations, given, no_violation, Keeps, Reports};
 
 use crate::Check;
 use layout::rows;
 use units::SimTime;
-
-// The numbers of a violation's text, in its order.
-#[derive(Clone, Copy)]
-pub enum Detail {
-    One(u64),
-    Two(u64, u64),
-    Three(u64, u64, u64),
-    Five(u64, u64, u64, u64, u64),
-}
 
 // A violation: when it was seen, the check's number, how many numbers its text has, and these; those that are not there are zero.
 #[derive(Clone, Copy)]
@@ -27,122 +18,64 @@ pub struct Violation {
     pub time: SimTime,
     pub check: u64,
     pub count: u64,
-    pub first: u64,
-    pub second: u64,
-    pub third: u64,
-    pub fourth: u64,
-    pub fifth: u64,
+    pub numbers: [u64; 5],
 }
 
-// How many violations are kept and how many there were, after a report; or the total has no 64 bits.
+// How many violations are kept, and how many there were.
 #[derive(Clone, Copy)]
-pub enum Tally {
-    Counted { kept: usize, total: u64 },
-    Past64Bits,
+pub struct Tally {
+    pub kept: usize,
+    pub total: u64,
 }
 
 // One where a violation is due: reports are counted before any is kept.
 pub fn one_if(due: bool) -> u64
     ensures { (result ≡ one_if due) × (result ≤ 1) }
 {
-    if due { 1 } else { 0 }
+    u64::from(due)
 }
 
-// A violation as its numbers.
-fn stated(time: SimTime, check: Check, detail: Detail) -> Violation
-    ensures { result ≡ given (record { time = time; check = check; detail = detail_of detail }) }
-{
-    let check = check.number();
-    match detail {
-        Detail::One(first) => Violation {
-            time,
-            check,
-            count: 1,
-            first,
-            second: 0,
-            third: 0,
-            fourth: 0,
-            fifth: 0,
-        },
-        Detail::Two(first, second) => Violation {
-            time,
-            check,
-            count: 2,
-            first,
-            second,
-            third: 0,
-            fourth: 0,
-            fifth: 0,
-        },
-        Detail::Three(first, second, third) => Violation {
-            time,
-            check,
-            count: 3,
-            first,
-            second,
-            third,
-            fourth: 0,
-            fifth: 0,
-        },
-        Detail::Five(first, second, third, fourth, fifth) => Violation {
-            time,
-            check,
-            count: 5,
-            first,
-            second,
-            third,
-            fourth,
-            fifth,
-        },
-    }
-}
-
-// Keeps a violation that is due, while fewer than 32 are kept, and answers how many are.
+// Keeps a violation that is due, while fewer than 32 are kept, and answers how many are. `detail` has the numbers of its text, in its order.
 pub fn keep(
     s: &mut [u8],
     kept: usize,
     due: bool,
     time: SimTime,
     check: Check,
-    detail: Detail,
+    detail: &[u64],
 ) -> usize
-    requires { 2048 ≤ length s.old }
-    ensures { Keeps due time check (detail_of detail) kept result s.old s.new }
+    requires room { 2048 ≤ length s.old }
+    requires few { length detail.now ≤ 5 }
+    ensures { Keeps due time check detail.now kept result s.old s.new }
 {
-    if !due {
+    if !due || 32 <= kept {
         return kept;
     }
-    if 32 <= kept {
-        return kept;
-    }
-    let v = stated(time, check, detail);
-    let row = [
-        v.time.0, v.check, v.count, v.first, v.second, v.third, v.fourth, v.fifth,
-    ];
-    words::store_all(s, kept * 8, &row);
+    let at = kept * 8;
+    let numbers = detail.len();
+    words::store_all(s, at, &[time.0, u64::from(check), numbers as u64]);
+    words::store_all(s, at + 3, detail);
+    words::fill_zero(s, 8 * (at + 3 + numbers), 8 * (at + 8));
     kept + 1
 }
 
-// Counts a violation, and keeps it while fewer than 32 are kept (report).
+// Counts a violation, and keeps it while fewer than 32 are kept (report). None: the total has no 64 bits, and nothing changed.
+#[tactic(auto, unfolding(crate::specs::Violations::tally))]
 pub fn report(
     s: &mut [u8],
     kept: usize,
     total: u64,
     time: SimTime,
     check: Check,
-    detail: Detail,
-) -> Tally
-    requires { 2048 ≤ length s.old }
-    ensures { Reports time check (detail_of detail) kept total result s.old s.new }
+    detail: &[u64],
+) -> Option<Tally>
+    requires room { 2048 ≤ length s.old }
+    requires few { length detail.now ≤ 5 }
+    ensures { Reports time check detail.now kept total result s.old s.new }
 {
-    if total == 18446744073709551615 {
-        return Tally::Past64Bits;
-    }
+    let total = total.checked_add(1)?;
     let kept = keep(s, kept, true, time, check, detail);
-    Tally::Counted {
-        kept,
-        total: total + 1,
-    }
+    Some(Tally { kept, total })
 }
 
 // Violation k of n.
@@ -155,12 +88,28 @@ pub fn read(s: &[u8], n: usize, k: usize) -> Violation
         time: SimTime(words::load(s, at)),
         check: words::load(s, at + 1),
         count: words::load(s, at + 2),
-        first: words::load(s, at + 3),
-        second: words::load(s, at + 4),
-        third: words::load(s, at + 5),
-        fourth: words::load(s, at + 6),
-        fifth: words::load(s, at + 7),
+        numbers: [
+            words::load(s, at + 3),
+            words::load(s, at + 4),
+            words::load(s, at + 5),
+            words::load(s, at + 6),
+            words::load(s, at + 7),
+        ],
     }
+}
+
+// Whether row k is a violation: of one of the checks, with up to five numbers, and zeros behind them.
+#[tactic(auto, using(crate::specs::ViolationLaws::violation_rows))]
+fn row_ok(s: &[u8], n: usize, k: usize) -> bool
+    requires { (k < n) × (8 * (n * 8) ≤ length s.now) }
+    ensures { result ≡ violation_row.ok (drop (k * 8) (W s.now)) }
+{
+    let from = k * 8;
+    let count = words::load(s, from + 2);
+    if 8 <= words::load(s, from + 1) || 5 < count {
+        return false;
+    }
+    words::zero_words(s, from + 3 + count as usize, from + 8)
 }
 
 // Whether each row is a violation.
@@ -168,25 +117,11 @@ fn rows_ok(s: &[u8], n: usize) -> bool
     requires { 8 * (n * 8) ≤ length s.now }
     ensures { result ≡ ok_n violation_row n (W s.now) }
 {
-    let mut i = 0;
-    while i < n {
-        let at = i * 8;
-        if 8 <= words::load(s, at + 1) {
-            return false;
-        }
-        let count = words::load(s, at + 2);
-        if 5 < count {
-            return false;
-        }
-        if !words::zero_words(s, at + 3 + count as usize, at + 8) {
-            return false;
-        }
-        i += 1;
-    }
-    true
+    (0..n).all(|k| row_ok(s, n, k))
 }
 
 // Whether the bytes are a table of n violations, at most 32.
+#[tactic(auto, using(layout::specs::TableLaws::checks, crate::specs::ViolationLaws::at_most))]
 pub fn check(s: &[u8], n: usize) -> bool
     ensures { Decides result (Tabled violations n s.now) }
 {

@@ -1,6 +1,5 @@
 -- Acknowledged commands against the payloads applied at their indexes (acknowledged.rt). Assumes nothing.
-use Rattle.std.specs.Prelude.{◌≡◌, Bool, not, List, [], ◌∷◌, ◌++◌, ℕ, ◌+◌, ◌-◌, ◌≤◌, length, drop}
-use Rattle.std.proofs.Math.Option.{some}
+use Rattle.std.specs.Prelude.{◌≡◌, Bool, not, List, [], ◌∷◌, ◌++◌, ℕ, ◌+◌, ◌-◌, ◌≤◌, length, drop, Some}
 use Rattle.laws.specs.Bools.{pick}
 use Rattle.laws.specs.Lists.{at}
 use Rattle.units.specs.Types.{Payload, command, same_payload}
@@ -49,7 +48,7 @@ pub record IsCommand (p size : ℕ) (reply : Reply) (r : Bool) (b : List ℕ) : 
 
 -- Whatever n replies s holds and m payloads a, r is whether the command of reply k is not the payload applied at its index.
 pub record Misses (p size n m k : ℕ) (r : Bool) (s a : List ℕ) : Type 0 where
-  pub to : (N : ℕ) (x : List Reply) (y : List Payload) → Replied n s x → Held (applied p) N m a y → (reply : Reply) → at x k ≡ some reply
+  pub to : (N : ℕ) (x : List Reply) (y : List Payload) → Replied n s x → Held (applied p) N m a y → (reply : Reply) → at x k ≡ Some reply
       → r ≡ not (is_applied size reply y)
 
 -- Whatever n replies s holds and m payloads a, r is how many of their commands are missing.

@@ -1,8 +1,7 @@
 -- What the proofs of acknowledged.rt cite. Assumes nothing.
-use Rattle.std.specs.Prelude.{◌≡◌, refl, Bool, false, not, List, [], ◌++◌, ℕ, zero, suc, ◌+◌, ◌-◌, ◌*◌, ◌/◌, ◌%◌, ◌≤◌, ◌<◌, max, length, get_or, take, drop, replicate}
+use Rattle.std.specs.Prelude.{◌≡◌, refl, Bool, false, List, [], ◌++◌, ℕ, zero, suc, ◌+◌, ◌-◌, ◌*◌, ◌/◌, ◌%◌, ◌≤◌, ◌<◌, max, length, get_or, take, drop, replicate, Option}
 use Rattle.std.proofs.Common.{sym, ap₂, ◌∙◌, append-nil, append_assoc, arith, length-append, length-drop, drop_of_length-le, length-take-le, take_all}
 use Rattle.std.proofs.Math.Path.{ap}
-use Rattle.std.proofs.Math.Option.{Option, none, some-injective}
 use Rattle.std.proofs.lemmas.List.{length-replicate}
 use Rattle.std.proofs.lemmas.List.Edits.{sets}
 use Rattle.laws.specs.Decides.{Decides}
@@ -12,7 +11,6 @@ use Rattle.words.specs.Words.{bytes_of, Bytes}
 use Rattle.words.specs.Sets.{sets_at}
 use Rattle.words.specs.Numbers.{length_bytes_of, bytes_of_each, each_append, each_zeros}
 use Rattle.units.specs.Types.{Payload, noop, command}
-use Rattle.units.specs.declared.LogIndex.{LogIndex}
 use Rattle.client.specs.Key.{encode}
 use Rattle.client.specs.Laws.{encode_length}
 use Rattle.layout.specs.Tables.{Holds, Gives}
@@ -25,8 +23,7 @@ use Rattle.layout.specs.MarkedLaws.{puts, payloads_same}
 use Rattle.layout.specs.Applied.{applied}
 use Rattle.checks.specs.Checks.{is_payload}
 use Rattle.checks_durability.specs.declared.replies.Reply.{Reply}
-use Rattle.checks_durability.specs.Acknowledged.{rebuilt, Encodes, IsCommand, place_of, is_applied, Misses}
-use Rattle.checks_durability.specs.Replies.{Reads}
+use Rattle.checks_durability.specs.Acknowledged.{rebuilt, Encodes, IsCommand, place_of, is_applied}
 
 -- ---- the command rebuilt
 
@@ -117,16 +114,6 @@ command_compared reply p size b content content' r h₁ h₂ h₃ len put d = re
       payloads_same p b content' x (command y) r h k d;
 }
 
-pub place_first : (index : LogIndex) → index.0 < 1 → 0 ≡ place_of index
-unfolding place_of
-place_first index h = omega arith
-
-pub place_before : (index : LogIndex) → 1 ≤ index.0 → index.0 - 1 ≡ place_of index
-unfolding place_of
-place_before index h = refl
-
-pub ruleset places = (place_first, place_before)
-
 module _ (reply : Reply) (p m size : ℕ) (a : List ℕ) (place : ℕ) (e : place ≡ place_of reply.index) where
   pub none_applied : m ≤ place → Gives (applied p) m a false (is_applied size reply)
   unfolding is_applied
@@ -146,13 +133,3 @@ module _ (reply : Reply) (p m size : ℕ) (a : List ℕ) (place : ℕ) (e : plac
   }
 
 pub ruleset compared = (none_applied, row_compared)
-
--- ---- the reply at a place
-
-pub reply_compared : (p size n m k : ℕ) (s a : List ℕ) (reply : Reply) (ok : Bool) → Reads n k reply s
-    → Gives (applied p) m a ok (is_applied size reply) → Misses p size n m k (not ok) s a
-reply_compared p size n m k s a reply ok r g = record {
-  to = λ N x y h held other e.
-      let same : reply ≡ other = some-injective reply other (sym (r.to x h) ∙ e) in
-      ap not (g.to N y held ∙ ap (λ (q : Reply). is_applied size q y) same);
-}

@@ -1,9 +1,8 @@
 -- What the loops of acknowledged.rt cite, and the laws by which a caller's loop over the replies checks them all. Assumes nothing.
-use Rattle.std.specs.Prelude.{◌≡◌, Bool, not, ℕ, zero, suc, ◌+◌, ◌≤◌, ◌<◌, max, length, get_or, drop}
+use Rattle.std.specs.Prelude.{◌≡◌, Bool, not, ℕ, zero, suc, ◌+◌, ◌≤◌, ◌<◌, max, length, get_or, drop, Some}
 use Rattle.std.proofs.Common.{sym, ◌∙◌, add-one, arith, drop_of_length-le}
 use Rattle.std.proofs.Math.Path.{ap}
 use mathlib.Core.List.{List, [], ◌∷◌}
-use Rattle.std.proofs.Math.Option.{some}
 use Rattle.laws.specs.Bools.{pick}
 use Rattle.laws.specs.Lists.{at}
 use Rattle.laws.specs.ListLaws.{at_there}
@@ -21,13 +20,13 @@ use Rattle.checks_durability.specs.Acknowledged.{acknowledged_from, place_of, is
 
 -- ---- the replies from a place on
 
-from_place : {A : Type 0} (x : List A) (i : ℕ) (a : A) → at x i ≡ some a → drop i x ≡ a ∷ drop (suc i) x
+from_place : {A : Type 0} (x : List A) (i : ℕ) (a : A) → at x i ≡ Some a → drop i x ≡ a ∷ drop (suc i) x
 unfolding at
 from_place [] i a e = cc
 from_place (y ∷ x) zero a e = cc
 from_place (y ∷ x) (suc i) a e = from_place x i a e
 
-next : (x : List Reply) (i : ℕ) (reply : Reply) → at x i ≡ some reply → drop i x ≡ reply ∷ drop (i + 1) x
+next : (x : List Reply) (i : ℕ) (reply : Reply) → at x i ≡ Some reply → drop i x ≡ reply ∷ drop (i + 1) x
 next x i reply there = from_place x i reply there ∙ ap (λ (k : ℕ). reply ∷ drop k x) (sym (add-one i))
 
 none_left : {n i : ℕ} {s : List ℕ} {x : List Reply} → n ≤ i → Replied n s x → drop i x ≡ []
@@ -53,7 +52,7 @@ counting_turn {p} {size} {n} {m} {s} {a} {count} {i} due one c h r e l = record 
   most = omega (arith, c.most);
   is = λ N x y held k.
       let reply : Reply = get_or x i no_reply in
-      let there : at x i ≡ some reply = at_there x i no_reply (omega (arith, (held_rows held.held).count)) in
+      let there : at x i ≡ Some reply = at_there x i no_reply (omega (arith, (held_rows held.held).count)) in
       let d : missing y (acknowledged_from size (drop i x)) ≡ one + missing y (acknowledged_from size (drop (i + 1) x)) =
       ap (λ (z : List Reply). missing y (acknowledged_from size z)) (next x i reply there)
       ∙ ap (λ (t : ℕ). t + missing y (acknowledged_from size (drop (i + 1) x)))
@@ -103,7 +102,7 @@ pub ruleset rising = (rising_start, rising_turn, rising_done)
 -- ---- a loop over the replies: what checks the rest checks the whole
 
 module _ (size : ℕ) (time : SimTime) (x : List Reply) (i : ℕ) (c : Checker) where
-  pub replies_turn : (reply : Reply) (due : Bool) → at x i ≡ some reply → due ≡ not (is_applied size reply c.applied)
+  pub replies_turn : (reply : Reply) (due : Bool) → at x i ≡ Some reply → due ≡ not (is_applied size reply c.applied)
       → check_acknowledged c time (acknowledged_from size (drop i x))
       ≡ check_acknowledged (report_if due c time Durability (reply.index.0 ∷ [])) time (acknowledged_from size (drop (i + 1) x))
   unfolding check_acknowledged acknowledged_from is_applied place_of

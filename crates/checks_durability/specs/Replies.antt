@@ -1,13 +1,10 @@
 -- Replies as a table (replies.rt): rows of when the command was sent, when its reply came, its index, client and sequence. Assumes nothing.
-use Rattle.std.specs.Prelude.{◌≡◌, refl, true, List, ℕ, ◌+◌, ◌≤◌, ◌<◌, leb, ltb, length}
-use Rattle.std.proofs.Math.Option.{some}
+use Rattle.std.specs.Prelude.{◌≡◌, refl, true, List, ℕ, ◌+◌, ◌≤◌, ◌<◌, leb, ltb, length, Option, None, Some}
 use Rattle.laws.specs.Bools.{pick, ◌and◌}
 use Rattle.laws.specs.Lists.{at}
 use Rattle.layout.specs.Code.{Code, word, pair, iso, such}
 use Rattle.layout.specs.Tables.{Table, Held, append}
 use Rattle.checks_durability.specs.declared.replies.Reply.{Reply}
-use Rattle.checks_durability.specs.declared.replies.Appending.{Appending}
-use Rattle.checks_durability.specs.declared.replies.Appending.TheVariants.{Appended, Full}
 
 -- The five numbers of a reply.
 abbrev pub Five : Type 0
@@ -50,25 +47,25 @@ pub record Grown (L C N n m : ℕ) (b' : List ℕ) (x : List Reply) (reply : Rep
   pub held : Held (replies L C) N m b' (append reply x)
 
 -- What an answer says of the bytes.
-abbrev pub Outcome : Appending → (L C N n : ℕ) (b b' : List ℕ) → List Reply → Reply → Type 0
-Outcome (Appended m) L C N n b b' x reply = Grown L C N n m b' x reply
-Outcome Full L C N n b b' x reply = b' ≡ b
+abbrev pub Outcome : Option ℕ → (L C N n : ℕ) (b b' : List ℕ) → List Reply → Reply → Type 0
+Outcome (Some m) L C N n b b' x reply = Grown L C N n m b' x reply
+Outcome None L C N n b b' x reply = b' ≡ b
 
 -- Document 01's number for an answer.
-unfoldable pub appending_number : Appending → ℕ
-appending_number (Appended m) = 0
-appending_number Full = 10
+unfoldable pub appending_number : Option ℕ → ℕ
+appending_number (Some m) = 0
+appending_number None = 10
 
 -- Document 01's number for so many rows: 10 where there is no room for them.
 unfoldable pub room_code : ℕ → ℕ → ℕ
 room_code rows room = pick (leb rows room) 0 10
 
 -- A reply in range was appended to b, whatever n rows it holds, in room for so many: the answer's number, and what it says of the bytes.
-pub record Appends (reply : Reply) (n room : ℕ) (r : Appending) (b b' : List ℕ) : Type 0 where
+pub record Appends (reply : Reply) (n room : ℕ) (r : Option ℕ) (b b' : List ℕ) : Type 0 where
   pub number : (x : List Reply) → Replied n b x → appending_number r ≡ room_code (length (append reply x)) room
   pub to : (L C : ℕ) → reply.index.0 ≤ L → reply.client < C → (N : ℕ) (x : List Reply) → Held (replies L C) N n b x
       → Outcome r L C N n b b' x reply
 
 -- Whatever n replies b holds, r is the one at place k.
 pub record Reads (n k : ℕ) (r : Reply) (b : List ℕ) : Type 0 where
-  pub to : (x : List Reply) → Replied n b x → at x k ≡ some r
+  pub to : (x : List Reply) → Replied n b x → at x k ≡ Some r

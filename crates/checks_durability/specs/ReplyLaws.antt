@@ -1,20 +1,18 @@
 -- What the proofs of replies.rt cite. Assumes nothing.
-use Rattle.std.specs.Prelude.{◌≡◌, false, List, [], ◌∷◌, ℕ, ◌+◌, ◌*◌, ◌≤◌, ◌<◌, leb, ltb, length, get_or, drop}
+use Rattle.std.specs.Prelude.{◌≡◌, Bool, true, List, [], ◌∷◌, ℕ, ◌+◌, ◌*◌, ◌≤◌, ◌<◌, leb, ltb, length, get_or, drop, None, Some}
 use Rattle.std.proofs.Math.Path.{refl}
-use Rattle.std.proofs.Common.{sym, ap, ◌∙◌, add-zero, arith, length-append, get_or-drop, Fits, lt-ltb, le-ltb, le-leb}
+use Rattle.std.proofs.Common.{sym, ap, ap₂, ◌∙◌, add-zero, arith, length-append, get_or-drop, Fits, lt-ltb, le-leb}
 use Rattle.std.proofs.lemmas.List.Edits.{sets}
 use Rattle.std.specs.Int.{w64}
 use Rattle.std.proofs.lemmas.Bool.{lt-leb}
-use Rattle.laws.specs.Bools.{no_and}
-use Rattle.laws.proofs.BoolLaws.{and_both, and_no}
+use Rattle.laws.specs.Bools.{◌and◌, no_and}
+use Rattle.laws.proofs.BoolLaws.{and_both, true_and}
 use Rattle.laws.specs.ListLaws.{at_there}
 use Rattle.words.specs.Words.{bytes, W}
-use Rattle.layout.specs.Code.{ok_n}
 use Rattle.layout.specs.Tables.{append}
 use Rattle.layout.specs.UpTo.{is64_fits}
-use Rattle.layout.specs.TableLaws.{held_rows, row_word, append_held, Rowed, rowed_start, rowed_turn, rowed_fail, rowed_done}
+use Rattle.layout.specs.TableLaws.{held_rows, row_word, append_held}
 use Rattle.checks_durability.specs.declared.replies.Reply.{Reply}
-use Rattle.checks_durability.specs.declared.replies.Appending.TheVariants.{Appended, Full}
 use Rattle.checks_durability.specs.Replies.{replies, Replied, appending_number, room_code, Appends, Reads}
 
 -- ---- append
@@ -24,7 +22,7 @@ unfolding append
 appended_length reply n b x h = length-append x (reply ∷ []) ∙ ap (λ (k : ℕ). k + 1) (held_rows h.held).count
 
 module _ (reply : Reply) (n room : ℕ) (b : List ℕ) where
-  pub append_full : room ≤ n → Appends reply n room Full b b
+  pub append_full : room ≤ n → Appends reply n room None b b
   unfolding appending_number room_code
   append_full l = record {
     number = λ x h. rw (lt-leb (length (append reply x)) room (omega (arith, appended_length reply n b x h)));
@@ -35,7 +33,7 @@ module _ (reply : Reply) (n room : ℕ) (b : List ℕ) where
       → Fits w64 reply.sent.0 → Fits w64 reply.received.0 → Fits w64 reply.index.0 → Fits w64 reply.client
       → Fits w64 reply.seq
       → b' ≡ sets b (8 * (n * 5)) (bytes (reply.sent.0 ∷ reply.received.0 ∷ reply.index.0 ∷ reply.client ∷ reply.seq ∷ []))
-      → Appends reply n room (Appended (n + 1)) b b'
+      → Appends reply n room (Some (n + 1)) b b'
   unfolding appending_number room_code
   append_row b' m r f₁ f₂ f₃ f₄ f₅ e = record {
     number = λ x h. rw (le-leb (length (append reply x)) room (omega (arith, appended_length reply n b x h)));
@@ -75,30 +73,29 @@ read_is n k b s t i c q h es et ei ec eq = record {
       rw (e₀, e₁, e₂, e₃, e₄) (at_there x k no_reply (omega (arith, (held_rows held).count)));
 }
 
--- ---- the test of each row
+-- ---- the test of a row: its index and its client
 
-module _ (n : ℕ) (ws : List ℕ) (L C k x : ℕ) (r : Rowed (replies L C).row n ws k) (h : k < n) (ei : x ≡ get_or ws (k * 5 + 2) 0) where
+module _ (ws : List ℕ) (L C k x : ℕ) (ei : x ≡ get_or ws (k * 5 + 2) 0) where
   abbrev row : List ℕ
   row = drop (k * 5) ws
 
-  index_at : get_or (drop 1 (drop 1 row)) 0 0 ≡ x
-  index_at = get_or-drop 1 (drop 1 row) 0 0 ∙ get_or-drop 1 row 1 0 ∙ get_or-drop (k * 5) ws 2 0 ∙ sym ei
+  row_is : (replies L C).row.ok row ≡ (leb x L and ltb (get_or ws (k * 5 + 3) 0) C)
+  row_is =
+      let i : ℕ = get_or (drop 1 (drop 1 row)) 0 0 in
+      let c : ℕ = get_or (drop 1 (drop 1 (drop 1 row))) 0 0 in
+      let ei' : i ≡ x = get_or-drop 1 (drop 1 row) 0 0 ∙ get_or-drop 1 row 1 0 ∙ get_or-drop (k * 5) ws 2 0 ∙ sym ei in
+      let ec : c ≡ get_or ws (k * 5 + 3) 0 =
+      get_or-drop 1 (drop 1 (drop 1 row)) 0 0 ∙ get_or-drop 1 (drop 1 row) 1 0 ∙ get_or-drop 1 row 2 0 ∙ get_or-drop (k * 5) ws 3 0 in
+      let fine : (true and (true and (true and (true and true)))) ≡ true =
+      and_both _ _ refl (and_both _ _ refl (and_both _ _ refl (and_both _ _ refl refl))) in
+      ap (λ (b : Bool). b and (leb i L and ltb c C)) fine ∙ true_and (leb i L and ltb c C)
+      ∙ ap₂ (λ (y z : ℕ). leb y L and ltb z C) ei' ec
 
-  pub index_above : L < x → false ≡ ok_n (replies L C).row n ws
-  index_above l = rowed_fail (replies L C).row n ws k r h (and_no _ _ (no_and _ _ (ap (λ (j : ℕ). leb j L) index_at ∙ lt-leb x L l)))
+  pub index_above : L < x → leb x L ≡ (replies L C).row.ok row
+  index_above l = lt-leb x L l ∙ sym (row_is ∙ no_and _ _ (lt-leb x L l))
 
-  module _ (l : x ≤ L) (y : ℕ) (ec : y ≡ get_or ws (k * 5 + 3) 0) where
-    client_at_lem : get_or (drop 1 (drop 1 (drop 1 row))) 0 0 ≡ y
-    client_at_lem =
-        get_or-drop 1 (drop 1 (drop 1 row)) 0 0 ∙ get_or-drop 1 (drop 1 row) 1 0 ∙ get_or-drop 1 row 2 0 ∙ get_or-drop (k * 5) ws 3 0 ∙ sym ec
+  pub client_tested : x ≤ L → (y : ℕ) → y ≡ get_or ws (k * 5 + 3) 0 → ltb y C ≡ (replies L C).row.ok row
+  client_tested l y ey =
+      ap (λ (j : ℕ). ltb j C) ey ∙ sym (row_is ∙ ap (λ (b : Bool). b and ltb (get_or ws (k * 5 + 3) 0) C) (le-leb x L l) ∙ true_and _)
 
-    pub client_above : C ≤ y → false ≡ ok_n (replies L C).row n ws
-    client_above m = rowed_fail (replies L C).row n ws k r h (and_no _ _ (and_no _ _ (ap (λ (j : ℕ). ltb j C) client_at_lem ∙ le-ltb y C m)))
-
-    pub row_fine : y < C → Rowed (replies L C).row n ws (k + 1)
-    row_fine m =
-        rowed_turn (replies L C).row n ws k r h
-        (and_both _ _ (and_both _ _ refl (and_both _ _ refl (and_both _ _ refl (and_both _ _ refl refl))))
-        (and_both _ _ (ap (λ (j : ℕ). leb j L) index_at ∙ le-leb x L l) (ap (λ (j : ℕ). ltb j C) client_at_lem ∙ lt-ltb y C m)))
-
-pub ruleset reply_rows = (rowed_start, index_above, client_above, row_fine, rowed_done)
+pub ruleset reply_rows = (index_above, client_tested)

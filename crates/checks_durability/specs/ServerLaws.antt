@@ -1,54 +1,35 @@
 -- What the proof of servers.rt cites, and the laws by which a caller's loop over the servers checks them all. Assumes nothing.
-use Rattle.std.specs.Prelude.{◌≡◌, ℕ, ◌+◌, ◌≤◌, ◌<◌, ltb, length, take, drop}
-use Rattle.std.proofs.Common.{sym, ◌∙◌, add-one, arith, drop_of_length-le, length-take-le, get_or-take}
+use Rattle.std.specs.Prelude.{◌≡◌, ℕ, ◌+◌, ◌≤◌, ◌<◌, ltb, length, drop}
+use Rattle.std.proofs.Common.{sym, ◌∙◌, add-one, arith, drop_of_length-le}
 use Rattle.std.proofs.Math.Path.{ap}
 use mathlib.Core.List.{List, [], ◌∷◌}
 use Rattle.std.proofs.Math.ListN.{get_or}
+use Rattle.std.specs.Prelude.{Bool, true, false, cond, count_by, refl}
+use Rattle.std.proofs.lemmas.List.Recursion.{is_count_by}
 use Rattle.laws.specs.Bools.{pick}
+use Rattle.std.proofs.lemmas.List.Sums.{count_by-le-length}
 use Rattle.laws.specs.ListLaws.{drop_next}
 use Rattle.units.specs.declared.SimTime.{SimTime}
 use Rattle.checks.specs.declared.Check.TheVariants.{Durability}
 use Rattle.checks.specs.Checks.{Checker, report_if, check_applied_up_to}
 use Rattle.checks_durability.specs.Servers.{servers_from, below, CountsBelow}
 
--- ---- the servers below, counted: count of those before server i
+-- ---- the servers below, counted
 
-pub record CountingBelow (highest : ℕ) (up_to : List ℕ) (servers count i : ℕ) : Type 0 where
-  pub upto : i ≤ servers
-  pub most : count ≤ i
-  pub is : count + below highest (drop i (take servers up_to)) ≡ below highest (take servers up_to)
-
-pub below_start : {highest : ℕ} {up_to : List ℕ} {servers : ℕ} → CountingBelow highest up_to servers 0 0
-below_start = record { upto = omega arith; most = omega arith; is = omega arith }
-
-pub below_turn : {highest : ℕ} {up_to : List ℕ} {servers count i : ℕ} (one : ℕ) → CountingBelow highest up_to servers count i → i < servers
-    → servers ≤ 8 → length up_to ≡ 8
-    → one ≡ pick (ltb (get_or up_to i 0) highest) 1 0 → one ≤ 1
-    → CountingBelow highest up_to servers (count + one) (i + 1)
+below_is : (highest : ℕ) (up_to : List ℕ) → below highest up_to ≡ count_by (λ k. ltb k highest) up_to
 unfolding below
-below_turn {highest} {up_to} {servers} {count} {i} one c h m len e l =
-    let xs : List ℕ = take servers up_to in
-    let long : i < length xs = omega (arith, length-take-le servers up_to (omega arith)) in
-    let same : get_or xs i 0 ≡ get_or up_to i 0 = get_or-take servers up_to i 0 h in
-    let d : below highest (drop i xs) ≡ one + below highest (drop (i + 1) xs) =
-    ap (below highest) (drop_next xs i 0 long)
-    ∙ ap (λ (t : ℕ). t + below highest (drop (i + 1) xs)) (ap (λ (v : ℕ). pick (ltb v highest) 1 0) same ∙ sym e) in
-    record { upto = omega arith; most = omega (arith, c.most); is = omega (arith, d, c.is) }
+below_is highest = is_count_by (below highest) (λ k. ltb k highest) refl (λ k ks. one (ltb k highest) (below highest ks))
+  where
+    one : (t : Bool) (n : ℕ) → pick t 1 0 + n ≡ cond t (1 + n) n
+    one true n = refl
+    one false n = omega arith
 
-pub below_done : {highest : ℕ} {up_to : List ℕ} {servers count i : ℕ} → CountingBelow highest up_to servers count i → servers ≤ i
-    → servers ≤ 8 → length up_to ≡ 8 → CountsBelow highest (take servers up_to) count
-unfolding below
-below_done {highest} {up_to} {servers} {count} {i} c l m len = record {
-  is = omega (
-    arith,
-    c.is,
-    ap (below highest)
-        (drop_of_length-le (take servers up_to) {i = i} (omega (arith, length-take-le servers up_to (omega arith)))),
-  );
-  most = omega (arith, c.most, c.upto);
+pub counts_below : (highest : ℕ) (up_to : List ℕ) (r : ℕ) → length up_to ≤ 8 → r ≡ count_by (λ k. ltb k highest) up_to
+    → CountsBelow highest up_to r
+counts_below highest up_to r h e = record {
+  is = e ∙ sym (below_is highest up_to);
+  most = omega (arith, e, count_by-le-length (λ k. ltb k highest) up_to);
 }
-
-pub ruleset counting_below = (below_start, below_turn, below_done)
 
 -- ---- a loop over the servers: what checks the rest checks the whole
 

@@ -1,6 +1,6 @@
 // The acknowledged commands against the payloads applied at their indexes (the first part of check_durability of checks.rs). A command is
 // rebuilt from its reply as the row of a payload, and compared with the row of the payload that was applied.
-ghost use Rattle.std.specs.Prelude.{◌≡◌, ◌+◌, ◌-◌, ◌*◌, ◌≤◌, ◌<◌, max, length};
+ghost use Rattle.std.specs.Prelude.{◌≡◌, ◌+◌, ◌-◌, ◌*◌, ◌≤◌, ◌<◌, length};
 ghost use Rattle.layout.specs.Tables.{Gives};
 ghost use Rattle.layout.specs.Marked.{words_for};
 ghost use Rattle.layout.specs.Payload.{payload_marking};
@@ -25,6 +25,7 @@ fn encode(reply: Reply, size: usize, out: &mut [u8]) -> usize
 }
 
 // Writes the row of a reply's command: its mark, its bytes, and zeros up to the end.
+#[tactic(auto, using(crate::specs::AcknowledgedLaws::rebuilds))]
 fn rebuild(reply: Reply, size: usize, content: &mut [u8])
     requires { (20 ≤ length content.old) × (8 + size ≤ length content.old) }
     ensures { Puts payload_marking (rebuilt size reply) content.old content.new }
@@ -36,6 +37,7 @@ fn rebuild(reply: Reply, size: usize, content: &mut [u8])
 }
 
 // Whether a payload's row is that of a reply's command, which is rebuilt in `content`.
+#[tactic(auto, using(crate::specs::AcknowledgedLaws::command_compared))]
 fn is_command(row: &[u8], reply: Reply, p: usize, size: usize, content: &mut [u8]) -> bool
     requires le_p { 12 ≤ p }
     requires p_bound { p ≤ 256 }
@@ -48,14 +50,15 @@ fn is_command(row: &[u8], reply: Reply, p: usize, size: usize, content: &mut [u8
 }
 
 // The place of an index among the applied payloads: index 0 has that of index 1.
+#[tactic(auto, unfolding(crate::specs::Acknowledged::place_of))]
 fn place_of(index: LogIndex) -> usize
     ensures { result ≡ place_of index }
 {
-    let i = index.0;
-    if i < 1 { 0 } else { (i - 1) as usize }
+    index.0.saturating_sub(1) as usize
 }
 
 // Whether the payload applied at a reply's index is its command; index 0 is compared with the payload at 1.
+#[tactic(auto, using(crate::specs::AcknowledgedLaws::compared))]
 fn acknowledged_ok(reply: Reply, a: &[u8], m: usize, p: usize, size: usize) -> bool
     requires le_p { 12 ≤ p }
     requires p_bound { p ≤ 256 }
@@ -108,19 +111,10 @@ pub fn count_missing(s: &[u8], n: usize, a: &[u8], m: usize, p: usize, size: usi
     ensures { CountsMissing p size n m result s.now a.now }
 {
     let mut count = 0;
-    let mut i = 0;
-    while i < n {
-        count += violations::one_if(reply_missing(s, n, i, a, m, p, size));
-        i += 1;
+    for k in 0..n {
+        count += violations::one_if(reply_missing(s, n, k, a, m, p, size));
     }
     count
-}
-
-// The larger of two numbers.
-fn larger(a: u64, b: u64) -> u64
-    ensures { result ≡ max a b }
-{
-    if a < b { b } else { a }
 }
 
 // The highest index of n replies, or 0.
@@ -128,12 +122,9 @@ pub fn highest(s: &[u8], n: usize) -> u64
     requires { 8 * (n * 5) ≤ length s.now }
     ensures { Highest n result s.now }
 {
-    let mut best = 0;
-    let mut i = 0;
-    while i < n {
-        let reply = replies::read(s, n, i);
-        best = larger(best, reply.index.0);
-        i += 1;
+    let mut best = 0u64;
+    for k in 0..n {
+        best = best.max(replies::read(s, n, k).index.0);
     }
     best
 }

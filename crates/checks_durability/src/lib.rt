@@ -20,18 +20,16 @@ pub struct DurabilityAsked {
 }
 
 // Document 01's number where so many more violations are reported: 10 where the total would not fit 64 bits.
+#[tactic(auto, using(crate::specs::DurabilityLaws::total_codes))]
 fn total_code(total: u64, more: u64) -> u64
     ensures { result ≡ total_code (total + more) }
 {
-    if 18446744073709551615 - more < total {
-        10
-    } else {
-        0
-    }
+    if u64::MAX - more < total { 10 } else { 0 }
 }
 
 // Asks whether every server has applied every acknowledged command, before anything is reported: n replies in s, m payloads in a, and how
 // far each of the servers has applied.
+#[tactic(auto, using(crate::specs::DurabilityLaws::durability_asked))]
 pub fn check_durability(
     s: &[u8],
     n: usize,
@@ -53,7 +51,7 @@ pub fn check_durability(
 {
     let missing = acknowledged::count_missing(s, n, a, m, p, size);
     let highest = acknowledged::highest(s, n);
-    let reports = missing + servers::count_below(up_to, servers, highest);
+    let reports = missing + servers::count_below(&up_to[..servers], highest);
     let code = total_code(total, reports);
     DurabilityAsked {
         code,

@@ -1,6 +1,6 @@
 // The commands whose replies reached their clients (`replies` of simulation.rs): rows of five words, in order of arrival. The caller keeps
 // the count n; a function that changes it answers the new one.
-ghost use Rattle.std.specs.Prelude.{◌≡◌, ◌+◌, ◌*◌, ◌≤◌, ◌<◌, length};
+ghost use Rattle.std.specs.Prelude.{◌≡◌, ◌+◌, ◌*◌, ◌≤◌, ◌<◌, length, drop};
 ghost use Rattle.laws.specs.Decides.{Decides};
 ghost use Rattle.words.specs.Words.{W};
 ghost use Rattle.layout.specs.Code.{ok_n};
@@ -20,20 +20,15 @@ pub struct Reply {
     pub seq: u64,
 }
 
-// The new count; or there is no room for one more, and nothing changed.
-#[derive(Clone, Copy)]
-pub enum Appending {
-    Appended(usize),
-    Full,
-}
-
-// Keeps a reply after the n that there are, where there is room for so many. The region may be longer.
-pub fn append(s: &mut [u8], n: usize, room: usize, reply: Reply) -> Appending
+// Keeps a reply after the n that there are, where there is room for so many, and answers the new count. None: there is no room for one more,
+// and nothing changed. The region may be longer.
+#[tactic(auto, using(crate::specs::ReplyLaws::appending))]
+pub fn append(s: &mut [u8], n: usize, room: usize, reply: Reply) -> Option<usize>
     requires { 8 * (room * 5) ≤ length s.old }
     ensures { Appends reply n room result s.old s.new }
 {
     if room <= n {
-        return Appending::Full;
+        return None;
     }
     let row = [
         reply.sent.0,
@@ -43,10 +38,11 @@ pub fn append(s: &mut [u8], n: usize, room: usize, reply: Reply) -> Appending
         reply.seq,
     ];
     words::store_all(s, n * 5, &row);
-    Appending::Appended(n + 1)
+    Some(n + 1)
 }
 
 // Reply k of n.
+#[tactic(auto, using(crate::specs::ReplyLaws::read_is))]
 pub fn read(s: &[u8], n: usize, k: usize) -> Reply
     requires { (k < n) × (8 * (n * 5) ≤ length s.now) }
     ensures { Reads n k result s.now }
@@ -61,31 +57,27 @@ pub fn read(s: &[u8], n: usize, k: usize) -> Reply
     }
 }
 
+// Whether the index of row k is at most l and its client below `clients`.
+fn row_ok(s: &[u8], n: usize, k: usize, l: u64, clients: u64) -> bool
+    requires { (k < n) × (8 * (n * 5) ≤ length s.now) }
+    ensures { result ≡ (replies l clients).row.ok (drop (k * 5) (W s.now)) }
+{
+    let from = k * 5;
+    words::load(s, from + 2) <= l && words::load(s, from + 3) < clients
+}
+
 // Whether every index is at most l and every client below `clients`.
 fn rows_ok(s: &[u8], n: usize, l: u64, clients: u64) -> bool
     requires { 8 * (n * 5) ≤ length s.now }
     ensures { result ≡ ok_n (replies l clients).row n (W s.now) }
 {
-    let mut i = 0;
-    while i < n {
-        let at = i * 5;
-        if l < words::load(s, at + 2) {
-            return false;
-        }
-        if clients <= words::load(s, at + 3) {
-            return false;
-        }
-        i += 1;
-    }
-    true
+    (0..n).all(|k| row_ok(s, n, k, l, clients))
 }
 
 // Whether the bytes are a table of n replies at indexes up to l, to clients below `clients`.
+#[tactic(auto, using(layout::specs::TableLaws::checks))]
 pub fn check(s: &[u8], n: usize, l: u64, clients: u64) -> bool
     ensures { Decides result (Tabled (replies l clients) n s.now) }
 {
-    if !rows::padding(s, n, 5) {
-        return false;
-    }
-    rows_ok(s, n, l, clients)
+    rows::padding(s, n, 5) && rows_ok(s, n, l, clients)
 }

@@ -1,28 +1,24 @@
 -- What the proofs of pairs.rt cite, and the laws by which a caller's loop over the pairs checks them all. Assumes nothing.
-use Rattle.std.specs.Prelude.{◌≡◌, refl, Bool, true, ℕ, suc, ◌+◌, ◌-◌, ◌*◌, ◌^◌, ◌≤◌, ◌<◌, length, take, drop}
+use Rattle.std.specs.Prelude.{◌≡◌, refl, true, ℕ, suc, ◌+◌, ◌-◌, ◌*◌, ◌≤◌, ◌<◌, length, take, drop, Option, None, Some}
 use Rattle.std.proofs.Math.Path.{sym, ap}
-use Rattle.std.proofs.Common.{ap₂, ◌∙◌, subst, add-one, arith, drop_of_length-le, Fits, lt-ltb, le-ltb}
+use Rattle.std.proofs.Common.{ap₂, ◌∙◌, subst, add-one, arith, drop_of_length-le}
 use mathlib.Core.List.{List, [], ◌∷◌}
-use Rattle.std.proofs.Math.Option.{Option, none, some}
 use Rattle.std.proofs.Math.ListN.{get_or}
-use Rattle.std.specs.Int.{w64}
-use Rattle.laws.specs.Bools.{pick}
 use Rattle.laws.specs.ListLaws.{drop_next}
 use Rattle.units.specs.declared.NodeId.{NodeId}
 use Rattle.units.specs.declared.SimTime.{SimTime}
-use Rattle.units.specs.declared.Term.{Term}
-use Rattle.units.specs.declared.LogIndex.{LogIndex}
 use Rattle.layout.specs.Marked.{words_for}
 use Rattle.raft_log.specs.Log.{Log}
 use Rattle.checks.specs.declared.Check.TheVariants.{LogMatching}
-use Rattle.checks.specs.Checks.{Checker, Mismatch, log_matching_failure, report, report_mismatch, ServerLog, check_against, check_log_matching}
+use Rattle.checks.specs.Checks.{Checker, log_matching_failure, report, report_mismatch, ServerLog, check_against, check_log_matching}
 use Rattle.checks.specs.Violations.{Keeps}
-use Rattle.checks_log_matching.specs.declared.MismatchOption.{MismatchOption}
-use Rattle.checks_log_matching.specs.declared.MismatchOption.TheVariants.{None as NoMismatch, Some as SomeMismatch}
-use Rattle.checks_log_matching.specs.declared.pairs.MatchingAsked.{MatchingAsked}
-use Rattle.checks_log_matching.specs.Matching.{Compares, mismatch_of}
+use Rattle.checks.specs.Asked.{where_fits}
+use Rattle.std.specs.declared.result.Result.{Result}
+use Rattle.units.specs.declared.refusal.Refusal.{Refusal}
+use Rattle.checks_log_matching.specs.Matching.{Compares}
 use Rattle.checks_log_matching.specs.Pairs.{log_bytes, Logs, server_log, server_logs, Between, reported_mismatch, Records, one_of}
-use Rattle.checks_log_matching.specs.Pairs.{failures_with, failures, CountsAfter, Counts, total_code, AsksLogs, check_rest}
+use Rattle.checks_log_matching.specs.Pairs.{failures_with, failures, CountsAfter, Counts, AsksLogs, check_rest}
+use Rattle.checks.specs.declared.Mismatch.{Mismatch}
 
 -- ---- mismatch_between
 
@@ -34,48 +30,37 @@ lent_is p n stride from k at b e =
     let s : 8 * (at + from) + 8 * (n * (2 + words_for p)) - 8 * (at + from) ≡ 8 * (n * (2 + words_for p)) = omega arith in
     ap₂ (λ (u m : ℕ). take u (drop (8 * (m + from)) b)) s e
 
-pub pair_compared : (p n servers stride from i j at at' : ℕ) (b : List ℕ) (r : MismatchOption) → i < servers → j < servers → at ≡ i * stride
+pub pair_compared : (p n servers stride from i j at at' : ℕ) (b : List ℕ) (r : Option Mismatch) → i < servers → j < servers → at ≡ i * stride
     → at' ≡ j * stride
     → Compares p n (take (8 * (at + from) + 8 * (n * (2 + words_for p)) - 8 * (at + from)) (drop (8 * (at + from)) b))
-    (take (8 * (at' + from) + 8 * (n * (2 + words_for p)) - 8 * (at' + from)) (drop (8 * (at' + from)) b)) (mismatch_of r) log_matching_failure
-    → Between (Logs p n servers stride from b) i j (mismatch_of r)
+    (take (8 * (at' + from) + 8 * (n * (2 + words_for p)) - 8 * (at' + from)) (drop (8 * (at' + from)) b)) r log_matching_failure
+    → Between (Logs p n servers stride from b) i j r
 pair_compared p n servers stride from i j at at' b r h k e f q =
-    let s : Compares p n (log_bytes p n stride from i b) (log_bytes p n stride from j b) (mismatch_of r) log_matching_failure =
-    subst (λ (t : List ℕ). Compares p n (log_bytes p n stride from i b) t (mismatch_of r) log_matching_failure)
+    let s : Compares p n (log_bytes p n stride from i b) (log_bytes p n stride from j b) r log_matching_failure =
+    subst (λ (t : List ℕ). Compares p n (log_bytes p n stride from i b) t r log_matching_failure)
     (lent_is p n stride from j at' b f)
     (subst
     (λ (t : List ℕ). Compares p n t (take (8 * (at' + from) + 8 * (n * (2 + words_for p)) - 8 * (at' + from)) (drop (8 * (at' + from)) b))
-    (mismatch_of r) log_matching_failure)
+    r log_matching_failure)
     (lent_is p n stride from i at b e) q) in
     record { to = λ xs l. s.to _ _ (get_or xs i []) (get_or xs j []) (l.each i h) (l.each j k) }
 
 -- ---- keep_mismatch
 
-module _ (kept : ℕ) (time : SimTime) (a b : NodeId) (found : MismatchOption) (v : List ℕ) where
-  pub matching_kept : found ≡ NoMismatch → Records kept kept v v (reported_mismatch (mismatch_of found) time a b)
-  unfolding reported_mismatch mismatch_of
+module _ (kept : ℕ) (time : SimTime) (a b : NodeId) (found : Option Mismatch) (v : List ℕ) where
+  pub matching_kept : found ≡ None → Records kept kept v v (reported_mismatch found time a b)
+  unfolding reported_mismatch
   matching_kept e = record { to = λ M c h. rw e h }
 
-  pub mismatch_kept : (term : Term) (index difference : LogIndex) (r : ℕ) (v' : List ℕ) → found ≡ SomeMismatch term index difference
-      → Keeps true time LogMatching (a.0 ∷ b.0 ∷ term.0 ∷ index.0 ∷ difference.0 ∷ []) kept r v v'
-      → Records kept r v v' (reported_mismatch (mismatch_of found) time a b)
-  unfolding reported_mismatch mismatch_of
-  mismatch_kept term index difference r v' e q = record { to = λ M c h. rw e (q.to c M h) }
+  pub mismatch_kept : (m : Mismatch) (r : ℕ) (v' : List ℕ) → found ≡ Some m
+      → Keeps true time LogMatching (a.0 ∷ b.0 ∷ m.term.0 ∷ m.index.0 ∷ m.difference.0 ∷ []) kept r v v'
+      → Records kept r v v' (reported_mismatch found time a b)
+  unfolding reported_mismatch
+  mismatch_kept m r v' e q = record { to = λ M c h. rw e (q.to c M h) }
 
 pub ruleset keeps = (matching_kept, mismatch_kept)
 
 -- ---- counting
-
-module _ (found : MismatchOption) where
-  pub counted_none : found ≡ NoMismatch → 0 ≡ one_of (mismatch_of found)
-  unfolding one_of mismatch_of
-  counted_none e = rw e
-
-  pub counted_one : (term : Term) (index difference : LogIndex) → found ≡ SomeMismatch term index difference → 1 ≡ one_of (mismatch_of found)
-  unfolding one_of mismatch_of
-  counted_one term index difference e = rw e
-
-pub ruleset counting = (counted_none, counted_one)
 
 module _ (p n servers stride from : ℕ) (b : List ℕ) where
   -- the slots from a slot on: that slot, and those after it
@@ -96,8 +81,8 @@ module _ (p n servers stride from : ℕ) (b : List ℕ) where
     pub after_start : i < servers → CountingAfter i 0 (i + 1)
     after_start h = record { is = λ xs l. omega arith; upto = omega arith; most = omega arith }
 
-    pub after_turn : (r j d : ℕ) (found : MismatchOption) → CountingAfter i r j → j < servers
-        → Between (Logs p n servers stride from b) i j (mismatch_of found) → d ≡ one_of (mismatch_of found) → d ≤ 1
+    pub after_turn : (r j d : ℕ) (found : Option Mismatch) → CountingAfter i r j → j < servers
+        → Between (Logs p n servers stride from b) i j found → d ≡ one_of found → d ≤ 1
         → CountingAfter i (r + d) (j + 1)
     unfolding failures_with
     after_turn r j d found c k q e m = record {
@@ -152,15 +137,15 @@ module _ (p n servers stride from : ℕ) (b : List ℕ) where
 
 pub ruleset counts_after = (after_start, after_turn, after_done)
 
-pub ruleset Counts-all = (all_start, all_turn, all_done)
+pub ruleset counts_all = (all_start, all_turn, all_done)
 
 -- ---- totals
 
 mismatch_total : (m : Option Mismatch) (c : Checker) (time : SimTime) (a b : NodeId)
     → (report_mismatch m c time a b).total ≡ c.total + one_of m
 unfolding report one_of
-mismatch_total none c time a b = omega arith
-mismatch_total (some m) c time a b = refl
+mismatch_total None c time a b = omega arith
+mismatch_total (Some m) c time a b = refl
 
 against_total : (c : Checker) (time : SimTime) (a : ServerLog) (slot : ℕ) (ys : List Log)
     → (check_against c time a (server_logs slot ys)).total ≡ c.total + failures_with a.log ys
@@ -189,8 +174,8 @@ pairs_total c time slot (x ∷ xs) =
 
 mismatch_none : (m : Option Mismatch) (c : Checker) (time : SimTime) (a b : NodeId) → one_of m ≡ 0 → report_mismatch m c time a b ≡ c
 unfolding one_of
-mismatch_none none c time a b h = refl
-mismatch_none (some m) c time a b h = absurd (omega arith)
+mismatch_none None c time a b h = refl
+mismatch_none (Some m) c time a b h = absurd (omega arith)
 
 against_none : (c : Checker) (time : SimTime) (a : ServerLog) (slot : ℕ) (ys : List Log) → failures_with a.log ys ≡ 0
     → check_against c time a (server_logs slot ys) ≡ c
@@ -210,28 +195,18 @@ pairs_none c time slot (x ∷ xs) h =
 
 -- ---- the question
 
-module _ (total more : ℕ) where
-  pub total_past : 18446744073709551615 - more < total → 10 ≡ total_code (total + more)
-  unfolding total_code
-  total_past h = sym (ap (λ (b : Bool). pick b 0 10) (le-ltb (total + more) (2 ^ 64) (omega arith)))
-
-  pub total_fits : Fits w64 more → total ≤ 18446744073709551615 - more → 0 ≡ total_code (total + more)
-  unfolding total_code
-  total_fits f h = sym (ap (λ (b : Bool). pick b 0 10) (lt-ltb (total + more) (2 ^ 64) (omega arith)))
-
-pub ruleset total_codes = (total_past, total_fits)
-
-pub asked : {held : List Log → Type 0} (total code reports : ℕ) → Counts held reports → code ≡ total_code (total + reports)
-    → AsksLogs held total (record { code = code; reports = reports })
-asked total code reports q e = record {
-  code = λ xs l c time t.
+pub asked : {held : List Log → Type 0} (total reports : ℕ) (r : Result ℕ Refusal) → Counts held reports → r ≡ where_fits 0 0 (total + reports) reports
+    → AsksLogs held total r
+asked total reports r q e = record {
+  reports = reports;
+  is = λ xs l c time t.
       let s : total + reports ≡ (check_log_matching c time (server_logs 0 xs)).total = omega (arith, q.is xs l, pairs_total c time 0 xs) in
-      e ∙ ap total_code s;
+      e ∙ ap (λ (n : ℕ). where_fits 0 0 n reports) s;
   counted = λ xs l c time t. omega (arith, q.is xs l, pairs_total c time 0 xs);
 }
 
 -- with nothing to report the checks are as they were
-pub none_reported : {held : List Log → Type 0} (total : ℕ) (r : MatchingAsked) → AsksLogs held total r → r.reports ≡ 0 → (xs : List Log)
+pub none_reported : {held : List Log → Type 0} (total : ℕ) (r : Result ℕ Refusal) (q : AsksLogs held total r) → q.reports ≡ 0 → (xs : List Log)
     → held xs → (c : Checker) (time : SimTime) → c.total ≡ total
     → check_log_matching c time (server_logs 0 xs) ≡ c
 none_reported total r q z xs l c time t = pairs_none c time 0 xs (omega (arith, q.counted xs l c time t, pairs_total c time 0 xs))

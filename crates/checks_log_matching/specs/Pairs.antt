@@ -1,16 +1,17 @@
 -- Every pair of servers' logs (pairs.rt): where the logs lie, how many pairs break log matching, and what is reported. Assumes nothing.
-use Rattle.std.specs.Prelude.{◌≡◌, List, [], ◌∷◌, ℕ, suc, ◌+◌, ◌*◌, ◌^◌, ◌≤◌, ◌<◌, ltb, length, get_or, take, drop}
-use Rattle.std.proofs.Math.Option.{Option, none, some}
-use Rattle.laws.specs.Bools.{pick}
+use Rattle.std.specs.Prelude.{◌≡◌, List, [], ◌∷◌, ℕ, suc, ◌+◌, ◌*◌, ◌≤◌, ◌<◌, length, get_or, take, drop, Option, None, Some}
+use Rattle.std.specs.declared.result.Result.{Result}
+use Rattle.units.specs.declared.refusal.Refusal.{Refusal}
 use Rattle.units.specs.declared.NodeId.{NodeId}
 use Rattle.units.specs.declared.SimTime.{SimTime}
 use Rattle.layout.specs.Tables.{Held}
 use Rattle.layout.specs.Marked.{words_for}
 use Rattle.raft_log.specs.Log.{Log}
 use Rattle.raft_log.specs.Places.{places}
-use Rattle.checks.specs.Checks.{Checker, Mismatch, log_matching_failure, report_mismatch, ServerLog, check_against, check_log_matching}
+use Rattle.checks.specs.declared.Mismatch.{Mismatch}
+use Rattle.checks.specs.Checks.{Checker, log_matching_failure, report_mismatch, ServerLog, check_against, check_log_matching}
 use Rattle.checks.specs.Violations.{violations}
-use Rattle.checks_log_matching.specs.declared.pairs.MatchingAsked.{MatchingAsked}
+use Rattle.checks.specs.Asked.{where_fits}
 
 -- ---- where the logs lie
 
@@ -50,8 +51,8 @@ pub record Records (kept r : ℕ) (v v' : List ℕ) (op : Checker → Checker) :
 
 -- 1 where there is a mismatch.
 unfoldable pub one_of : Option Mismatch → ℕ
-one_of none = 0
-one_of (some m) = 1
+one_of None = 0
+one_of (Some m) = 1
 
 -- How many of some logs break log matching with another.
 unfoldable pub failures_with : Log → List Log → ℕ
@@ -75,16 +76,13 @@ pub record Counts (held : List Log → Type 0) (r : ℕ) : Type 0 where
 
 -- ---- the question
 
--- Document 01's number for a total: 10 where it does not fit 64 bits.
-unfoldable pub total_code : ℕ → ℕ
-total_code total = pick (ltb total (2 ^ 64)) 0 10
-
--- Whatever logs are held, whatever checks have the total: the number for the total with every pair checked, and how many are reported.
-pub record AsksLogs (held : List Log → Type 0) (total : ℕ) (r : MatchingAsked) : Type 0 where
-  pub code : (xs : List Log) → held xs → (c : Checker) (time : SimTime) → c.total ≡ total
-      → r.code ≡ total_code (check_log_matching c time (server_logs 0 xs)).total
+-- Whatever logs are held, whatever checks have the total: how many pairs are reported, where the total has 64 bits with every pair checked.
+pub record AsksLogs (held : List Log → Type 0) (total : ℕ) (r : Result ℕ Refusal) : Type 0 where
+  pub reports : ℕ
+  pub is : (xs : List Log) → held xs → (c : Checker) (time : SimTime) → c.total ≡ total
+      → r ≡ where_fits 0 0 (check_log_matching c time (server_logs 0 xs)).total reports
   pub counted : (xs : List Log) → held xs → (c : Checker) (time : SimTime) → c.total ≡ total
-      → (check_log_matching c time (server_logs 0 xs)).total ≡ total + r.reports
+      → (check_log_matching c time (server_logs 0 xs)).total ≡ total + reports
 
 -- ---- a loop over the pairs
 

@@ -2,61 +2,31 @@
 // n places with payloads of up to p bytes.
 #![tactic(auto)]
 
-ghost use Rattle.std.specs.Prelude.{◌≡◌, ◌+◌, ◌*◌, ◌≤◌, min, length};
-ghost use Rattle.laws.specs.Lists.{is_some};
-ghost use Rattle.units.specs.Types.{term_option};
+ghost use Rattle.std.specs.Prelude.{◌≡◌, ◌+◌, ◌*◌, ◌≤◌, length};
 ghost use Rattle.checks.specs.Checks.{log_matching_failure};
 ghost use Rattle.layout.specs.Marked.{words_for};
-ghost use Rattle.checks_log_matching.specs.Matching.{Compares, term_of, index_of, mismatch_of, same_term, shared_term_at, same_entry_at, mismatch_here, difference_here};
+ghost use Rattle.checks_log_matching.specs.Matching.{Compares, same_term, shared_term_at, same_entry_at, mismatch_here, difference_here};
 
+use checks::Mismatch;
 use layout::rows;
-use units::{LogIndex, Term, TermOption};
+use units::{LogIndex, Term};
 
 pub mod pairs; // every pair of logs, and mismatches reported
-
-// An index, if there is one.
-#[derive(Clone, Copy)]
-enum IndexOption {
-    None,
-    Some(LogIndex),
-}
-
-// How two logs break log matching: a term that both hold at an index, and an earlier index at which they differ.
-#[derive(Clone, Copy)]
-pub enum MismatchOption {
-    None,
-    Some {
-        term: Term,
-        index: LogIndex,
-        difference: LogIndex,
-    },
-}
 
 // ---- one index
 
 // The one term of two, if they are the same.
-fn same_term(x: TermOption, y: TermOption) -> TermOption
-    ensures { term_of result ≡ same_term (term_option x) (term_option y) }
+#[tactic(auto, unfolding(crate::specs::Matching::same_term))]
+fn same_term(x: Option<Term>, y: Option<Term>) -> Option<Term>
+    ensures { result ≡ same_term x y }
 {
-    match x {
-        TermOption::None => TermOption::None,
-        TermOption::Some(s) => match y {
-            TermOption::None => TermOption::None,
-            TermOption::Some(t) => {
-                if s.0 == t.0 {
-                    TermOption::Some(s)
-                } else {
-                    TermOption::None
-                }
-            }
-        },
-    }
+    if x == y { x } else { None }
 }
 
 // The term that both logs hold at an index, if they do.
-fn shared_term(a: &[u8], b: &[u8], n: usize, p: usize, index: LogIndex) -> TermOption
+fn shared_term(a: &[u8], b: &[u8], n: usize, p: usize, index: LogIndex) -> Option<Term>
     requires { (p ≤ 256) × (8 * (n * (2 + words_for p)) ≤ length a.now) × (8 * (n * (2 + words_for p)) ≤ length b.now) }
-    ensures { Compares p n a.now b.now (term_of result) (shared_term_at index.0) }
+    ensures { Compares p n a.now b.now result (shared_term_at index.0) }
 {
     let x = raft_log::term_of(raft_log::entry(a, n, p, index));
     let y = raft_log::term_of(raft_log::entry(b, n, p, index));
@@ -82,22 +52,18 @@ fn mismatch_at(
     n: usize,
     p: usize,
     index: LogIndex,
-    difference: IndexOption,
-) -> MismatchOption
+    difference: Option<LogIndex>,
+) -> Option<Mismatch>
     requires { (p ≤ 256) × (8 * (n * (2 + words_for p)) ≤ length a.now) × (8 * (n * (2 + words_for p)) ≤ length b.now) }
-    ensures { Compares p n a.now b.now (mismatch_of result) (mismatch_here (index_of difference) index.0) }
+    ensures { Compares p n a.now b.now result (mismatch_here difference index) }
 {
-    match difference {
-        IndexOption::None => MismatchOption::None,
-        IndexOption::Some(difference) => match shared_term(a, b, n, p, index) {
-            TermOption::None => MismatchOption::None,
-            TermOption::Some(term) => MismatchOption::Some {
-                term,
-                index,
-                difference,
-            },
-        },
-    }
+    let difference = difference?;
+    let term = shared_term(a, b, n, p, index)?;
+    Some(Mismatch {
+        term,
+        index,
+        difference,
+    })
 }
 
 // The first difference so far, or this index where there was none and the entries differ.
@@ -107,62 +73,34 @@ fn difference_at(
     n: usize,
     p: usize,
     index: LogIndex,
-    difference: IndexOption,
-) -> IndexOption
+    difference: Option<LogIndex>,
+) -> Option<LogIndex>
     requires { (1 ≤ index.0) × (index.0 ≤ n) × (p ≤ 256) × (8 * (n * (2 + words_for p)) ≤ length a.now) × (8 * (n * (2 + words_for p)) ≤ length b.now) }
-    ensures { Compares p n a.now b.now (index_of result) (difference_here (index_of difference) index.0) }
+    ensures { Compares p n a.now b.now result (difference_here difference index) }
 {
-    match difference {
-        IndexOption::Some(first) => IndexOption::Some(first),
-        IndexOption::None => {
-            if same_entry(a, b, n, p, index) {
-                IndexOption::None
-            } else {
-                IndexOption::Some(index)
-            }
-        }
+    if difference.is_some() {
+        return difference;
     }
+    (!same_entry(a, b, n, p, index)).then_some(index)
 }
 
 // ---- every index
 
-// The lower of two indexes.
-fn lower(a: LogIndex, b: LogIndex) -> u64
-    ensures { result ≡ min a.0 b.0 }
-{
-    if a.0 < b.0 { a.0 } else { b.0 }
-}
-
-// Whether there is a mismatch.
-fn is_mismatch(found: MismatchOption) -> bool
-    ensures { result ≡ is_some (mismatch_of found) }
-{
-    match found {
-        MismatchOption::None => false,
-        MismatchOption::Some {
-            term: _,
-            index: _,
-            difference: _,
-        } => true,
-    }
-}
-
 // How two logs break log matching, up to the smaller last index (log_matching_failure): the term at an index is compared before the entries are.
-pub fn log_matching_failure(a: &[u8], b: &[u8], n: usize, p: usize) -> MismatchOption
+pub fn log_matching_failure(a: &[u8], b: &[u8], n: usize, p: usize) -> Option<Mismatch>
     requires { (p ≤ 256) × (8 * (n * (2 + words_for p)) ≤ length a.now) × (8 * (n * (2 + words_for p)) ≤ length b.now) }
-    ensures { Compares p n a.now b.now (mismatch_of result) log_matching_failure }
+    ensures { Compares p n a.now b.now result log_matching_failure }
 {
-    let shared = lower(raft_log::last_index(a, n, p), raft_log::last_index(b, n, p));
-    let mut difference = IndexOption::None;
-    let mut i: u64 = 0;
-    while i < shared {
+    let last = raft_log::last_index(a, n, p);
+    let shared = last.0.min(raft_log::last_index(b, n, p).0);
+    let mut difference = None;
+    for i in 0..shared {
         let index = LogIndex(i + 1);
         let found = mismatch_at(a, b, n, p, index, difference);
-        if is_mismatch(found) {
+        if found.is_some() {
             return found;
         }
         difference = difference_at(a, b, n, p, index, difference);
-        i += 1;
     }
-    MismatchOption::None
+    None
 }

@@ -3,23 +3,13 @@
 // reported by itself (keep_mismatch).
 ghost use Rattle.std.specs.Prelude.{◌≡◌, ◌+◌, ◌*◌, ◌≤◌, ◌<◌, length};
 ghost use Rattle.layout.specs.Marked.{words_for};
-ghost use Rattle.checks_log_matching.specs.Matching.{mismatch_of};
 ghost use Rattle.checks_log_matching.specs.Pairs.{Logs, Between, Records, reported_mismatch};
-ghost use Rattle.checks_log_matching.specs.Pairs.{one_of, CountsAfter, Counts, total_code, AsksLogs};
+ghost use Rattle.checks_log_matching.specs.Pairs.{one_of, CountsAfter, Counts, AsksLogs};
 
-use crate::MismatchOption;
-use checks::violations::Detail;
-use checks::{Check, violations};
+use checks::{Check, Mismatch, violations};
 use layout::rows;
+use units::refusal::Refusal;
 use units::{NodeId, SimTime};
-
-// The answer to the question: document 01's number, 0, or 10 where the total of violations would not fit 64 bits; and how many pairs are to
-// be reported.
-#[derive(Clone, Copy)]
-pub struct MatchingAsked {
-    pub code: u64,
-    pub reports: u64,
-}
 
 // ---- one pair
 
@@ -33,13 +23,13 @@ pub fn mismatch_between(
     p: usize,
     i: usize,
     j: usize,
-) -> MismatchOption
+) -> Option<Mismatch>
     requires i_lt_servers { i < servers }
     requires j_lt_servers { j < servers }
     requires p_bound { p ≤ 256 }
     requires p_bound_2 { from + n * (2 + words_for p) ≤ stride }
     requires stride_in_bounds { 8 * (servers * stride) ≤ length blocks.now }
-    ensures { Between (Logs p n servers stride from blocks.now) i j (mismatch_of result) }
+    ensures { Between (Logs p n servers stride from blocks.now) i j result }
 {
     let a = 8 * (rows::start_of(i, servers, stride) + from);
     let b = 8 * (rows::start_of(j, servers, stride) + from);
@@ -56,20 +46,16 @@ pub fn keep_mismatch(
     time: SimTime,
     a: NodeId,
     b: NodeId,
-    found: MismatchOption,
+    found: Option<Mismatch>,
 ) -> usize
     requires { 2048 ≤ length v.old }
-    ensures { Records kept result v.old v.new (reported_mismatch (mismatch_of found) time a b) }
+    ensures { Records kept result v.old v.new (reported_mismatch found time a b) }
 {
     match found {
-        MismatchOption::None => kept,
-        MismatchOption::Some {
-            term,
-            index,
-            difference,
-        } => {
-            let detail = Detail::Five(a.0, b.0, term.0, index.0, difference.0);
-            violations::keep(v, kept, true, time, Check::LogMatching, detail)
+        None => kept,
+        Some(m) => {
+            let detail = [a.0, b.0, m.term.0, m.index.0, m.difference.0];
+            violations::keep(v, kept, true, time, Check::LogMatching, &detail)
         }
     }
 }
@@ -77,17 +63,11 @@ pub fn keep_mismatch(
 // ---- every pair
 
 // 1 where there is a mismatch.
-fn counted(found: MismatchOption) -> u64
-    ensures { (result ≡ one_of (mismatch_of found)) × (result ≤ 1) }
+#[tactic(auto, unfolding(crate::specs::Pairs::one_of))]
+fn one_of(found: Option<Mismatch>) -> u64
+    ensures { (result ≡ one_of found) × (result ≤ 1) }
 {
-    match found {
-        MismatchOption::None => 0,
-        MismatchOption::Some {
-            term: _,
-            index: _,
-            difference: _,
-        } => 1,
-    }
+    u64::from(found.is_some())
 }
 
 // How many logs of the slots after slot i break log matching with its own.
@@ -108,10 +88,8 @@ fn mismatches_after(
     ensures { CountsAfter (Logs p n servers stride from blocks.now) i result }
 {
     let mut r: u64 = 0;
-    let mut j = i + 1;
-    while j < servers {
-        r += counted(mismatch_between(blocks, servers, stride, from, n, p, i, j));
-        j += 1;
+    for j in i + 1..servers {
+        r += one_of(mismatch_between(blocks, servers, stride, from, n, p, i, j));
     }
     r
 }
@@ -132,28 +110,16 @@ pub fn count_mismatches(
     ensures { Counts (Logs p n servers stride from blocks.now) result }
 {
     let mut r: u64 = 0;
-    let mut i: usize = 0;
-    while i < servers {
+    for i in 0..servers {
         r += mismatches_after(blocks, servers, stride, from, n, p, i);
-        i += 1;
     }
     r
 }
 
 // ---- the question
 
-// Document 01's number where so many more violations are reported: 10 where the total would not fit 64 bits.
-fn total_code(total: u64, more: u64) -> u64
-    ensures { result ≡ total_code (total + more) }
-{
-    if 18446744073709551615 - more < total {
-        10
-    } else {
-        0
-    }
-}
-
-// Asks log matching of every pair of logs, before anything is reported.
+// Asks log matching of every pair of logs, before anything is reported: how many pairs are to be reported, or question 10 where the total of
+// violations would have no 64 bits.
 pub fn check_log_matching(
     blocks: &[u8],
     servers: usize,
@@ -162,7 +128,7 @@ pub fn check_log_matching(
     n: usize,
     p: usize,
     total: u64,
-) -> MatchingAsked
+) -> Result<u64, Refusal>
     requires servers_bound { servers ≤ 8 }
     requires p_bound { p ≤ 256 }
     requires p_bound_2 { from + n * (2 + words_for p) ≤ stride }
@@ -170,6 +136,5 @@ pub fn check_log_matching(
     ensures { AsksLogs (Logs p n servers stride from blocks.now) total result }
 {
     let reports = count_mismatches(blocks, servers, stride, from, n, p);
-    let code = total_code(total, reports);
-    MatchingAsked { code, reports }
+    checks::where_fits(0, 0, total, reports, reports)
 }

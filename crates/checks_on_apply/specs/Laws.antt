@@ -4,6 +4,8 @@ use Rattle.std.proofs.Common.{sym, ap, ap₂, ◌∙◌, arith, length-append}
 use Rattle.laws.specs.Bools.{pick, ◌and◌}
 use Rattle.laws.specs.Lists.{at}
 use Rattle.units.specs.Types.{Payload, noop, same_payload}
+use Rattle.std.specs.declared.result.Result.{Result}
+use Rattle.units.specs.declared.refusal.Refusal.{Refusal}
 use Rattle.units.specs.declared.NodeId.{NodeId}
 use Rattle.units.specs.declared.LogIndex.{LogIndex}
 use Rattle.units.specs.declared.SimTime.{SimTime}
@@ -12,7 +14,7 @@ use Rattle.checks.specs.declared.Check.TheVariants.{ApplyOrder, StateMachineSafe
 use Rattle.checks.specs.declared.applied.AppliedSeen.{AppliedSeen}
 use Rattle.checks.specs.Checks.{Checker, report_if, on_apply}
 use Rattle.checks.specs.Reports.{total_if, applied_if_lem}
-use Rattle.checks.specs.Asked.{counts_code, append_if}
+use Rattle.checks.specs.Asked.{counts_code, where_fits, append_if}
 use Rattle.checks.specs.Applied.{is_other, is_next, applied_seen, applied_after, AsksApplied}
 use Rattle.checks.specs.AppliedLaws.{applied_after_lem}
 use Rattle.checks_on_apply.specs.declared.ApplyAsked.{ApplyAsked}
@@ -56,29 +58,30 @@ module _ (r : ApplyAsked) (index : LogIndex) (expected : ℕ) (c : Checker) (tim
 
 -- ---- on_apply
 
-pub apply_asked : {g : ApplyGiven} {seen : AppliedSeen} {other next : Bool} {code one two three : ℕ}
+pub apply_asked : {g : ApplyGiven} {seen : AppliedSeen} {other next : Bool} {one two three : ℕ} {r : Result ApplyAsked Refusal}
     → AsksApplied g.longest g.index g.content g.count seen g.applied → other ≡ is_other seen → next ≡ is_next seen
     → one ≡ pick next 1 0 → two ≡ pick (not (eqb g.index.0 g.expected)) 1 0 → three ≡ pick other 1 0
-    → code ≡ counts_code (g.count + one) g.room (g.total + (two + three))
-    → AsksApply g (record { code = code; late = not (eqb g.index.0 g.expected); other = other; next = next })
+    → r ≡ where_fits (g.count + one) g.room (g.total + (two + three)) (record { late = not (eqb g.index.0 g.expected); other = other; next = next })
+    → AsksApply g r
 unfolding on_apply
-apply_asked {g} {seen} {other} {next} {code} {one} {two} {three} q eo en e₁ e₂ e₃ ec = record {
+apply_asked {g} {seen} {other} {next} {one} {two} {three} {r} q eo en e₁ e₂ e₃ er = record {
+  asked = record { late = not (eqb g.index.0 g.expected); other = other; next = next };
   to = λ N c time server x k h t.
       let index : LogIndex = g.index in
       let late : Bool = not (eqb index.0 g.expected) in
       let detail : List ℕ = server.0 ∷ index.0 ∷ g.expected ∷ [] in
-      let r : ApplyAsked = record { code = code; late = late; other = other; next = next } in
+      let asked : ApplyAsked = record { late = late; other = other; next = next } in
       let ordered : Checker = report_if late c time ApplyOrder detail in
       let es : applied_seen ordered.applied index.0 x ≡ seen =
       ap (λ (y : List Payload). applied_seen y index.0 x) (applied_if_lem late c time ApplyOrder detail) ∙ sym (q.to N c.applied x k h) in
-      let d : on_apply c time server index x g.expected ≡ apply_acts r index g.expected c time server x =
+      let d : on_apply c time server index x g.expected ≡ apply_acts asked index g.expected c time server x =
       applied_after_lem ordered time server x index.0 ∙ ap (λ (s : AppliedSeen). applied_after s ordered time server index.0 x) es
       ∙ ap₂ (λ (a b : Bool). append_if a x (report_if b ordered time StateMachineSafety (server.0 ∷ index.0 ∷ []))) (sym en) (sym eo) in
       let rows : g.count + one ≡ length (on_apply c time server index x g.expected).applied =
-      omega (arith, e₁, (held_rows h).count, acts_rows r index g.expected c time server x, ap (λ (y : Checker). length y.applied) d) in
+      omega (arith, e₁, (held_rows h).count, acts_rows asked index g.expected c time server x, ap (λ (y : Checker). length y.applied) d) in
       let sum : g.total + (two + three) ≡ (on_apply c time server index x g.expected).total =
-      omega (arith, e₂, e₃, t, acts_total r index g.expected c time server x, ap (λ (y : Checker). y.total) d) in
-      record { code = ec ∙ ap₂ (λ (y z : ℕ). counts_code y g.room z) rows sum; does = d };
+      omega (arith, e₂, e₃, t, acts_total asked index g.expected c time server x, ap (λ (y : Checker). y.total) d) in
+      record { is = er ∙ ap₂ (λ (y z : ℕ). where_fits y g.room z asked) rows sum; does = d };
 }
 
 -- ---- a full table and a payload that is there: no row is added, so it is accepted

@@ -1,6 +1,8 @@
 -- A server applied a payload (on_apply): what the question answers, over the region of applied payloads. Assumes nothing.
 use Rattle.std.specs.Prelude.{◌≡◌, List, [], ◌∷◌, ℕ, length}
 use Rattle.units.specs.Types.{Payload}
+use Rattle.std.specs.declared.result.Result.{Result}
+use Rattle.units.specs.declared.refusal.Refusal.{Refusal}
 use Rattle.units.specs.declared.NodeId.{NodeId}
 use Rattle.units.specs.declared.LogIndex.{LogIndex}
 use Rattle.units.specs.declared.SimTime.{SimTime}
@@ -9,7 +11,7 @@ use Rattle.layout.specs.Payload.{payload}
 use Rattle.layout.specs.Applied.{applied as payloads}
 use Rattle.checks.specs.declared.Check.TheVariants.{ApplyOrder, StateMachineSafety}
 use Rattle.checks.specs.Checks.{Checker, report_if, on_apply}
-use Rattle.checks.specs.Asked.{counts_code, append_if}
+use Rattle.checks.specs.Asked.{where_fits, append_if}
 use Rattle.checks_on_apply.specs.declared.ApplyAsked.{ApplyAsked}
 
 -- What is asked: the region of applied payloads of up to `longest` bytes with their count and how many have room, the total of violations,
@@ -31,14 +33,17 @@ apply_acts r index expected c time server x =
     (report_if r.other (report_if r.late c time ApplyOrder (server.0 ∷ index.0 ∷ expected ∷ [])) time StateMachineSafety
     (server.0 ∷ index.0 ∷ []))
 
--- The answer for given checks: its code is that of what the unlimited definition gives, and its flags say what that does.
-pub record ApplyAnswered (g : ApplyGiven) (r : ApplyAsked) (c : Checker) (time : SimTime) (server : NodeId) (x : Payload) : Type 0 where
-  pub code : r.code
-      ≡ counts_code (length (on_apply c time server g.index x g.expected).applied) g.room
-      (on_apply c time server g.index x g.expected).total
-  pub does : on_apply c time server g.index x g.expected ≡ apply_acts r g.index g.expected c time server x
+-- The answer for given checks: the flags, where what the unlimited definition gives has room, and they say what that does, also where it has
+-- none.
+pub record ApplyAnswered (g : ApplyGiven) (r : Result ApplyAsked Refusal) (asked : ApplyAsked) (c : Checker) (time : SimTime) (server : NodeId)
+    (x : Payload) : Type 0 where
+  pub is : r
+      ≡ where_fits (length (on_apply c time server g.index x g.expected).applied) g.room
+      (on_apply c time server g.index x g.expected).total asked
+  pub does : on_apply c time server g.index x g.expected ≡ apply_acts asked g.index g.expected c time server x
 
 -- The same whatever the checks are whose payloads and total are given, and whatever payload the lent words hold.
-pub record AsksApply (g : ApplyGiven) (r : ApplyAsked) : Type 0 where
+pub record AsksApply (g : ApplyGiven) (r : Result ApplyAsked Refusal) : Type 0 where
+  pub asked : ApplyAsked
   pub to : (N : ℕ) (c : Checker) (time : SimTime) (server : NodeId) (x : Payload) → Holds (payload g.longest) g.content x
-      → Held (payloads g.longest) N g.count g.applied c.applied → c.total ≡ g.total → ApplyAnswered g r c time server x
+      → Held (payloads g.longest) N g.count g.applied c.applied → c.total ≡ g.total → ApplyAnswered g r asked c time server x

@@ -9,18 +9,19 @@ ghost use Rattle.checks_on_apply.specs.OnApply.{AsksApply};
 
 use checks::{applied, violations};
 use units::LogIndex;
+use units::refusal::Refusal;
 
-// 0, or 10 where the payloads have no room or the total no 64 bits; whether another index was expected, whether another payload was applied
-// at the index before, and whether the payload goes to the next free place.
+// Whether another index was expected, whether another payload was applied at the index before, and whether the payload goes to the next free
+// place.
 #[derive(Clone, Copy)]
 pub struct ApplyAsked {
-    pub code: u64,
     pub late: bool,
     pub other: bool,
     pub next: bool,
 }
 
-// What an applied payload, lent in words, gives to report and to keep.
+// What an applied payload, lent in words, gives to report and to keep; question 10 where the payloads have no room or the total no 64 bits.
+// (d) The regions and their counts come one by one: each is used once, and a struct of them would be made for this call alone.
 pub fn on_apply(
     applied: &[u8],
     n: usize,
@@ -30,7 +31,7 @@ pub fn on_apply(
     index: LogIndex,
     expected: u64,
     content: &[u8],
-) -> ApplyAsked
+) -> Result<ApplyAsked, Refusal>
     requires p_bound { p ≤ 256 }
     requires p_in_bounds { 8 * (n * (1 + words_for p)) ≤ length applied.now }
     requires content_len { length content.now ≡ 8 * (1 + words_for p) }
@@ -52,11 +53,6 @@ pub fn on_apply(
     let next = seen.is_next();
     let rows = n as u64 + violations::one_if(next);
     let reports = violations::one_if(late) + violations::one_if(other);
-    let code = checks::counts_code(rows, room, total, reports);
-    ApplyAsked {
-        code,
-        late,
-        other,
-        next,
-    }
+    let asked = ApplyAsked { late, other, next };
+    checks::where_fits(rows, room, total, reports, asked)
 }

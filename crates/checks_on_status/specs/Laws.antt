@@ -1,19 +1,18 @@
 -- What the proofs of the status cite. Assumes nothing.
-use Rattle.std.specs.Prelude.{◌≡◌, Bool, true, false, not, ◌&&◌, List, [], ◌∷◌, eqb, ltb, length}
+use Rattle.std.specs.Prelude.{◌≡◌, Bool, true, false, not, ◌&&◌, List, [], ◌∷◌, eqb, length, Option, None, Some}
 use Rattle.std.proofs.Math.Path.{refl, ap}
 use Rattle.std.proofs.Common.{sym, ap₂, ◌∙◌}
-use Rattle.std.proofs.Math.Option.{Option, none, some}
-use Prim.Native.Nat.{ℕ, zero, suc, ◌+◌}
+use Prim.Native.Nat.{ℕ, ◌+◌}
 use native.Mathlib.Omega.{arith}
-use borrow.Author.Tests.{not-true, not-false, lt-ltb}
+use borrow.Author.Tests.{not-true, not-false}
 use Rattle.laws.specs.Bools.{pick}
+use Rattle.laws.specs.Lists.{is_some}
+use Rattle.units.specs.declared.LogIndex.{LogIndex}
 use Rattle.laws.specs.Decides.{false_true}
 use Rattle.laws.specs.Order.{numbers, lookup}
-use Rattle.units.specs.Types.{Payload, term_option}
+use Rattle.units.specs.Types.{Payload}
 use Rattle.units.specs.declared.NodeId.{NodeId}
 use Rattle.units.specs.declared.Term.{Term}
-use Rattle.units.specs.declared.TermOption.{TermOption}
-use Rattle.units.specs.declared.TermOption.TheVariants.{None as NoTerm, Some}
 use Rattle.units.specs.declared.SimTime.{SimTime}
 use Rattle.protocol.specs.Numbers.{leads}
 use Rattle.protocol.specs.declared.Status.{Status}
@@ -21,42 +20,30 @@ use Rattle.layout.specs.TableLaws.{held_rows}
 use Rattle.raft_log.specs.Log.{Log}
 use Rattle.checks.specs.declared.TermLeader.{TermLeader}
 use Rattle.checks.specs.declared.Check.TheVariants.{ElectionSafety, LeaderCompleteness}
-use Rattle.checks.specs.declared.leaders.LeaderSeen.{LeaderSeen}
+use Rattle.checks.specs.declared.Compared.{Compared}
+use Rattle.checks.specs.Compared.{is_other, first_of, is_new}
 use Rattle.checks.specs.Checks.{Checker, Led, report_if, leader_key, compare_leader, first_missing, report_missing, check_leader_completeness}
 use Rattle.checks.specs.Checks.{already_leads, on_status}
 use Rattle.checks.specs.Asked.{counts_code, insert_leader_if}
-use Rattle.checks.specs.Leaders.{is_other, first_of, is_new, leader_seen, leader_after, AsksLeader}
+use Rattle.checks.specs.Leaders.{leader_seen, leader_after, AsksLeader}
 use Rattle.checks.specs.LeaderLaws.{leader_after_lem, leader_absent, leader_rows}
 use Rattle.checks.specs.Reports.{total_if, applied_if_lem, leaders_if}
 use Rattle.checks_on_status.specs.declared.StatusAsked.{StatusAsked}
-use Rattle.checks_on_status.specs.OnStatus.{missing_option, status_acts, leader_checked, StatusGiven, status_of, AsksMissing, AsksLeading}
+use Rattle.checks_on_status.specs.OnStatus.{number_of, status_acts, leader_checked, StatusGiven, status_of, AsksMissing, AsksLeading}
 use Rattle.checks_on_status.specs.OnStatus.{AsksStatus}
-
--- ---- already_leads
-
-pub leads_none : (leading : TermOption) (term : Term) → leading ≡ NoTerm → false ≡ already_leads (term_option leading) term
-unfolding term_option
-leads_none leading term e = rw e
-
-pub leads_some : (leading : TermOption) (term led : Term) → leading ≡ Some led
-    → eqb led.0 term.0 ≡ already_leads (term_option leading) term
-unfolding term_option
-leads_some leading term led e = rw e
-
-pub ruleset leading_answers = (leads_none, leads_some)
 
 -- ---- the checks after a leader
 
 module _ (time : SimTime) (server : NodeId) (term : Term) where
-  missing_is : (m : ℕ) (c : Checker)
-      → report_missing (missing_option m) c time server term ≡ report_if (ltb 0 m) c time LeaderCompleteness (server.0 ∷ term.0 ∷ m ∷ [])
-  unfolding missing_option
-  missing_is zero c = refl
-  missing_is (suc m) c = rw (lt-ltb 0 (suc m) (omega arith))
+  missing_is : (missing : Option LogIndex) (c : Checker)
+      → report_missing missing c time server term
+      ≡ report_if (is_some missing) c time LeaderCompleteness (server.0 ∷ term.0 ∷ number_of missing ∷ [])
+  missing_is None c = refl
+  missing_is (Some i) c = refl
 
   compare_applied_lem : (o : Option TermLeader) (c : Checker) → (compare_leader o c time server term).applied ≡ c.applied
-  compare_applied_lem none c = refl
-  compare_applied_lem (some other) c = applied_if_lem (not (eqb other.server.0 server.0)) c time ElectionSafety
+  compare_applied_lem None c = refl
+  compare_applied_lem (Some other) c = applied_if_lem (not (eqb other.server.0 server.0)) c time ElectionSafety
       (other.server.0 ∷ server.0 ∷ term.0 ∷ [])
 
   insert_total : (t : Bool) (l : TermLeader) (c : Checker) → (insert_leader_if t l c).total ≡ c.total
@@ -70,7 +57,7 @@ module _ (time : SimTime) (server : NodeId) (term : Term) where
     abbrev led : TermLeader
     led = record { term = term; server = server }
 
-    acts_rows : (r.fresh ≡ true → lookup numbers leader_key term.0 c.leaders ≡ none)
+    acts_rows : (r.fresh ≡ true → lookup numbers leader_key term.0 c.leaders ≡ None)
         → length (status_acts r c time server term).leaders ≡ length c.leaders + pick r.fresh 1 0
     acts_rows f =
         let e : compared.leaders ≡ c.leaders = leaders_if r.other c time ElectionSafety (r.first ∷ server.0 ∷ term.0 ∷ []) in
@@ -89,34 +76,38 @@ module _ (time : SimTime) (server : NodeId) (term : Term) where
 
 -- ---- leader_asked
 
-pub leading_asked : {b : List ℕ} {n room total : ℕ} {server : NodeId} {term : Term} {missing : ℕ} {seen : LeaderSeen} {other : Bool}
-    {first : ℕ} {fresh : Bool} {code one two three : ℕ}
-    → AsksLeader server term n seen b → other ≡ is_other seen → first ≡ first_of seen → fresh ≡ is_new seen
-    → one ≡ pick fresh 1 0 → two ≡ pick other 1 0 → three ≡ pick (ltb 0 missing) 1 0
+pub leading_asked : {b : List ℕ} {n room total : ℕ} {server : NodeId} {term : Term} {missing : Option LogIndex} {seen : Compared NodeId} {other : Bool}
+    {first : ℕ} {fresh lacks : Bool} {code one two three index : ℕ}
+    → AsksLeader server term n seen b → other ≡ is_other seen → first ≡ first_of seen → fresh ≡ is_new seen → lacks ≡ is_some missing
+    → index ≡ number_of missing
+    → one ≡ pick fresh 1 0 → two ≡ pick other 1 0 → three ≡ pick lacks 1 0
     → code ≡ counts_code (n + one) room (total + (two + three))
     → AsksLeading b n room total server term missing
-    (record { code = code; leads = true; other = other; first = first; fresh = fresh; lacks = ltb 0 missing; missing = missing })
-leading_asked {b} {n} {room} {total} {server} {term} {missing} {seen} {other} {first} {fresh} {code} {one} {two} {three} q eo ef en e₁ e₂ e₃
-    ec = record {
+    (record { code = code; leads = true; other = other; first = first; fresh = fresh; lacks = lacks; missing = index })
+leading_asked {b} {n} {room} {total} {server} {term} {missing} {seen} {other} {first} {fresh} {lacks} {code} {one} {two} {three} {index} q eo ef en el ei
+    e₁ e₂ e₃ ec = record {
       to = λ S N c time h t.
           let o : Option TermLeader = lookup numbers leader_key term.0 c.leaders in
           let r : StatusAsked = record
-          { code = code; leads = true; other = other; first = first; fresh = fresh; lacks = ltb 0 missing; missing = missing } in
+          { code = code; leads = true; other = other; first = first; fresh = fresh; lacks = lacks; missing = index } in
           let es : seen ≡ leader_seen o server = q.to S N c.leaders h in
-          let absent : fresh ≡ true → o ≡ none = λ y. leader_absent o server (sym (en ∙ ap is_new es) ∙ y) in
+          let absent : fresh ≡ true → o ≡ None = λ y. leader_absent o server (sym (en ∙ ap is_new es) ∙ y) in
           let compared : compare_leader o c time server term
           ≡ insert_leader_if fresh (record { term = term; server = server })
           (report_if other c time ElectionSafety (first ∷ server.0 ∷ term.0 ∷ [])) =
-          leader_after_lem o c time server term ∙ ap (λ (s : LeaderSeen). leader_after s c time server term) (sym es)
+          leader_after_lem o c time server term ∙ ap (λ (s : Compared NodeId). leader_after s c time server term) (sym es)
           ∙ ap₂ (λ (x y : Bool). insert_leader_if x (record { term = term; server = server })
           (report_if y c time ElectionSafety (first_of seen ∷ server.0 ∷ term.0 ∷ []))) (sym en) (sym eo)
           ∙ ap (λ (x : ℕ). insert_leader_if fresh (record { term = term; server = server })
           (report_if other c time ElectionSafety (x ∷ server.0 ∷ term.0 ∷ []))) (sym ef) in
-          let d : leader_checked (missing_option missing) c time server term ≡ status_acts r c time server term =
-          ap (λ (x : Checker). report_missing (missing_option missing) x time server term) compared ∙ missing_is time server term missing _ in
-          let rows : n + one ≡ length (leader_checked (missing_option missing) c time server term).leaders =
+          let d : leader_checked missing c time server term ≡ status_acts r c time server term =
+          ap (λ (x : Checker). report_missing missing x time server term) compared ∙ missing_is time server term missing _
+          ∙ ap₂ (λ (b : Bool) (i : ℕ). report_if b (insert_leader_if fresh (record { term = term; server = server })
+          (report_if other c time ElectionSafety (first ∷ server.0 ∷ term.0 ∷ []))) time LeaderCompleteness (server.0 ∷ term.0 ∷ i ∷ []))
+          (sym el) (sym ei) in
+          let rows : n + one ≡ length (leader_checked missing c time server term).leaders =
           omega (arith, e₁, (held_rows h).count, acts_rows time server term r c absent, ap (λ (x : Checker). length x.leaders) d) in
-          let sum : total + (two + three) ≡ (leader_checked (missing_option missing) c time server term).total =
+          let sum : total + (two + three) ≡ (leader_checked missing c time server term).total =
           omega (arith, e₂, e₃, t, acts_total time server term r c, ap (λ (x : Checker). x.total) d) in
           record {
             code = ec ∙ ap₂ (λ (x y : ℕ). counts_code x room y) rows sum;
@@ -129,21 +120,21 @@ leading_asked {b} {n} {room} {total} {server} {term} {missing} {seen} {other} {f
 -- ---- on_status
 
 -- whether leader completeness is asked
-abbrev asked : Bool → TermOption → Term → Bool
-asked raft_checks leading term = raft_checks && not (already_leads (term_option leading) term)
+abbrev asked : Bool → Option Term → Term → Bool
+asked raft_checks leading term = raft_checks && not (already_leads leading term)
 
 -- the definition where a server leads
-status_is : (raft_checks : Bool) (c : Checker) (time : SimTime) (server : NodeId) (status : Status) (log : Log) (leading : TermOption)
+status_is : (raft_checks : Bool) (c : Checker) (time : SimTime) (server : NodeId) (status : Status) (log : Log) (leading : Option Term)
     → leads status.role ≡ true
-    → on_status raft_checks c time server status log (term_option leading)
+    → on_status raft_checks c time server status log leading
     ≡ record {
-      checker = leader_checked (pick (asked raft_checks leading status.term) (first_missing log 1 c.applied) none) c time server
+      checker = leader_checked (pick (asked raft_checks leading status.term) (first_missing log 1 c.applied) None) c time server
           status.term;
-      leading = some status.term;
+      leading = Some status.term;
     }
 unfolding on_status check_leader_completeness
 status_is raft_checks c time server status log leading e =
-    rw e (ap (λ (x : Checker). record { checker = x; leading = some status.term }) (by (asked raft_checks leading status.term)))
+    rw e (ap (λ (x : Checker). record { checker = x; leading = Some status.term }) (by (asked raft_checks leading status.term)))
   where
     first : Option TermLeader
     first = lookup numbers leader_key status.term.0 c.leaders
@@ -153,7 +144,7 @@ status_is raft_checks c time server status log leading e =
 
     by : (t : Bool)
         → pick t (check_leader_completeness seen time server status.term log) seen
-        ≡ leader_checked (pick t (first_missing log 1 c.applied) none) c time server status.term
+        ≡ leader_checked (pick t (first_missing log 1 c.applied) None) c time server status.term
     by true = ap (λ (x : List Payload). report_missing (first_missing log 1 x) seen time server status.term)
         (compare_applied_lem time server status.term first c)
     by false = refl
@@ -164,7 +155,7 @@ module _ {g : StatusGiven} {y : Bool} (e : y ≡ leads g.status.role) where
   unfolding on_status
   status_follows {code} t ec = record {
     to = λ S N L A c time log h k w z.
-        let d : status_of g c time log ≡ record { checker = c; leading = none } = rw (sym e ∙ not-true y t) in
+        let d : status_of g c time log ≡ record { checker = c; leading = None } = rw (sym e ∙ not-true y t) in
         record {
           code = ec ∙ ap (λ (x : ℕ). counts_code x g.room (g.total + 0)) (sym (held_rows h).count)
               ∙ ap (counts_code (length c.leaders) g.room) (let s : g.total + 0 ≡ c.total = omega arith in s)
@@ -175,24 +166,24 @@ module _ {g : StatusGiven} {y : Bool} (e : y ≡ leads g.status.role) where
         };
   }
 
-  pub status_leads : {led : Bool} {missing : ℕ} {r : StatusAsked} → not y ≡ false
-      → led ≡ already_leads (term_option g.leading) g.status.term
+  pub status_leads : {led : Bool} {missing : Option LogIndex} {r : StatusAsked} → not y ≡ false
+      → led ≡ already_leads g.leading g.status.term
       → AsksMissing (g.raft_checks && not led) g.longest g.places g.applied_count missing g.log g.applied
       → AsksLeading g.leaders g.count g.room g.total g.server g.status.term missing r → AsksStatus g r
   status_leads {led} {missing} {r} t el q w = record {
     to = λ S N L A c time log h k u z.
         let term : Term = g.status.term in
         let v = w.to S N c time h k in
-        let o : pick (asked g.raft_checks g.leading term) (first_missing log 1 c.applied) none ≡ missing_option missing =
-        sym (q.to L A log c.applied u z ∙ ap (λ (i : Bool). pick (g.raft_checks && not i) (first_missing log 1 c.applied) none) el) in
+        let o : pick (asked g.raft_checks g.leading term) (first_missing log 1 c.applied) None ≡ missing =
+        sym (q.to L A log c.applied u z ∙ ap (λ (i : Bool). pick (g.raft_checks && not i) (first_missing log 1 c.applied) None) el) in
         let d : status_of g c time log
-        ≡ record { checker = leader_checked (missing_option missing) c time g.server term; leading = some term } =
+        ≡ record { checker = leader_checked missing c time g.server term; leading = Some term } =
         status_is g.raft_checks c time g.server g.status log g.leading (sym e ∙ not-false y t)
-        ∙ ap (λ (i : Option ℕ). record { checker = leader_checked i c time g.server term; leading = some term }) o in
+        ∙ ap (λ (i : Option LogIndex). record { checker = leader_checked i c time g.server term; leading = Some term }) o in
         record {
           code = v.code ∙ ap (λ (x : Led). counts_code (length x.checker.leaders) g.room x.checker.total) (sym d);
           does = ap (λ (x : Led). x.checker) d ∙ v.does;
-          led = ap (λ (x : Led). x.leading) d ∙ ap (λ (i : Bool). pick i (some term) none) (sym v.leads);
+          led = ap (λ (x : Led). x.leading) d ∙ ap (λ (i : Bool). pick i (Some term) None) (sym v.leads);
           absent = v.absent;
         };
   }

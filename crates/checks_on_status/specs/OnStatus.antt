@@ -1,13 +1,12 @@
 -- A server's status after an input (on_status): what the question answers, over the regions of leaders, of a log and of applied payloads.
 -- Assumes nothing.
-use Rattle.std.specs.Prelude.{◌≡◌, Bool, true, List, [], ◌∷◌, ℕ, zero, suc, length, get_or}
-use Rattle.std.proofs.Math.Option.{Option, none, some}
+use Rattle.std.specs.Prelude.{◌≡◌, Bool, true, List, [], ◌∷◌, ℕ, suc, length, get_or, Option, None, Some}
 use Rattle.laws.specs.Bools.{pick}
 use Rattle.laws.specs.Order.{numbers, lookup}
-use Rattle.units.specs.Types.{Payload, noop, term_option}
+use Rattle.units.specs.Types.{Payload, noop}
+use Rattle.units.specs.declared.LogIndex.{LogIndex}
 use Rattle.units.specs.declared.NodeId.{NodeId}
 use Rattle.units.specs.declared.Term.{Term}
-use Rattle.units.specs.declared.TermOption.{TermOption}
 use Rattle.units.specs.declared.SimTime.{SimTime}
 use Rattle.protocol.specs.declared.Status.{Status}
 use Rattle.layout.specs.Tables.{Held}
@@ -22,10 +21,10 @@ use Rattle.checks_on_status.specs.declared.StatusAsked.{StatusAsked}
 
 -- ---- leader completeness
 
--- An index that may be missing, as an option; 0 is none.
-unfoldable pub missing_option : ℕ → Option ℕ
-missing_option zero = none
-missing_option (suc i) = some (suc i)
+-- The number of an index that may be missing, or 0.
+abbrev pub number_of : Option LogIndex → ℕ
+number_of None = 0
+number_of (Some index) = index.0
 
 -- Whatever log of l places b holds and whatever m applied payloads a holds, r says whether the log holds payload i at its index.
 pub record HoldsApplied (p l m i : ℕ) (r : Bool) (b a : List ℕ) : Type 0 where
@@ -33,14 +32,14 @@ pub record HoldsApplied (p l m i : ℕ) (r : Bool) (b a : List ℕ) : Type 0 whe
       → r ≡ holds (entry_at log (suc i)) (get_or x i noop)
 
 -- The same of the first index whose payload the log does not hold.
-pub record FindsMissing (p l m r : ℕ) (b a : List ℕ) : Type 0 where
+pub record FindsMissing (p l m : ℕ) (r : Option LogIndex) (b a : List ℕ) : Type 0 where
   pub to : (L A : ℕ) (log : Log) (x : List Payload) → Held (logPlaces p) L l b log → Held (payloads p) A m a x
-      → missing_option r ≡ first_missing log 1 x
+      → r ≡ first_missing log 1 x
 
 -- The same where it is asked.
-pub record AsksMissing (asked : Bool) (p l m r : ℕ) (b a : List ℕ) : Type 0 where
+pub record AsksMissing (asked : Bool) (p l m : ℕ) (r : Option LogIndex) (b a : List ℕ) : Type 0 where
   pub to : (L A : ℕ) (log : Log) (x : List Payload) → Held (logPlaces p) L l b log → Held (payloads p) A m a x
-      → missing_option r ≡ pick asked (first_missing log 1 x) none
+      → r ≡ pick asked (first_missing log 1 x) None
 
 -- ---- a leader
 
@@ -53,22 +52,22 @@ status_acts r c time server term =
     time LeaderCompleteness (server.0 ∷ term.0 ∷ r.missing ∷ [])
 
 -- The checks where a server leads a term and an index may be missing in its log: the first leader of the term, and then the index.
-abbrev pub leader_checked : Option ℕ → Checker → SimTime → NodeId → Term → Checker
+abbrev pub leader_checked : Option LogIndex → Checker → SimTime → NodeId → Term → Checker
 leader_checked missing c time server term = report_missing missing
     (compare_leader (lookup numbers leader_key term.0 c.leaders) c time server term) time server term
 
 -- The answer about a leader for given checks: its code, what its flags do, and that a leader to be kept is the first of its term.
-pub record LeadingAnswered (room : ℕ) (server : NodeId) (term : Term) (missing : ℕ) (r : StatusAsked) (c : Checker)
+pub record LeadingAnswered (room : ℕ) (server : NodeId) (term : Term) (missing : Option LogIndex) (r : StatusAsked) (c : Checker)
     (time : SimTime) : Type 0 where
   pub code : r.code
-      ≡ counts_code (length (leader_checked (missing_option missing) c time server term).leaders) room
-      (leader_checked (missing_option missing) c time server term).total
-  pub does : leader_checked (missing_option missing) c time server term ≡ status_acts r c time server term
-  pub absent : r.fresh ≡ true → lookup numbers leader_key term.0 c.leaders ≡ none
+      ≡ counts_code (length (leader_checked missing c time server term).leaders) room
+      (leader_checked missing c time server term).total
+  pub does : leader_checked missing c time server term ≡ status_acts r c time server term
+  pub absent : r.fresh ≡ true → lookup numbers leader_key term.0 c.leaders ≡ None
   pub leads : r.leads ≡ true
 
 -- The same whatever the checks are whose n leaders b holds, and whose total is given.
-pub record AsksLeading (b : List ℕ) (n room total : ℕ) (server : NodeId) (term : Term) (missing : ℕ) (r : StatusAsked) : Type 0 where
+pub record AsksLeading (b : List ℕ) (n room total : ℕ) (server : NodeId) (term : Term) (missing : Option LogIndex) (r : StatusAsked) : Type 0 where
   pub to : (S N : ℕ) (c : Checker) (time : SimTime) → Held (leaderTable S) N n b c.leaders → c.total ≡ total
       → LeadingAnswered room server term missing r c time
 
@@ -90,11 +89,11 @@ pub record StatusGiven : Type 0 where
   pub longest : ℕ
   pub applied : List ℕ
   pub applied_count : ℕ
-  pub leading : TermOption
+  pub leading : Option Term
 
 -- What the unlimited definition gives.
 abbrev pub status_of : StatusGiven → Checker → SimTime → Log → Led
-status_of g c time log = on_status g.raft_checks c time g.server g.status log (term_option g.leading)
+status_of g c time log = on_status g.raft_checks c time g.server g.status log g.leading
 
 -- The answer for given checks: its code is that of what the unlimited definition gives; its flags say what that does, and whether the
 -- server
@@ -102,8 +101,8 @@ status_of g c time log = on_status g.raft_checks c time g.server g.status log (t
 pub record StatusAnswered (g : StatusGiven) (r : StatusAsked) (c : Checker) (time : SimTime) (log : Log) : Type 0 where
   pub code : r.code ≡ counts_code (length (status_of g c time log).checker.leaders) g.room (status_of g c time log).checker.total
   pub does : (status_of g c time log).checker ≡ status_acts r c time g.server g.status.term
-  pub led : (status_of g c time log).leading ≡ pick r.leads (some g.status.term) none
-  pub absent : r.fresh ≡ true → lookup numbers leader_key g.status.term.0 c.leaders ≡ none
+  pub led : (status_of g c time log).leading ≡ pick r.leads (Some g.status.term) None
+  pub absent : r.fresh ≡ true → lookup numbers leader_key g.status.term.0 c.leaders ≡ None
 
 -- The same whatever the checks are whose leaders, payloads and total are given, and whatever log.
 pub record AsksStatus (g : StatusGiven) (r : StatusAsked) : Type 0 where
@@ -114,4 +113,4 @@ pub record AsksStatus (g : StatusGiven) (r : StatusAsked) : Type 0 where
 
 -- A server that stops leads no term (on_stop).
 abbrev pub on_stop : Option Term
-on_stop = none
+on_stop = None

@@ -4,15 +4,14 @@
 #![tactic(auto)]
 
 ghost use Rattle.std.specs.Prelude.{◌≡◌, ◌+◌, ◌*◌, ◌≤◌, ◌<◌, length};
-ghost use Rattle.units.specs.Types.{term_option};
 ghost use Rattle.layout.specs.Marked.{words_for};
 ghost use Rattle.checks.specs.Checks.{already_leads};
-ghost use Rattle.checks_on_status.specs.OnStatus.{HoldsApplied, FindsMissing, AsksMissing, AsksLeading, AsksStatus, on_stop};
+ghost use Rattle.checks_on_status.specs.OnStatus.{HoldsApplied, FindsMissing, AsksMissing, AsksLeading, AsksStatus, number_of, on_stop};
 
 use checks::{leaders, violations};
 use layout::rows;
 use protocol::Status;
-use units::{NodeId, Term, TermOption};
+use units::{LogIndex, NodeId, Term};
 
 // 0, or 10 where the leaders have no room or the total no 64 bits; whether the server leads; whether another led its term first, and which,
 // or 0; whether it is the term's first leader; whether its log lacks an applied payload, and the first index at which it does, or 0.
@@ -30,6 +29,7 @@ pub struct StatusAsked {
 // ---- leader completeness
 
 // Whether a log holds the applied payload of place i at its index.
+#[tactic(auto, using(crate::specs::MissingLaws::holding))]
 fn holds(log: &[u8], l: usize, p: usize, applied: &[u8], m: usize, i: usize) -> bool
     requires i_lt_m { i < m }
     requires p_bound { p ≤ 256 }
@@ -50,24 +50,24 @@ fn holds(log: &[u8], l: usize, p: usize, applied: &[u8], m: usize, i: usize) -> 
     words::equal(&log[a..e], &applied[a2..e2])
 }
 
-// The first index whose applied payload a log does not hold, or 0.
-pub fn first_missing(log: &[u8], l: usize, p: usize, applied: &[u8], m: usize) -> u64
+// The first index whose applied payload a log does not hold.
+#[tactic(auto, using(crate::specs::MissingLaws::seeking))]
+pub fn first_missing(log: &[u8], l: usize, p: usize, applied: &[u8], m: usize) -> Option<LogIndex>
     requires p_bound { p ≤ 256 }
     requires p_in_bounds { 8 * (l * (2 + words_for p)) ≤ length log.now }
     requires p_in_bounds_2 { 8 * (m * (1 + words_for p)) ≤ length applied.now }
     ensures { FindsMissing p l m result log.now applied.now }
 {
-    let mut i: usize = 0;
-    while i < m {
+    for i in 0..m {
         if !holds(log, l, p, applied, m, i) {
-            return i as u64 + 1;
+            return Some(LogIndex(i as u64 + 1));
         }
-        i += 1;
     }
-    0
+    None
 }
 
 // The same where it is asked (check_leader_completeness).
+#[tactic(auto, using(crate::specs::MissingLaws::asking))]
 fn check_leader_completeness(
     asked: bool,
     log: &[u8],
@@ -75,28 +75,33 @@ fn check_leader_completeness(
     p: usize,
     applied: &[u8],
     m: usize,
-) -> u64
+) -> Option<LogIndex>
     requires p_bound { p ≤ 256 }
     requires p_in_bounds { 8 * (l * (2 + words_for p)) ≤ length log.now }
     requires p_in_bounds_2 { 8 * (m * (1 + words_for p)) ≤ length applied.now }
     ensures { AsksMissing asked p l m result log.now applied.now }
 {
-    if !asked {
-        return 0;
+    if asked {
+        first_missing(log, l, p, applied, m)
+    } else {
+        None
     }
-    first_missing(log, l, p, applied, m)
 }
 
 // ---- status
 
 // Whether a server already leads a term.
-fn already_leads(leading: TermOption, term: Term) -> bool
-    ensures { result ≡ already_leads (term_option leading) term }
+fn already_leads(leading: Option<Term>, term: Term) -> bool
+    ensures { result ≡ already_leads leading term }
 {
-    match leading {
-        TermOption::None => false,
-        TermOption::Some(led) => led.0 == term.0,
-    }
+    leading == Some(term)
+}
+
+// The number of an index that may be missing, or 0.
+fn number_of(missing: Option<LogIndex>) -> u64
+    ensures { result ≡ number_of missing }
+{
+    missing.map_or(0, |index| index.0)
 }
 
 // What a leader gives to report and to keep, where an index may be missing in its log.
@@ -107,7 +112,7 @@ fn leader_asked(
     total: u64,
     server: NodeId,
     term: Term,
-    missing: u64,
+    missing: Option<LogIndex>,
 ) -> StatusAsked
     requires { 8 * (n * 2) ≤ length leaders.now }
     ensures { AsksLeading leaders.now n room total server term missing result }
@@ -116,7 +121,7 @@ fn leader_asked(
     let other = seen.is_other();
     let first = seen.first();
     let fresh = seen.is_new();
-    let lacks = 0 < missing;
+    let lacks = missing.is_some();
     let rows = n as u64 + violations::one_if(fresh);
     let reports = violations::one_if(other) + violations::one_if(lacks);
     let code = checks::counts_code(rows, room, total, reports);
@@ -127,11 +132,12 @@ fn leader_asked(
         first,
         fresh,
         lacks,
-        missing,
+        missing: number_of(missing),
     }
 }
 
 // What a server's status gives to report and to keep.
+// (d) The regions and their counts come one by one: each is used once, and a struct of them would be made for this call alone.
 pub fn on_status(
     raft_checks: bool,
     leaders: &[u8],
@@ -145,7 +151,7 @@ pub fn on_status(
     p: usize,
     applied: &[u8],
     m: usize,
-    leading: TermOption,
+    leading: Option<Term>,
 ) -> StatusAsked
     requires p_bound { p ≤ 256 }
     requires n_in_bounds { 8 * (n * 2) ≤ length leaders.now }
@@ -168,8 +174,7 @@ pub fn on_status(
           leading = leading;
         }) result }
 {
-    let role = status.role;
-    if !role.leads() {
+    if !status.role.leads() {
         return StatusAsked {
             code: checks::counts_code(n as u64, room, total, 0),
             leads: false,
@@ -187,8 +192,8 @@ pub fn on_status(
 }
 
 // The term that a server leads when it stops: none.
-pub fn on_stop() -> TermOption
-    ensures { term_option result ≡ on_stop }
+pub fn on_stop() -> Option<Term>
+    ensures { result ≡ on_stop }
 {
-    TermOption::None
+    None
 }

@@ -1,43 +1,41 @@
 -- A server has written at an index (on_write): what the question answers, over the regions of entries seen and of a log. Assumes nothing.
-use Rattle.std.specs.Prelude.{◌≡◌, false, List, [], ◌∷◌, ℕ, ◌≤◌}
-use Rattle.std.proofs.Math.Option.{Option, none, some}
+use Rattle.std.specs.Prelude.{◌≡◌, false, List, [], ◌∷◌, ℕ, ◌≤◌, Option, None, Some}
 use Rattle.laws.specs.Order.{pairs, lookup}
-use Rattle.units.specs.Types.{Payload, noop, Entry, term_option}
+use Rattle.units.specs.Types.{Payload, noop, Entry}
 use Rattle.units.specs.declared.NodeId.{NodeId}
 use Rattle.units.specs.declared.Term.{Term}
-use Rattle.units.specs.declared.TermOption.{TermOption}
-use Rattle.units.specs.declared.TermOption.TheVariants.{Some}
 use Rattle.units.specs.declared.LogIndex.{LogIndex}
 use Rattle.units.specs.declared.SimTime.{SimTime}
 use Rattle.layout.specs.Tables.{Held}
 use Rattle.raft_log.specs.Log.{Log, entry_at}
 use Rattle.raft_log.specs.Places.{places, entry_term}
 use Rattle.checks.specs.declared.Check.TheVariants.{UniqueEntries}
-use Rattle.checks.specs.declared.entries.EntrySeen.{EntrySeen}
+use Rattle.checks.specs.declared.Compared.{Compared}
+use Rattle.checks.specs.Compared.{is_other, is_new}
 use Rattle.checks.specs.Checks.{Checker, Seen, seen_key, report_if}
 use Rattle.checks.specs.Asked.{insert_seen_if}
-use Rattle.checks.specs.Entries.{seen, is_other, is_new, entry_seen}
+use Rattle.checks.specs.Entries.{seen, entry_seen}
 use Rattle.checks_on_write.specs.declared.WriteAsked.{WriteAsked}
 
 -- Whatever log of l places the bytes b hold, r is the term of its entry at index i. An index that is no place has none.
-pub record ReadsTerm (p l i : ℕ) (r : TermOption) (b : List ℕ) : Type 0 where
+pub record ReadsTerm (p l i : ℕ) (r : Option Term) (b : List ℕ) : Type 0 where
   pub low : (term : Term) → r ≡ Some term → 1 ≤ i
   pub high : (term : Term) → r ≡ Some term → i ≤ l
-  pub to : (N : ℕ) (log : Log) → Held (places p) N l b log → term_option r ≡ entry_term (entry_at log i)
+  pub to : (N : ℕ) (log : Log) → Held (places p) N l b log → r ≡ entry_term (entry_at log i)
 
 -- The answer about an entry by what it is against the first seen.
-abbrev pub asked_by : Term → EntrySeen → WriteAsked
+abbrev pub asked_by : Term → Compared (Unit {0}) → WriteAsked
 asked_by term r = record { term = term; other = is_other r; fresh = is_new r }
 
 -- The answer about what stands at an index, against the entries seen.
 unfoldable pub write_asked : Option Entry → LogIndex → List Seen → WriteAsked
-write_asked none index xs = record { term = record { 0 = 0 }; other = false; fresh = false }
-write_asked (some e) index xs = asked_by e.term (entry_seen (lookup pairs seen_key (index.0, e.term.0) xs) e.payload)
+write_asked None index xs = record { term = record { 0 = 0 }; other = false; fresh = false }
+write_asked (Some e) index xs = asked_by e.term (entry_seen (lookup pairs seen_key (index.0, e.term.0) xs) e.payload)
 
 -- The payload of an entry, or a noop where there is none.
 abbrev pub payload_of : Option Entry → Payload
-payload_of none = noop
-payload_of (some e) = e.payload
+payload_of None = noop
+payload_of (Some e) = e.payload
 
 -- The flags of an answer, acted on in the order of the definition.
 abbrev pub write_acts : WriteAsked → Checker → SimTime → NodeId → Log → LogIndex → Checker

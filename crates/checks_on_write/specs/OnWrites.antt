@@ -7,8 +7,6 @@ use Rattle.units.specs.declared.SimTime.{SimTime}
 use Rattle.layout.specs.Tables.{Held}
 use Rattle.raft_log.specs.Log.{Log, entry_at}
 use Rattle.raft_log.specs.Places.{places as logPlaces}
-use Rattle.storage.specs.declared.waiting.Shape.{Shape}
-use Rattle.storage.specs.declared.waiting.Shape.TheVariants.{HardState, Put, Truncate}
 use Rattle.storage.specs.Storage.{Write, write_hard_state, write_put, write_truncate, written}
 use Rattle.storage.specs.Waiting.{waiting as waitingTable, nothing}
 use Rattle.checks.specs.Checks.{Checker, Seen, on_writes}
@@ -18,16 +16,11 @@ use Rattle.checks_on_write.specs.declared.PutAsked.{PutAsked}
 use Rattle.checks_on_write.specs.declared.WritesAsked.{WritesAsked}
 use Rattle.checks_on_write.specs.OnWrite.{write_asked}
 
--- A put's index, or 0, where no entry is: of a write, and of what the code sees of it.
+-- A put's index, or 0, where no entry is; `shape_index` of storage says it of what the code sees of a write.
 unfoldable pub write_index : Write → LogIndex
 write_index (write_hard_state h) = record { 0 = 0 }
 write_index (write_put index e) = index
 write_index (write_truncate from) = record { 0 = 0 }
-
-abbrev pub shape_index : Shape → LogIndex
-shape_index (HardState h) = record { 0 = 0 }
-shape_index (Put index term kind k) = index
-shape_index (Truncate from) = record { 0 = 0 }
 
 -- The index of write k.
 unfoldable pub index_of : ℕ → List Write → LogIndex

@@ -1,17 +1,16 @@
 -- What the proofs of all waiting writes cite. Assumes nothing.
-use Rattle.std.specs.Prelude.{◌≡◌, Bool, ◌&&◌, ◌||◌, ℕ, zero, suc, ◌+◌, ◌-◌, ◌≤◌, ◌<◌, eqb, ltb, get_or, set, drop, replicate}
+use Rattle.std.specs.Prelude.{◌≡◌, Bool, ◌&&◌, ◌||◌, ℕ, zero, suc, ◌+◌, ◌-◌, ◌≤◌, ◌<◌, eqb, ltb, get_or, set, drop, replicate, Option, None, Some}
 use Rattle.std.proofs.Math.Path.{refl, sym, ap, ap₂, subst}
 use Rattle.std.proofs.Common.{◌∙◌, inl, inr, add-one, arith, length-set, drop_of_length-le, drop-cons, get_or-set_same, get_or-set_other, lt-ltb, ltb-true, ltb-false, eqb-true}
 use Rattle.std.proofs.Math.Bool.{true, false, not}
 use mathlib.Core.List.{List, [], ◌∷◌}
-use Rattle.std.proofs.Math.Option.{Option, none, some}
 use Rattle.std.proofs.Math.ListN.{length, get_or-eq_default}
 use Rattle.std.proofs.lemmas.List.{length-replicate, set-get_or}
 use Rattle.std.proofs.lemmas.Bool.{eqb-false}
 use Rattle.laws.specs.Bools.{pick, ◌and◌}
 use Rattle.laws.specs.Decides.{false_true}
 use Rattle.laws.specs.Order.{pairs, lookup, insert_by}
-use Rattle.units.specs.Types.{Payload, noop, command, Entry, same_payload}
+use Rattle.units.specs.Types.{noop, Entry, same_payload}
 use Rattle.units.specs.PayloadLaws.{payload_itself}
 use Rattle.units.specs.declared.NodeId.{NodeId}
 use Rattle.units.specs.declared.LogIndex.{LogIndex}
@@ -21,41 +20,30 @@ use Rattle.layout.specs.TableLaws.{held_rows}
 use Rattle.layout.specs.Sorted.{Other, lookup_inserted, lookup_insert, or_else}
 use Rattle.raft_log.specs.Log.{Log, entry_at}
 use Rattle.raft_log.specs.Places.{places as logPlaces}
-use Rattle.storage.specs.declared.HardState.{HardState}
 use Rattle.storage.specs.declared.waiting.Shape.{Shape}
-use Rattle.storage.specs.declared.waiting.Shape.TheVariants as Shape
 use Rattle.storage.specs.Storage.{Write, write_hard_state, write_put, write_truncate, put_index, written}
-use Rattle.storage.specs.Waiting.{waiting as waitingTable, entry_shape, shape_of, shape_at, nothing, Shows}
+use Rattle.storage.specs.Waiting.{waiting as waitingTable, shape_of, shape_index, shape_at, nothing, Shows}
 use Rattle.checks.specs.declared.Check.TheVariants.{UniqueEntries}
-use Rattle.checks.specs.declared.entries.EntrySeen.{EntrySeen}
-use Rattle.checks.specs.declared.entries.EntrySeen.TheVariants.{Same, Other as OtherSeen}
+use Rattle.checks.specs.declared.Compared.{Compared}
+use Rattle.checks.specs.declared.Compared.TheVariants.{Same, Other as OtherSeen}
+use Rattle.checks.specs.Compared.{is_other, is_new}
 use Rattle.checks.specs.Checks.{Checker, Seen, new_checker, seen_key, report_if, written_entry, on_write, on_writes}
 use Rattle.checks.specs.Reports.{total_if, entries_if}
 use Rattle.checks.specs.Outcomes.{one_if}
 use Rattle.checks.specs.Asked.{counts_code, insert_seen_if, seen_of}
-use Rattle.checks.specs.Entries.{seen as seenTable, is_other, is_new, entry_seen}
+use Rattle.checks.specs.Entries.{seen as seenTable, entry_seen}
 use Rattle.checks.specs.EntryLaws.{entry_after_lem, entry_absent, entry_rows}
 use Rattle.checks_on_write.specs.declared.WriteAsked.{WriteAsked}
 use Rattle.checks_on_write.specs.declared.PutAsked.{PutAsked}
 use Rattle.checks_on_write.specs.OnWrite.{write_asked, AsksWrite}
-use Rattle.checks_on_write.specs.OnWrites.{write_index, shape_index, index_of, Placed, AsksPut, WritesGiven, WritesAnswered, AsksWrites}
+use Rattle.checks_on_write.specs.OnWrites.{write_index, index_of, Placed, AsksPut, WritesGiven, WritesAnswered, AsksWrites}
 
 -- ---- put_index
-
-pub index_state : (shape : Shape) (h : HardState) → shape ≡ Shape.HardState h → record { 0 = 0 } ≡ shape_index shape
-index_state shape h e = rw e
-
-pub index_truncate : (shape : Shape) (from : LogIndex) → shape ≡ Shape.Truncate from → record { 0 = 0 } ≡ shape_index shape
-index_truncate shape from e = rw e
 
 pub shape_index_lem : (w : Write) → shape_index (shape_of w) ≡ write_index w
 unfolding write_index
 shape_index_lem (write_hard_state h) = refl
-shape_index_lem (write_put index e) = by e.payload
-  where
-    by : (x : Payload) → shape_index (entry_shape index e.term x) ≡ index
-    by noop = refl
-    by (command bs) = refl
+shape_index_lem (write_put index e) = refl
 shape_index_lem (write_truncate from) = refl
 
 -- ---- ask_put
@@ -83,17 +71,16 @@ put_asked {p} {count} {k} {l} {n} {shape} {index} {asked} {place} {w} {b} {s} q 
 -- ---- one write after another
 
 -- an index with an entry is a place of the log
-entry_within : (log : Log) (i : ℕ) (e : Entry) → entry_at log i ≡ some e → (1 ≤ i) × (i ≤ length log)
+entry_within : (log : Log) (i : ℕ) (e : Entry) → entry_at log i ≡ Some e → (1 ≤ i) × (i ≤ length log)
 unfolding entry_at
-entry_within log zero e h = let z : ◌≡◌ {A = ℕ} 0 1 = cc in absurd (omega arith)
+entry_within log zero e h = absurd cc
 entry_within log (suc i) e h = (omega arith, by (ltb i (length log)) refl)
   where
     by : (t : Bool) → ltb i (length log) ≡ t → suc i ≤ length log
     by true u = omega (arith, ltb-true i (length log) u)
     by false u =
-        let o : none ≡ some e = sym (get_or-eq_default log none {n = i} (ltb-false i (length log) u)) ∙ h in
-        let z : ◌≡◌ {A = ℕ} 0 1 = cc in
-        absurd (omega arith)
+        let o : None ≡ Some e = sym (get_or-eq_default log None {n = i} (ltb-false i (length log) u)) ∙ h in
+        absurd cc
 
 -- a write that is no put changes nothing, as one at index 0 would
 pub one_write : (c : Checker) (time : SimTime) (server : NodeId) (log : Log) (w : Write) (indexes : List LogIndex)
@@ -114,8 +101,8 @@ other_key i j t u d = by (ltb i j) refl
 -- An index with the entry e: where it is marked, its entry was not seen before and is seen now; else it is as it was.
 pub record Marked (marks : List Bool) (c d : Checker) (i : ℕ) (e : Entry) : Type 0 where
   pub known : lookup pairs seen_key (i, e.term.0) d.entries
-      ≡ pick (get_or marks (i - 1) false) (some (seen_of (record { 0 = i }) e)) (lookup pairs seen_key (i, e.term.0) c.entries)
-  pub first : get_or marks (i - 1) false ≡ true → lookup pairs seen_key (i, e.term.0) c.entries ≡ none
+      ≡ pick (get_or marks (i - 1) false) (Some (seen_of (record { 0 = i }) e)) (lookup pairs seen_key (i, e.term.0) c.entries)
+  pub first : get_or marks (i - 1) false ≡ true → lookup pairs seen_key (i, e.term.0) c.entries ≡ None
 
 -- After k writes, with so many entries added and reports made: the checks as they are then.
 pub record Standing (k added reports : ℕ) (marks : List Bool) (c : Checker) (time : SimTime) (server : NodeId) (log : Log)
@@ -124,14 +111,14 @@ pub record Standing (k added reports : ℕ) (marks : List Bool) (c : Checker) (t
   pub rest : on_writes now time server log (written (drop k ws)) ≡ on_writes c time server log (written ws)
   pub rows : length now.entries ≡ length c.entries + added
   pub total : now.total ≡ c.total + reports
-  pub marked : (i : ℕ) (e : Entry) → entry_at log i ≡ some e → Marked marks c now i e
+  pub marked : (i : ℕ) (e : Entry) → entry_at log i ≡ Some e → Marked marks c now i e
 
 -- the first seen, where an index may be marked
 module _ (index : LogIndex) (e : Entry) where
   seen_new : (m : Bool) (o : Option Seen)
-      → is_new (entry_seen (pick m (some (seen_of index e)) o) e.payload) ≡ (is_new (entry_seen o e.payload) && not m)
+      → is_new (entry_seen (pick m (Some (seen_of index e)) o) e.payload) ≡ (is_new (entry_seen o e.payload) && not m)
   unfolding entry_seen
-  seen_new true o = ap (λ (t : Bool). is_new (pick t Same OtherSeen)) (payload_itself e.payload)
+  seen_new true o = ap (λ (t : Bool). is_new (pick t Same (OtherSeen (tt {0})))) (payload_itself e.payload)
       ∙ sym (and_false (is_new (entry_seen o e.payload)))
     where
       and_false : (t : Bool) → (t && false) ≡ false
@@ -143,11 +130,11 @@ module _ (index : LogIndex) (e : Entry) where
       and_true true = refl
       and_true false = refl
 
-  seen_other : (m : Bool) (o : Option Seen) → (m ≡ true → o ≡ none)
-      → is_other (entry_seen (pick m (some (seen_of index e)) o) e.payload) ≡ is_other (entry_seen o e.payload)
+  seen_other : (m : Bool) (o : Option Seen) → (m ≡ true → o ≡ None)
+      → is_other (entry_seen (pick m (Some (seen_of index e)) o) e.payload) ≡ is_other (entry_seen o e.payload)
   unfolding entry_seen
   seen_other true o f =
-      ap (λ (t : Bool). is_other (pick t Same OtherSeen)) (payload_itself e.payload)
+      ap (λ (t : Bool). is_other (pick t Same (OtherSeen (tt {0})))) (payload_itself e.payload)
       ∙ sym (ap (λ (u : Option Seen). is_other (entry_seen u e.payload)) (f refl))
   seen_other false o f = refl
 
@@ -170,22 +157,22 @@ kept : {marks marks' : List Bool} {c d d' : Checker} {i : ℕ} {e : Entry} → m
     → Marked marks' c d' i e
 kept {marks} {marks'} {c} {d} {d'} {i} {e} em ed q = record {
   known = ap (lookup pairs seen_key (i, e.term.0)) ed ∙ q.known
-      ∙ ap (λ (x : List Bool). pick (get_or x (i - 1) false) (some (seen_of (record { 0 = i }) e))
+      ∙ ap (λ (x : List Bool). pick (get_or x (i - 1) false) (Some (seen_of (record { 0 = i }) e))
       (lookup pairs seen_key (i, e.term.0) c.entries)) (sym em);
   first = λ t. q.first (ap (λ (x : List Bool). get_or x (i - 1) false) (sym em) ∙ t);
 }
 
 -- an entry is added, and its index marked
 module _ (marks : List Bool) (c d d' : Checker) (log : Log) (index : LogIndex) (e : Entry) (h : entry_at log index.0
-    ≡ some e) (place : ℕ) (r : place ≡ index.0 - 1) (l : place < length marks)
-    (u : lookup pairs seen_key (index.0, e.term.0) c.entries ≡ none) (v : lookup pairs seen_key (index.0, e.term.0) d.entries
-    ≡ none)
+    ≡ Some e) (place : ℕ) (r : place ≡ index.0 - 1) (l : place < length marks)
+    (u : lookup pairs seen_key (index.0, e.term.0) c.entries ≡ None) (v : lookup pairs seen_key (index.0, e.term.0) d.entries
+    ≡ None)
     (n : d'.entries ≡ insert_by pairs seen_key (seen_of index e) d.entries) where
   mark_here : (i : ℕ) (f : Entry) → i ≡ index.0 → f ≡ e → Marked (set marks place true) c d' i f
   mark_here i f ei ef = rw (ei, ef) (record {
     known = ap (lookup pairs seen_key (index.0, e.term.0)) n ∙ lookup_inserted pairs seen_key (seen_of index e) d.entries
-        ∙ ap (λ (o : Option Seen). some (or_else pairs seen_key o (seen_of index e))) v
-        ∙ ap (λ (t : Bool). pick t (some (seen_of index e)) (lookup pairs seen_key (index.0, e.term.0) c.entries)) (sym there);
+        ∙ ap (λ (o : Option Seen). Some (or_else pairs seen_key o (seen_of index e))) v
+        ∙ ap (λ (t : Bool). pick t (Some (seen_of index e)) (lookup pairs seen_key (index.0, e.term.0) c.entries)) (sym there);
     first = λ _. u;
   })
     where
@@ -201,17 +188,17 @@ module _ (marks : List Bool) (c d d' : Checker) (log : Log) (index : LogIndex) (
         known = ap (lookup pairs seen_key (i, f.term.0)) n
             ∙ lookup_insert pairs seen_key (i, f.term.0) (seen_of index e) d.entries (other_key i index.0 f.term.0 e.term.0 b)
             ∙ q.known
-            ∙ ap (λ (t : Bool). pick t (some (seen_of (record { 0 = i }) f)) (lookup pairs seen_key (i, f.term.0) c.entries)) (sym same);
+            ∙ ap (λ (t : Bool). pick t (Some (seen_of (record { 0 = i }) f)) (lookup pairs seen_key (i, f.term.0) c.entries)) (sym same);
         first = λ t. q.first (sym same ∙ t);
       }
 
-  marked_all : (i : ℕ) (f : Entry) → entry_at log i ≡ some f → Marked marks c d i f → Marked (set marks place true) c d' i f
+  marked_all : (i : ℕ) (f : Entry) → entry_at log i ≡ Some f → Marked marks c d i f → Marked (set marks place true) c d' i f
   marked_all i f g q = by (eqb i index.0) refl
     where
       by : (t : Bool) → eqb i index.0 ≡ t → Marked (set marks place true) c d' i f
       by true t =
           let ei : i ≡ index.0 = eqb-true i index.0 t in
-          let es : some f ≡ some e = sym g ∙ ap (entry_at log) ei ∙ h in
+          let es : Some f ≡ Some e = sym g ∙ ap (entry_at log) ei ∙ h in
           let ef : f ≡ e = cc in
           mark_here i f ei ef
       by false t = mark_other i f (entry_within log i f g).0 (eqb-false i index.0 t) q
@@ -235,7 +222,7 @@ module _ {k added reports l : ℕ} {marks : List Bool} {c : Checker} {time : Sim
       ∙ ap (λ (x : List Write). on_writes s.now time server log (written x)) (sym (drop-cons ws k nothing lk)) ∙ s.rest
 
   -- no entry there
-  step_none : (other fresh : Bool) → entry_at log index.0 ≡ none → other ≡ false → fresh ≡ false
+  step_none : (other fresh : Bool) → entry_at log index.0 ≡ None → other ≡ false → fresh ≡ false
       → Standing (suc k) (added + pick (fresh && not mark) 1 0) (reports + pick other 1 0)
       (set marks place (mark || fresh)) c time server log ws
   unfolding on_write
@@ -253,11 +240,11 @@ module _ {k added reports l : ℕ} {marks : List Bool} {c : Checker} {time : Sim
       }
 
   -- an entry there
-  module _ (e : Entry) (h : entry_at log index.0 ≡ some e) where
+  module _ (e : Entry) (h : entry_at log index.0 ≡ Some e) where
     abbrev first : Option Seen
     first = lookup pairs seen_key (index.0, e.term.0) c.entries
 
-    abbrev answer : EntrySeen
+    abbrev answer : Compared (Unit {0})
     answer = entry_seen (lookup pairs seen_key (index.0, e.term.0) s.now.entries) e.payload
 
     abbrev reported : Checker
@@ -272,8 +259,8 @@ module _ {k added reports l : ℕ} {marks : List Bool} {c : Checker} {time : Sim
     mark_is : get_or marks (index.0 - 1) false ≡ mark
     mark_is = ap (λ (j : ℕ). get_or marks j false) (sym is_place)
 
-    known : lookup pairs seen_key (index.0, e.term.0) s.now.entries ≡ pick mark (some (seen_of index e)) first
-    known = here.known ∙ ap (λ (t : Bool). pick t (some (seen_of index e)) first) mark_is
+    known : lookup pairs seen_key (index.0, e.term.0) s.now.entries ≡ pick mark (Some (seen_of index e)) first
+    known = here.known ∙ ap (λ (t : Bool). pick t (Some (seen_of index e)) first) mark_is
 
     acts : after ≡ insert_seen_if (is_new answer) (seen_of index e) reported
     unfolding on_write
@@ -293,7 +280,7 @@ module _ {k added reports l : ℕ} {marks : List Bool} {c : Checker} {time : Sim
       is_other_lem = ap (λ (o : Option Seen). is_other (entry_seen o e.payload)) known
           ∙ seen_other index e mark first (λ t. here.first (mark_is ∙ t)) ∙ sym eo
 
-      step_marked : (t : Bool) → (fresh && not mark) ≡ t → (i : ℕ) (f : Entry) → entry_at log i ≡ some f
+      step_marked : (t : Bool) → (fresh && not mark) ≡ t → (i : ℕ) (f : Entry) → entry_at log i ≡ Some f
           → Marked (set marks place (mark || fresh)) c after i f
       step_marked false t i f g =
           kept (no_mark marks place fresh t)
@@ -355,9 +342,9 @@ module _ {k added reports l : ℕ} {marks : List Bool} {c : Checker} {time : Sim
       by : (o : Option Entry) → entry_at log index.0 ≡ o
           → Standing (suc k) (added + pick (fresh && not mark) 1 0) (reports + pick other 1 0)
           (set marks place (mark || fresh)) c time server log ws
-      by none h = step_none other fresh h (eo ∙ ap (λ (o : Option Entry). (write_asked o index c.entries).other) h) (ef
+      by None h = step_none other fresh h (eo ∙ ap (λ (o : Option Entry). (write_asked o index c.entries).other) h) (ef
           ∙ ap (λ (o : Option Entry). (write_asked o index c.entries).fresh) h)
-      by (some e) h =
+      by (Some e) h =
           step_some e h other fresh (eo ∙ ap (λ (o : Option Entry). (write_asked o index c.entries).other) h) (ef
           ∙ ap (λ (o : Option Entry). (write_asked o index c.entries).fresh) h)
 
@@ -390,7 +377,7 @@ asking_start g = record {
     rows = omega arith;
     total = omega arith;
     marked = λ i e q. record {
-      known = sym (ap (λ (t : Bool). pick t (some (seen_of (record { 0 = i }) e)) (lookup pairs seen_key (i, e.term.0) c.entries))
+      known = sym (ap (λ (t : Bool). pick t (Some (seen_of (record { 0 = i }) e)) (lookup pairs seen_key (i, e.term.0) c.entries))
           (unmarked 1024 (i - 1)));
       first = λ t. absurd (false_true (sym (unmarked 1024 (i - 1)) ∙ t));
     };
@@ -435,7 +422,7 @@ module _ {g : WritesGiven} {k added reports : ℕ} {marks : List Bool} (a : Aski
 -- ---- room for one entry and an empty table: puts at 1 and 2 are refused, puts at 1 and 1 are accepted
 
 abbrev noops : Log
-noops = some (record { term = record { 0 = 1 }; payload = noop }) ∷ some (record { term = record { 0 = 1 }; payload = noop }) ∷ []
+noops = Some (record { term = record { 0 = 1 }; payload = noop }) ∷ Some (record { term = record { 0 = 1 }; payload = noop }) ∷ []
 
 abbrev puts_at : ℕ → ℕ → Checker
 puts_at i j = on_writes new_checker (record { 0 = 7 }) (record { 0 = 1 }) noops (record { 0 = i } ∷ record { 0 = j } ∷ [])

@@ -5,13 +5,12 @@
 ghost use Rattle.std.specs.Prelude.{◌≡◌, ◌+◌, ◌*◌, ◌≤◌, ◌<◌, length};
 ghost use Rattle.layout.specs.Marked.{words_for};
 ghost use Rattle.checks_on_write.specs.OnWrite.{ReadsTerm, AsksWrite};
-ghost use Rattle.checks_on_write.specs.OnWrites.{shape_index, Placed, AsksPut, AsksWrites};
+ghost use Rattle.checks_on_write.specs.OnWrites.{Placed, AsksPut, AsksWrites};
 
 use checks::{entries, violations};
 use layout::rows;
 use storage::waiting;
-use storage::waiting::Shape;
-use units::{LogIndex, Term, TermOption};
+use units::{LogIndex, Term};
 
 // The term of the entry at an index, or 0; whether another payload was seen under both, and whether none was.
 #[derive(Clone, Copy)]
@@ -24,22 +23,21 @@ pub struct WriteAsked {
 // ---- one index
 
 // The term of the entry at an index, if there is one; the index is then a place of the log.
-fn term_at(log: &[u8], l: usize, p: usize, index: LogIndex) -> TermOption
+#[tactic(auto, using(crate::specs::Laws::term_reads))]
+fn term_at(log: &[u8], l: usize, p: usize, index: LogIndex) -> Option<Term>
     requires p_bound { p ≤ 256 }
     requires p_in_bounds { 8 * (l * (2 + words_for p)) ≤ length log.now }
     ensures { ReadsTerm p l index.0 result log.now }
 {
     let i = index.0 as usize;
-    if i < 1 {
-        return TermOption::None;
-    }
-    if l < i {
-        return TermOption::None;
+    if i < 1 || l < i {
+        return None;
     }
     raft_log::term_of(raft_log::entry(log, l, p, index))
 }
 
 // What the entry at a written index gives to report and to keep; an index without one gives neither.
+#[tactic(auto, using(crate::specs::Laws::term_low, crate::specs::Laws::term_high))]
 pub fn on_write(
     seen: &[u8],
     n: usize,
@@ -53,14 +51,13 @@ pub fn on_write(
     requires p_in_bounds_2 { 8 * (l * (2 + words_for p)) ≤ length log.now }
     ensures { AsksWrite p n l index result seen.now log.now }
 {
-    let t = term_at(log, l, p, index);
-    match t {
-        TermOption::None => WriteAsked {
+    match term_at(log, l, p, index) {
+        None => WriteAsked {
             term: Term(0),
             other: false,
             fresh: false,
         },
-        TermOption::Some(term) => {
+        Some(term) => {
             let w = 1 + (p + 7) / 8;
             let at = rows::start_of(index.0 as usize - 1, l, w + 1);
             let a = 8 * at;
@@ -93,31 +90,12 @@ struct PutAsked {
     fresh: bool,
 }
 
-// A put's index, or 0.
-fn put_index(shape: Shape) -> LogIndex
-    ensures { result ≡ shape_index shape }
-{
-    match shape {
-        Shape::HardState(_) => LogIndex(0),
-        Shape::Put {
-            index,
-            term: _,
-            kind: _,
-            length: _,
-        } => index,
-        Shape::Truncate(_) => LogIndex(0),
-    }
-}
-
 // The place of an index in a log of l places, or 0.
 fn place_of(index: LogIndex, l: usize) -> usize
     requires { l ≤ 1024 }
     ensures { Placed index.0 l result }
 {
-    if index.0 < 1 {
-        return 0;
-    }
-    if l < index.0 as usize {
+    if index.0 < 1 || l < index.0 as usize {
         return 0;
     }
     index.0 as usize - 1
@@ -143,7 +121,7 @@ fn ask_put(
     ensures { AsksPut p count k l n result waiting.now log.now seen.now }
 {
     let shape = waiting::write_at(waiting, count, p, k);
-    let index = put_index(shape);
+    let index = shape.put_index();
     let asked = on_write(seen, n, p, log, l, index);
     PutAsked {
         place: place_of(index, l),
@@ -153,6 +131,7 @@ fn ask_put(
 }
 
 // What all waiting writes give, in order: an entry that is new twice is added once.
+// (d) The regions and their counts come one by one: each is used once, and a struct of them would be made for this call alone.
 pub fn on_writes(
     waiting: &[u8],
     count: usize,
@@ -185,14 +164,12 @@ pub fn on_writes(
     let mut marks = [false; 1024];
     let mut added: u64 = 0;
     let mut reports: u64 = 0;
-    let mut k: usize = 0;
-    while k < count {
+    for k in 0..count {
         let asked = ask_put(waiting, count, k, log, l, p, seen, n);
         let place = asked.place;
         added += violations::one_if(asked.fresh & !marks[place]);
         reports += violations::one_if(asked.other);
-        marks[place] = marks[place] | asked.fresh;
-        k += 1;
+        marks[place] |= asked.fresh;
     }
     let code = checks::counts_code(n as u64 + added, room, total, reports);
     WritesAsked {

@@ -1,10 +1,8 @@
 -- The key of a client command (client.rs). Assumes nothing.
-use Rattle.std.specs.Prelude.{List, ◌++◌, ℕ, ◌-◌, ◌^◌, ltb, length, replicate}
+use Rattle.std.specs.Prelude.{List, ◌++◌, ℕ, ◌-◌, ◌^◌, ltb, length, replicate, Option, None, Some}
 use Rattle.laws.specs.Bools.{pick}
 use Rattle.words.specs.Words.{bytes_of, le_at}
 use Rattle.client.specs.declared.ClientKey.{ClientKey}
-use Rattle.client.specs.declared.Decoded.{Decoded}
-use Rattle.client.specs.declared.Decoded.TheVariants.{Key, None}
 
 -- The client number of commands proposed directly by an experiment procedure.
 abbrev pub direct : ℕ
@@ -19,5 +17,5 @@ unfoldable pub encode : ℕ → ℕ → ℕ → List ℕ
 encode client seq size = bytes_of 4 client ++ (bytes_of 8 seq ++ replicate (size - 12) 0)
 
 -- The client and sequence number that a command of at least 12 bytes begins with (decode).
-unfoldable pub decode : List ℕ → Decoded
-decode command = pick (ltb (length command) 12) None (Key (record { client = le_at 4 command 0; seq = le_at 8 command 4 }))
+unfoldable pub decode : List ℕ → Option ClientKey
+decode command = pick (ltb (length command) 12) None (Some (record { client = le_at 4 command 0; seq = le_at 8 command 4 }))

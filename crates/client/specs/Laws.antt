@@ -1,12 +1,11 @@
 -- What the proofs of client's functions cite, and that a command decodes to its key. Assumes nothing.
-use Rattle.std.specs.Prelude.{◌≡◌, refl, List, [], ◌++◌, ℕ, ◌+◌, ◌-◌, ◌^◌, ◌≤◌, ◌<◌, max, length, drop, replicate}
-use Rattle.std.proofs.Common.{sym, ap, ◌∙◌, append_assoc, arith, length-append, lt-ltb, le-ltb}
+use Rattle.std.specs.Prelude.{◌≡◌, refl, List, [], ◌++◌, ℕ, ◌+◌, ◌-◌, ◌^◌, ◌≤◌, ◌<◌, max, length, drop, replicate, Some}
+use Rattle.std.proofs.Common.{sym, ap, ◌∙◌, append_assoc, arith, length-append, le-ltb}
 use Rattle.std.proofs.lemmas.List.{length-replicate}
 use Rattle.std.proofs.lemmas.List.Edits.{sets, sets-eq}
 use Rattle.words.specs.Words.{bytes_of, le_at}
 use Rattle.words.specs.Sets.{sets_append}
 use Rattle.words.specs.Numbers.{length_bytes_of, le_at_at}
-use Rattle.client.specs.declared.Decoded.TheVariants.{Key, None}
 use Rattle.client.specs.Key.{encode, decode}
 
 -- a command is never under 12 bytes
@@ -36,18 +35,14 @@ encoded client seq size n b b₁ b₂ b₃ h k e p q s =
     rw (s, q, p, sets_append (bytes_of 4 client) b (bytes_of 8 seq) 0 4 four, sets_append both b (replicate (n - 12) 0) 0 12 twelve, append_assoc, zeros)
     (front (encode client seq size) b n (encode_length client seq size ∙ sym e) (omega arith))
 
--- the two answers of `decode`
-pub short : (command : List ℕ) → length command < 12 → None ≡ decode command
-unfolding decode
-short command h = rw (lt-ltb _ _ h)
-
+-- the key of a command of at least 12 bytes
 pub key : (command : List ℕ) (client seq : ℕ) → 12 ≤ length command → client ≡ le_at 4 command 0 → seq ≡ le_at 8 command 4
-    → Key (record { client = client; seq = seq }) ≡ decode command
+    → Some (record { client = client; seq = seq }) ≡ decode command
 unfolding decode
 key command client seq h p q = rw (le-ltb _ _ h, p, q)
 
 -- a command decodes to its key
-pub decode_encode : (client seq size : ℕ) → client < 2 ^ 32 → seq < 2 ^ 64 → decode (encode client seq size) ≡ Key (record { client = client; seq = seq })
+pub decode_encode : (client seq size : ℕ) → client < 2 ^ 32 → seq < 2 ^ 64 → decode (encode client seq size) ≡ Some (record { client = client; seq = seq })
 unfolding encode
 decode_encode client seq size h k =
     sym (key (encode client seq size) client seq (omega (arith, encode_length client seq size))

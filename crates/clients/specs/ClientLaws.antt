@@ -1,50 +1,25 @@
 -- What the proofs of lib.rt cite. Assumes nothing.
-use Rattle.std.specs.Prelude.{◌≡◌, refl, Bool, true, false, not, ◌&&◌, List, [], ◌∷◌, ℕ, ◌+◌, ◌-◌, ◌*◌, ◌≤◌, ◌<◌, eqb, ltb, length, get_or, take, drop}
-use Rattle.std.proofs.Common.{sym, ap, ap₂, ◌∙◌, add-zero, arith, get_or-drop, Fits, lt-ltb, le-ltb, eqb-true, eq-eqb, ne_eqb}
-use Rattle.std.proofs.Math.Option.{none}
+use Rattle.std.specs.Prelude.{◌≡◌, refl, Bool, true, false, not, ◌&&◌, List, [], ◌∷◌, ℕ, ◌+◌, ◌-◌, ◌*◌, ◌≤◌, ◌<◌, eqb, ltb, length, get_or, take, drop, Option, None}
+use Rattle.std.proofs.Common.{sym, ap, ap₂, ◌∙◌, add-zero, arith, get_or-drop, Fits, lt-ltb, le-ltb, eq-eqb, ne_eqb}
+use Rattle.std.proofs.lemmas.Bool.{not-true, not-false}
+use Rattle.std.proofs.lemmas.Bool.Decides.{nat_tests}
 use Rattle.std.proofs.lemmas.List.Edits.{sets}
 use Rattle.std.specs.Int.{w64}
 use Rattle.laws.specs.Bools.{cases, ◌and◌, no_and, and_true, and_assoc, every}
 use Rattle.laws.proofs.BoolLaws.{and_both, and_no, true_and}
-use Rattle.laws.specs.Lists.{at, same_list}
+use Rattle.laws.specs.Lists.{same_list}
 use Rattle.laws.specs.ListLaws.{at_there}
-use Rattle.laws.specs.Decides.{false_true}
 use Rattle.words.specs.Words.{bytes, W, allz}
-use Rattle.layout.specs.Code.{ok_n}
 use Rattle.layout.specs.UpTo.{is64, is64_fits}
-use Rattle.layout.specs.TableLaws.{held_rows, row_word, put_held, Rowed, rowed_start, rowed_turn, rowed_fail, rowed_done}
-use Rattle.units.specs.declared.SimTime.{SimTime}
-use Rattle.clients.specs.declared.Client.{Client as ClientRow}
-use Rattle.clients.specs.declared.OutstandingOption.{OutstandingOption}
-use Rattle.clients.specs.declared.OutstandingOption.TheVariants.{None as NotWaiting, Some as Waiting}
+use Rattle.layout.specs.TableLaws.{held_rows, row_word, put_held}
 use Rattle.clients.specs.declared.Numbers.{Numbers}
-use Rattle.clients.specs.Clients.{Client, flag_of, number_of, outstanding_in, outstanding_back}
-use Rattle.clients.specs.Clients.{client_code, clients, outstanding_of, client_of, numbers_of, tell_outstanding, ReadsClient}
+use Rattle.clients.specs.Clients.{Outstanding, Client, flag_of, number_of, outstanding_in, outstanding_back}
+use Rattle.clients.specs.Clients.{client_code, numbers_of, tell_outstanding, ReadsClient}
 use Rattle.clients.specs.Clients.{WritesClient}
 
 -- ---- the outstanding command
 
-module _ (o : OutstandingOption) where
-  pub numbers_none : o ≡ NotWaiting → record { flag = 0; seq = 0; sent = 0 } ≡ numbers_of (outstanding_of o)
-  unfolding numbers_of outstanding_of
-  numbers_none e = rw e
-
-  pub numbers_some : (seq : ℕ) (sent : SimTime) → o ≡ Waiting seq sent
-      → record { flag = 1; seq = seq; sent = sent.0 } ≡ numbers_of (outstanding_of o)
-  unfolding numbers_of outstanding_of
-  numbers_some seq sent e = rw e
-
-pub ruleset numbered = (numbers_none, numbers_some)
-
 module _ (flag seq sent : ℕ) where
-  pub waits_not : flag ≡ 0 → outstanding_of NotWaiting ≡ outstanding_in flag seq sent
-  unfolding outstanding_of outstanding_in
-  waits_not e = rw (eq-eqb flag 0 e)
-
-  pub waits : (flag ≡ 0 → ⊥) → outstanding_of (Waiting seq (record { 0 = sent })) ≡ outstanding_in flag seq sent
-  unfolding outstanding_of outstanding_in
-  waits e = rw (ne_eqb flag 0 e)
-
   pub tell_none : flag ≡ 0 → (eqb seq 0 && eqb sent 0) ≡ tell_outstanding flag seq sent
   unfolding tell_outstanding ◌and◌
   tell_none e = rw (eq-eqb flag 0 e)
@@ -53,22 +28,19 @@ module _ (flag seq sent : ℕ) where
   unfolding tell_outstanding
   tell_one e = rw (ne_eqb flag 0 e)
 
-pub ruleset told_by_three = (waits_not, waits)
-
 pub ruleset tell_three = (tell_none, tell_one)
 
 -- ---- read
 
 -- any client, for `get_or`
 abbrev pub no_client : Client
-no_client = record { target = 0; next_seq = 0; attempt = 0; outstanding = none }
+no_client = record { target = 0; next_seq = 0; attempt = 0; outstanding = None }
 
-pub read_is : (n k : ℕ) (b : List ℕ) (f q u t m a : ℕ) (o : OutstandingOption) → k < n → f ≡ get_or (W b) (k * 8 + 3) 0
+pub read_is : (n k : ℕ) (b : List ℕ) (f q u t m a : ℕ) (o : Option Outstanding) → k < n → f ≡ get_or (W b) (k * 8 + 3) 0
     → q ≡ get_or (W b) (k * 8 + 4) 0
-    → u ≡ get_or (W b) (k * 8 + 5) 0 → outstanding_of o ≡ outstanding_in f q u → t ≡ get_or (W b) (k * 8) 0 → m ≡ get_or (W b) (k * 8 + 1) 0
+    → u ≡ get_or (W b) (k * 8 + 5) 0 → o ≡ outstanding_in f q u → t ≡ get_or (W b) (k * 8) 0 → m ≡ get_or (W b) (k * 8 + 1) 0
     → a ≡ get_or (W b) (k * 8 + 2) 0
     → ReadsClient n k (record { target = t; next_seq = m; attempt = a; outstanding = o }) b
-unfolding client_of
 read_is n k b f q u t m a o h ef eq eu eo et em ea = record {
   to = λ S N x held.
       let c : Client = get_or x k no_client in
@@ -78,7 +50,7 @@ read_is n k b f q u t m a o h ef eq eu eo et em ea = record {
       let e₃ : f ≡ flag_of c.outstanding = ef ∙ row_word held k 3 no_client h (omega arith) in
       let e₄ : q ≡ number_of (λ x. x.seq) c.outstanding = eq ∙ row_word held k 4 no_client h (omega arith) in
       let e₅ : u ≡ number_of (λ x. x.first_sent.0) c.outstanding = eu ∙ row_word held k 5 no_client h (omega arith) in
-      let e₆ : outstanding_of o ≡ c.outstanding =
+      let e₆ : o ≡ c.outstanding =
       eo ∙ ap (λ (j : ℕ). outstanding_in j q u) e₃ ∙ ap₂ (λ (i j : ℕ). outstanding_in (flag_of c.outstanding) i j) e₄ e₅
       ∙ outstanding_back c.outstanding in
       rw (e₀, e₁, e₂, e₆) (at_there x k no_client (omega (arith, (held_rows held).count)));
@@ -86,13 +58,13 @@ read_is n k b f q u t m a o h ef eq eu eo et em ea = record {
 
 -- ---- write
 
-pub write_is : (n k : ℕ) (client : ClientRow) (o : Numbers) (b b' : List ℕ) → k < n → 8 * (n * 8) ≤ length b
+pub write_is : (n k : ℕ) (client : Client) (o : Numbers) (b b' : List ℕ) → k < n → 8 * (n * 8) ≤ length b
     → Fits w64 client.target → Fits w64 client.next_seq → Fits w64 client.attempt → Fits w64 o.flag → Fits w64 o.seq
     → Fits w64 o.sent
-    → o ≡ numbers_of (outstanding_of client.outstanding)
+    → o ≡ numbers_of client.outstanding
     → b' ≡ sets b (8 * (k * 8)) (bytes (client.target ∷ client.next_seq ∷ client.attempt ∷ o.flag ∷ o.seq ∷ o.sent ∷ 0 ∷ 0 ∷ []))
     → WritesClient n k client b b'
-unfolding client_of numbers_of
+unfolding numbers_of
 write_is n k client o b b' h room f₁ f₂ f₃ f₄ f₅ f₆ eo e = record {
   to = λ S N x l held.
       let row : Numbers → List ℕ = λ p. client.target ∷ client.next_seq ∷ client.attempt ∷ p.flag ∷ p.seq ∷ p.sent ∷ 0 ∷ 0 ∷ [] in
@@ -101,27 +73,15 @@ write_is n k client o b b' h room f₁ f₂ f₃ f₄ f₅ f₆ eo e = record {
       (and_both _ _ (is64_fits _ f₃)
       (and_both _ _ (is64_fits _ f₄)
       (and_both _ _ (is64_fits _ f₅) (and_both _ _ (is64_fits _ f₆) (and_both _ _ refl (and_both _ _ refl refl))))))) in
-      put_held held k (client_of client) b' h
+      put_held held k client b' h
       (and_both _ _ (ap (λ (p : Numbers). every is64 (row p)) (sym eo) ∙ fit) (lt-ltb client.target S l)) refl
       (e ∙ ap (λ (p : Numbers). sets b (8 * (k * 8)) (bytes (row p))) eo);
 }
 
 -- ---- the test of a row
 
-pub not_true : (r : Bool) → not r ≡ true → r ≡ false
-not_true true h = sym h
-not_true false h = refl
-
-pub not_false : (r : Bool) → not r ≡ false → r ≡ true
-not_false true h = refl
-not_false false h = sym h
-
 pub swap : (a b : ℕ) → eqb a b ≡ eqb b a
-swap a b = by (eqb a b) refl
-  where
-    by : (t : Bool) → eqb a b ≡ t → eqb a b ≡ eqb b a
-    by true e = e ∙ sym (eq-eqb b a (sym (eqb-true a b e)))
-    by false e = e ∙ sym (ne_eqb b a (λ h. false_true (sym e ∙ eq-eqb a b (sym h))))
+swap a b = grind (arith, nat_tests)
 
 same_rest : (a b c : ℕ) (l m : List ℕ) → same_list (a ∷ b ∷ c ∷ l) (a ∷ b ∷ c ∷ m) ≡ same_list l m
 unfolding same_list ◌and◌
@@ -174,7 +134,7 @@ module _ (b : List ℕ) (k S t : ℕ) (et : t ≡ get_or (W b) (k * 8) 0) where
         ∙ ap₂ (λ (i j : ℕ). tell_outstanding f i j) (word_at 4 ∙ sym eq) (word_at 5 ∙ sym eu) ∙ sym er
 
     pub outstanding_wrong : not r ≡ true → false ≡ (client_code S).ok (drop (k * 8) (W b))
-    outstanding_wrong n = sym (client_ok S (drop (k * 8) (W b)) ∙ no_and _ _ (no_and _ _ (told_at ∙ not_true r n)))
+    outstanding_wrong n = sym (client_ok S (drop (k * 8) (W b)) ∙ no_and _ _ (no_and _ _ (told_at ∙ not-true r n)))
 
     pub row_tested : (z : Bool) → not r ≡ false → z ≡ allz (take (k * 8 + 8 - (k * 8 + 6)) (drop (k * 8 + 6) (W b)))
         → z ≡ (client_code S).ok (drop (k * 8) (W b))
@@ -188,19 +148,7 @@ module _ (b : List ℕ) (k S t : ℕ) (et : t ≡ get_or (W b) (k * 8) 0) where
         ez ∙ ap (λ (m : ℕ). allz (take m l)) two ∙ two_zeros l ∙ ap₂ (λ (i j : ℕ). eqb i 0 and eqb j 0) (at 0) (at 1) in
         sym (client_ok S (drop (k * 8) (W b))
         ∙ ap₂ (λ (v w : Bool). (v and (eqb (get_or (drop (k * 8) (W b)) 6 0) 0 and eqb (get_or (drop (k * 8) (W b)) 7 0) 0)) and w)
-        (told_at ∙ not_false r n) (ap (λ (j : ℕ). ltb j S) target_at ∙ lt-ltb t S h)
+        (told_at ∙ not-false r n) (ap (λ (j : ℕ). ltb j S) target_at ∙ lt-ltb t S h)
         ∙ and_true _ ∙ true_and _ ∙ sym zs)
 
 pub ruleset row_tests = (target_past, outstanding_wrong, row_tested)
-
--- ---- the rows: what each row's test answers
-
-module _ (S n : ℕ) (ws : List ℕ) (k : ℕ) (r : Bool) (w : Rowed (clients S).row n ws k) (h : k < n)
-    (e : r ≡ (client_code S).ok (drop (k * 8) ws)) where
-  pub client_fails : not r ≡ true → false ≡ ok_n (clients S).row n ws
-  client_fails t = rowed_fail (clients S).row n ws k w h (sym e ∙ not_true r t)
-
-  pub client_fine : not r ≡ false → Rowed (clients S).row n ws (k + 1)
-  client_fine t = rowed_turn (clients S).row n ws k w h (sym e ∙ not_false r t)
-
-pub ruleset client_rows = (rowed_start, client_fails, client_fine, rowed_done)

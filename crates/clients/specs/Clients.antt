@@ -1,53 +1,36 @@
 -- The clients of a simulation (simulation.rs), and how they lie in a table: rows of 8 words. Assumes nothing.
-use Rattle.std.specs.Prelude.{◌≡◌, refl, Bool, true, List, [], ◌∷◌, ◌++◌, ℕ, ◌<◌, ltb, eqb, get_or, set}
+use Rattle.std.specs.Prelude.{◌≡◌, refl, Bool, true, List, [], ◌∷◌, ◌++◌, ℕ, ◌<◌, ltb, eqb, get_or, set, Option, None, Some}
 use Rattle.std.proofs.Common.{ap}
-use Rattle.std.proofs.Math.Option.{Option, none, some}
 use Rattle.laws.specs.Bools.{pick, ◌and◌}
 use Rattle.laws.specs.Lists.{at}
-use Rattle.units.specs.declared.SimTime.{SimTime}
 use Rattle.layout.specs.Code.{Code}
 use Rattle.layout.specs.Tables.{Table, Held}
 use Rattle.layout.specs.Structs.{Struct, struct, fitting, tells, told}
-use Rattle.clients.specs.declared.Client.{Client as ClientRow}
-use Rattle.clients.specs.declared.OutstandingOption.{OutstandingOption}
-use Rattle.clients.specs.declared.OutstandingOption.TheVariants.{None as NotWaiting, Some as Waiting}
 use Rattle.clients.specs.declared.Numbers.{Numbers}
-
--- A command that a client waits for (Outstanding).
-pub record Outstanding : Type 0 where
-  pub seq : ℕ
-  pub first_sent : SimTime
-
--- A client that sends one command after the other (Client).
-pub record Client : Type 0 where
-  -- the place of the server it sends to next
-  pub target : ℕ
-  pub next_seq : ℕ
-  -- rises with every send, so that old timeouts and redirects are ignored
-  pub attempt : ℕ
-  pub outstanding : Option Outstanding
+pub use Rattle.clients.specs.declared.Client.{Client}
+pub use Rattle.clients.specs.declared.Outstanding.{Outstanding}
 
 -- ---- a row: target, next sequence, attempt, 1 where a command is outstanding, its sequence, its first sending time, and two zeros
 
 -- 1 where there is something, else 0.
 abbrev pub flag_of : {A : Type 0} → Option A → ℕ
-flag_of none = 0
-flag_of (some x) = 1
+flag_of None = 0
+flag_of (Some x) = 1
 
 -- A number of what there is, or 0.
 abbrev pub number_of : {A : Type 0} → (A → ℕ) → Option A → ℕ
-number_of f none = 0
-number_of f (some x) = f x
+number_of f None = 0
+number_of f (Some x) = f x
 
 -- The outstanding command that three numbers tell.
 unfoldable pub outstanding_in : ℕ → ℕ → ℕ → Option Outstanding
-outstanding_in flag seq sent = pick (eqb flag 0) none (some (record { seq = seq; first_sent = record { 0 = sent } }))
+outstanding_in flag seq sent = pick (eqb flag 0) None (Some (record { seq = seq; first_sent = record { 0 = sent } }))
 
 pub outstanding_back : (o : Option Outstanding)
     → outstanding_in (flag_of o) (number_of (λ x. x.seq) o) (number_of (λ x. x.first_sent.0) o) ≡ o
 unfolding outstanding_in
-outstanding_back none = refl
-outstanding_back (some x) = refl
+outstanding_back None = refl
+outstanding_back (Some x) = refl
 
 -- The words of a client.
 abbrev pub client_words : Client → List ℕ
@@ -88,15 +71,6 @@ module _ (S : ℕ) where
 
 -- ---- what the code passes and answers
 
--- The outstanding command that the code has.
-unfoldable pub outstanding_of : OutstandingOption → Option Outstanding
-outstanding_of NotWaiting = none
-outstanding_of (Waiting seq sent) = some (record { seq = seq; first_sent = sent })
-
--- The client that the code has.
-unfoldable pub client_of : ClientRow → Client
-client_of c = record { target = c.target; next_seq = c.next_seq; attempt = c.attempt; outstanding = outstanding_of c.outstanding }
-
 -- The three words of an outstanding command.
 unfoldable pub numbers_of : Option Outstanding → Numbers
 numbers_of o = record { flag = flag_of o; seq = number_of (λ x. x.seq) o; sent = number_of (λ x. x.first_sent.0) o }
@@ -106,9 +80,9 @@ unfoldable pub tell_outstanding : ℕ → ℕ → ℕ → Bool
 tell_outstanding flag seq sent = pick (eqb flag 0) (eqb seq 0 and eqb sent 0) (eqb flag 1)
 
 -- Whatever n clients b holds, r is the one at place k.
-pub record ReadsClient (n k : ℕ) (r : ClientRow) (b : List ℕ) : Type 0 where
-  pub to : (S N : ℕ) (x : List Client) → Held (clients S) N n b x → at x k ≡ some (client_of r)
+pub record ReadsClient (n k : ℕ) (r : Client) (b : List ℕ) : Type 0 where
+  pub to : (S N : ℕ) (x : List Client) → Held (clients S) N n b x → at x k ≡ Some r
 
 -- Whatever n clients b holds, b' holds them with another at place k, whose target is in the cluster.
-pub record WritesClient (n k : ℕ) (c : ClientRow) (b b' : List ℕ) : Type 0 where
-  pub to : (S N : ℕ) (x : List Client) → c.target < S → Held (clients S) N n b x → Held (clients S) N n b' (set x k (client_of c))
+pub record WritesClient (n k : ℕ) (c : Client) (b b' : List ℕ) : Type 0 where
+  pub to : (S N : ℕ) (x : List Client) → c.target < S → Held (clients S) N n b x → Held (clients S) N n b' (set x k c)

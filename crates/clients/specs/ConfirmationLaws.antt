@@ -1,10 +1,9 @@
 -- What the proofs of confirmations.rt cite. Assumes nothing.
-use Rattle.std.specs.Prelude.{◌≡◌, Bool, false, not, eqb, length, get_or, drop}
+use Rattle.std.specs.Prelude.{◌≡◌, Bool, eqb, length, get_or, drop, Option, None, Some}
 use Rattle.std.proofs.Math.Path.{refl, ap}
-use Rattle.std.proofs.Common.{sym, ap₂, ◌∙◌, add-zero, arith, length-append, get_or-drop, Fits, le-leb, eq-eqb, ne_eqb}
+use Rattle.std.proofs.Common.{sym, ap₂, ◌∙◌, add-zero, arith, length-append, get_or-drop, Fits, le-leb, eq-eqb}
 use Rattle.std.proofs.Math.Bool.{true}
 use mathlib.Core.List.{List, [], ◌∷◌}
-use Rattle.std.proofs.Math.Option.{none}
 use Prim.Native.Nat.{ℕ, ◌+◌, ◌*◌, ◌≤◌, ◌<◌}
 use Rattle.std.proofs.Math.Seq.{sets}
 use Rattle.std.specs.Int.{w64}
@@ -15,65 +14,25 @@ use Rattle.laws.specs.Lists.{same_list}
 use Rattle.laws.specs.ListLaws.{at_there}
 use Rattle.words.specs.Words.{bytes, W}
 use Rattle.units.specs.declared.LogIndex.{LogIndex}
-use Rattle.layout.specs.Code.{ok_n}
 use Rattle.layout.specs.Tables.{Held, append}
 use Rattle.layout.specs.UpTo.{is64, is64_fits}
-use Rattle.layout.specs.TableLaws.{held_rows, row_word, append_held, Rowed, rowed_start, rowed_turn, rowed_fail, rowed_done}
-use Rattle.checks_durability.specs.declared.replies.Appending.TheVariants.{Appended, Full}
+use Rattle.layout.specs.TableLaws.{held_rows, row_word, append_held}
 use Rattle.checks_durability.specs.Replies.{appending_number, room_code}
-use Rattle.clients.specs.declared.confirmations.Confirmation.{Confirmation as ConfirmationRow}
-use Rattle.clients.specs.declared.confirmations.IndexOption.{IndexOption}
-use Rattle.clients.specs.declared.confirmations.IndexOption.TheVariants.{None as NoIndex, Some as SomeIndex}
 use Rattle.clients.specs.declared.confirmations.Numbers.{Numbers}
 use Rattle.clients.specs.Clients.{flag_of, number_of}
-use Rattle.clients.specs.ClientLaws.{not_true, not_false, swap}
-use Rattle.clients.specs.Confirmations.{Confirmation, index_in, index_back, confirmation_code, confirmations, index_of, confirmation_of}
+use Rattle.clients.specs.ClientLaws.{swap}
+use Rattle.clients.specs.Confirmations.{Confirmation, index_in, index_back, confirmation_code, confirmations}
 use Rattle.clients.specs.Confirmations.{numbers_of, tell_index, ReadsConfirmation, AppendsConfirmation}
-
--- ---- the read index
-
-module _ (o : IndexOption) where
-  pub numbers_none : o ≡ NoIndex → record { flag = 0; index = 0 } ≡ numbers_of (index_of o)
-  unfolding numbers_of index_of
-  numbers_none e = rw e
-
-  pub numbers_some : (index : LogIndex) → o ≡ SomeIndex index → record { flag = 1; index = index.0 } ≡ numbers_of (index_of o)
-  unfolding numbers_of index_of
-  numbers_some index e = rw e
-
-pub ruleset numbered = (numbers_none, numbers_some)
-
-module _ (flag index : ℕ) where
-  pub index_none : flag ≡ 0 → index_of NoIndex ≡ index_in flag index
-  unfolding index_of index_in
-  index_none e = rw (eq-eqb flag 0 e)
-
-  pub index_some : (flag ≡ 0 → ⊥) → index_of (SomeIndex (record { 0 = index })) ≡ index_in flag index
-  unfolding index_of index_in
-  index_some e = rw (ne_eqb flag 0 e)
-
-  pub tell_none : flag ≡ 0 → eqb index 0 ≡ tell_index flag index
-  unfolding tell_index
-  tell_none e = rw (eq-eqb flag 0 e)
-
-  pub tell_one : (flag ≡ 0 → ⊥) → eqb flag 1 ≡ tell_index flag index
-  unfolding tell_index
-  tell_one e = rw (ne_eqb flag 0 e)
-
-pub ruleset told_by_two = (index_none, index_some)
-
-pub ruleset tell_two = (tell_none, tell_one)
 
 -- ---- read
 
 -- any confirmation, for `get_or`
 abbrev pub no_confirmation : Confirmation
-no_confirmation = record { request = record { 0 = 0 }; read_index = none }
+no_confirmation = record { request = record { 0 = 0 }; read_index = None }
 
-pub read_is : (n k : ℕ) (b : List ℕ) (f i q : ℕ) (o : IndexOption) → k < n → f ≡ get_or (W b) (k * 3 + 1) 0 → i ≡ get_or (W b) (k * 3 + 2) 0
-    → index_of o ≡ index_in f i → q ≡ get_or (W b) (k * 3) 0
+pub read_is : (n k : ℕ) (b : List ℕ) (f i q : ℕ) (o : Option LogIndex) → k < n → f ≡ get_or (W b) (k * 3 + 1) 0 → i ≡ get_or (W b) (k * 3 + 2) 0
+    → o ≡ index_in f i → q ≡ get_or (W b) (k * 3) 0
     → ReadsConfirmation n k (record { request = record { 0 = q }; read_index = o }) b
-unfolding confirmation_of
 read_is n k b f i q o h ef ei eo eq = record {
   to = λ N x held.
       let c : Confirmation = get_or x k no_confirmation in
@@ -81,7 +40,7 @@ read_is n k b f i q o h ef ei eo eq = record {
       eq ∙ ap (λ (j : ℕ). get_or (W b) j 0) (sym (add-zero (k * 3))) ∙ row_word held k 0 no_confirmation h (omega arith) in
       let e₁ : f ≡ flag_of c.read_index = ef ∙ row_word held k 1 no_confirmation h (omega arith) in
       let e₂ : i ≡ number_of (λ x. x.0) c.read_index = ei ∙ row_word held k 2 no_confirmation h (omega arith) in
-      let e₃ : index_of o ≡ c.read_index = eo ∙ ap₂ (λ (u v : ℕ). index_in u v) e₁ e₂ ∙ index_back c.read_index in
+      let e₃ : o ≡ c.read_index = eo ∙ ap₂ (λ (u v : ℕ). index_in u v) e₁ e₂ ∙ index_back c.read_index in
       rw (e₀, e₃) (at_there x k no_confirmation (omega (arith, (held_rows held).count)));
 }
 
@@ -92,28 +51,28 @@ appended_length : (c : Confirmation) {N n : ℕ} {b : List ℕ} {x : List Confir
 unfolding append
 appended_length c {x = x} h = length-append x (c ∷ []) ∙ ap (λ (k : ℕ). k + 1) (held_rows h).count
 
-module _ (c : ConfirmationRow) (n room : ℕ) (b : List ℕ) where
-  pub append_full : room ≤ n → AppendsConfirmation c n room Full b b
+module _ (c : Confirmation) (n room : ℕ) (b : List ℕ) where
+  pub append_full : room ≤ n → AppendsConfirmation c n room None b b
   unfolding appending_number room_code
   append_full l = record {
-    number = λ N x h. rw (lt-leb (length (append (confirmation_of c) x)) room (omega (arith, appended_length (confirmation_of c) h)));
+    number = λ N x h. rw (lt-leb (length (append c x)) room (omega (arith, appended_length c h)));
     to = λ N x h. refl;
   }
 
   pub append_row : (o : Numbers) (b' : List ℕ) → 8 * (room * 3) ≤ length b → n < room → Fits w64 c.request.0 → Fits w64 o.flag
       → Fits w64 o.index
-      → o ≡ numbers_of (index_of c.read_index) → b' ≡ sets b (8 * (n * 3)) (bytes (c.request.0 ∷ o.flag ∷ o.index ∷ []))
-      → AppendsConfirmation c n room (Appended (n + 1)) b b'
-  unfolding appending_number room_code confirmation_of numbers_of
+      → o ≡ numbers_of c.read_index → b' ≡ sets b (8 * (n * 3)) (bytes (c.request.0 ∷ o.flag ∷ o.index ∷ []))
+      → AppendsConfirmation c n room (Some (n + 1)) b b'
+  unfolding appending_number room_code numbers_of
   append_row o b' m r f₁ f₂ f₃ eo e = record {
-    number = λ N x h. rw (le-leb (length (append (confirmation_of c) x)) room (omega (arith, appended_length (confirmation_of c) h)));
+    number = λ N x h. rw (le-leb (length (append c x)) room (omega (arith, appended_length c h)));
     to = λ N x h.
         let row : Numbers → List ℕ = λ p. c.request.0 ∷ p.flag ∷ p.index ∷ [] in
         let fit : every is64 (row o) ≡ true =
         and_both _ _ (is64_fits _ f₁) (and_both _ _ (is64_fits _ f₂) (and_both _ _ (is64_fits _ f₃) refl)) in
         record {
           count = refl;
-          held = append_held h (omega arith) (confirmation_of c) b'
+          held = append_held h (omega arith) c b'
               (and_both _ _ (ap (λ (p : Numbers). every is64 (row p)) (sym eo) ∙ fit) refl) refl
               (e ∙ ap (λ (p : Numbers). sets b (8 * (n * 3)) (bytes (row p))) eo);
         };
@@ -136,15 +95,3 @@ row_tested b k f i r ef ei e =
     let ws : List ℕ = drop (k * 3) (W b) in
     e ∙ ap₂ tell_index (ef ∙ sym (get_or-drop (k * 3) (W b) 1 0)) (ei ∙ sym (get_or-drop (k * 3) (W b) 2 0))
     ∙ sym (and_true _ ∙ same_words_lem (get_or ws 0 0) (get_or ws 1 0) (get_or ws 2 0))
-
--- ---- the rows: what each row's test answers
-
-module _ (n : ℕ) (ws : List ℕ) (k : ℕ) (r : Bool) (w : Rowed confirmations.row n ws k) (h : k < n)
-    (e : r ≡ confirmation_code.ok (drop (k * 3) ws)) where
-  pub confirmation_fails : not r ≡ true → false ≡ ok_n confirmations.row n ws
-  confirmation_fails t = rowed_fail confirmations.row n ws k w h (sym e ∙ not_true r t)
-
-  pub confirmation_fine : not r ≡ false → Rowed confirmations.row n ws (k + 1)
-  confirmation_fine t = rowed_turn confirmations.row n ws k w h (sym e ∙ not_false r t)
-
-pub ruleset confirmation_rows = (rowed_start, confirmation_fails, confirmation_fine, rowed_done)

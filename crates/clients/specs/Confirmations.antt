@@ -1,38 +1,27 @@
 -- Answers to requests to confirm leadership (simulation.rs), and how they lie in a table: rows of 3 words. Assumes nothing.
-use Rattle.std.specs.Prelude.{◌≡◌, refl, Bool, true, List, [], ◌∷◌, ◌++◌, ℕ, ◌+◌, eqb, length, get_or}
+use Rattle.std.specs.Prelude.{◌≡◌, refl, Bool, true, List, [], ◌∷◌, ◌++◌, ℕ, ◌+◌, eqb, length, get_or, Option, None, Some}
 use Rattle.std.proofs.Common.{ap}
-use Rattle.std.proofs.Math.Option.{Option, none, some}
 use Rattle.laws.specs.Bools.{pick}
 use Rattle.laws.specs.Lists.{at}
 use Rattle.units.specs.declared.LogIndex.{LogIndex}
-use Rattle.protocol.specs.declared.RequestId.{RequestId}
 use Rattle.layout.specs.Code.{Code}
 use Rattle.layout.specs.Tables.{Table, Held, append}
-use Rattle.checks_durability.specs.declared.replies.Appending.{Appending}
-use Rattle.checks_durability.specs.declared.replies.Appending.TheVariants.{Appended, Full}
 use Rattle.checks_durability.specs.Replies.{appending_number, room_code}
 use Rattle.layout.specs.Structs.{Struct, struct, fitting, tells, told}
 use Rattle.clients.specs.Clients.{flag_of, number_of}
-use Rattle.clients.specs.declared.confirmations.Confirmation.{Confirmation as ConfirmationRow}
-use Rattle.clients.specs.declared.confirmations.IndexOption.{IndexOption}
-use Rattle.clients.specs.declared.confirmations.IndexOption.TheVariants.{None as NoIndex, Some as SomeIndex}
 use Rattle.clients.specs.declared.confirmations.Numbers.{Numbers}
-
--- The answer to a request to confirm leadership (Confirmation): the read index, or that the server stopped leading.
-pub record Confirmation : Type 0 where
-  pub request : RequestId
-  pub read_index : Option LogIndex
+pub use Rattle.clients.specs.declared.confirmations.Confirmation.{Confirmation}
 
 -- ---- a row: the request, 1 where leadership was confirmed, and the read index
 
 -- The read index that two numbers tell.
 unfoldable pub index_in : ℕ → ℕ → Option LogIndex
-index_in flag i = pick (eqb flag 0) none (some (record { 0 = i }))
+index_in flag i = pick (eqb flag 0) None (Some (record { 0 = i }))
 
 pub index_back : (o : Option LogIndex) → index_in (flag_of o) (number_of (λ x. x.0) o) ≡ o
 unfolding index_in
-index_back none = refl
-index_back (some x) = refl
+index_back None = refl
+index_back (Some x) = refl
 
 -- The words of a confirmation.
 abbrev pub confirmation_words : Confirmation → List ℕ
@@ -65,15 +54,6 @@ confirmations = record { row = confirmation_code; rule = λ x. true }
 
 -- ---- what the code passes and answers
 
--- The read index that the code has.
-unfoldable pub index_of : IndexOption → Option LogIndex
-index_of NoIndex = none
-index_of (SomeIndex index) = some index
-
--- The confirmation that the code has.
-unfoldable pub confirmation_of : ConfirmationRow → Confirmation
-confirmation_of c = record { request = c.request; read_index = index_of c.read_index }
-
 -- The two words of a read index.
 unfoldable pub numbers_of : Option LogIndex → Numbers
 numbers_of o = record { flag = flag_of o; index = number_of (λ x. x.0) o }
@@ -83,21 +63,21 @@ unfoldable pub tell_index : ℕ → ℕ → Bool
 tell_index flag index = pick (eqb flag 0) (eqb index 0) (eqb flag 1)
 
 -- Whatever n confirmations b holds, r is the one at place k.
-pub record ReadsConfirmation (n k : ℕ) (r : ConfirmationRow) (b : List ℕ) : Type 0 where
-  pub to : (N : ℕ) (x : List Confirmation) → Held confirmations N n b x → at x k ≡ some (confirmation_of r)
+pub record ReadsConfirmation (n k : ℕ) (r : Confirmation) (b : List ℕ) : Type 0 where
+  pub to : (N : ℕ) (x : List Confirmation) → Held confirmations N n b x → at x k ≡ Some r
 
 -- One was appended to n rows x: b' holds one more, and m is the new count.
-pub record Grown (N n m : ℕ) (b' : List ℕ) (x : List Confirmation) (c : ConfirmationRow) : Type 0 where
+pub record Grown (N n m : ℕ) (b' : List ℕ) (x : List Confirmation) (c : Confirmation) : Type 0 where
   pub count : m ≡ n + 1
-  pub held : Held confirmations N m b' (append (confirmation_of c) x)
+  pub held : Held confirmations N m b' (append c x)
 
 -- What an answer says of the bytes.
-abbrev pub Outcome : Appending → (N n : ℕ) (b b' : List ℕ) → List Confirmation → ConfirmationRow → Type 0
-Outcome (Appended m) N n b b' x c = Grown N n m b' x c
-Outcome Full N n b b' x c = b' ≡ b
+abbrev pub Outcome : Option ℕ → (N n : ℕ) (b b' : List ℕ) → List Confirmation → Confirmation → Type 0
+Outcome (Some m) N n b b' x c = Grown N n m b' x c
+Outcome None N n b b' x c = b' ≡ b
 
 -- A confirmation was appended to b, whatever n rows it holds, in room for so many: the answer's number, and what it says of the bytes.
-pub record AppendsConfirmation (c : ConfirmationRow) (n room : ℕ) (r : Appending) (b b' : List ℕ) : Type 0 where
+pub record AppendsConfirmation (c : Confirmation) (n room : ℕ) (r : Option ℕ) (b b' : List ℕ) : Type 0 where
   pub number : (N : ℕ) (x : List Confirmation) → Held confirmations N n b x
-      → appending_number r ≡ room_code (length (append (confirmation_of c) x)) room
+      → appending_number r ≡ room_code (length (append c x)) room
   pub to : (N : ℕ) (x : List Confirmation) → Held confirmations N n b x → Outcome r N n b b' x c

@@ -6,36 +6,28 @@ ghost use Rattle.laws.specs.Decides.{Decides};
 ghost use Rattle.words.specs.Words.{W};
 ghost use Rattle.layout.specs.Code.{ok_n};
 ghost use Rattle.layout.specs.Tables.{Tabled};
-ghost use Rattle.clients.specs.Clients.{
-  clients,
-  client_code,
-  outstanding_in,
-  outstanding_of,
-  numbers_of,
-  tell_outstanding,
-  ReadsClient,
-  WritesClient,
-};
+ghost use Rattle.clients.specs.Clients.{clients, client_code, outstanding_in, numbers_of, tell_outstanding, ReadsClient, WritesClient};
 
 use layout::rows;
 use units::SimTime;
 
 pub mod confirmations; // the answers to requests to confirm leadership
 
-// The command that a client waits for, if there is one: its sequence number, and when it was first sent.
+// A command that a client waits for: its sequence number, and when it was first sent.
 #[derive(Clone, Copy)]
-pub enum OutstandingOption {
-    None,
-    Some { seq: u64, first_sent: SimTime },
+pub struct Outstanding {
+    pub seq: u64,
+    pub first_sent: SimTime,
 }
 
-// A client: the place of the server it sends to next, its next sequence number, its last attempt, and the command that it waits for.
+// A client, which sends one command after the other: the place of the server it sends to next, its next sequence number, its last attempt,
+// which rises with every send, so that old timeouts and redirects are ignored, and the command that it waits for.
 #[derive(Clone, Copy)]
 pub struct Client {
     pub target: u64,
     pub next_seq: u64,
     pub attempt: u64,
-    pub outstanding: OutstandingOption,
+    pub outstanding: Option<Outstanding>,
 }
 
 // The words of an outstanding command: 1 where there is one, its sequence number, and when it was first sent.
@@ -49,16 +41,17 @@ struct Numbers {
 // ---- the outstanding command
 
 // Its words.
-fn words_of(outstanding: OutstandingOption) -> Numbers
-    ensures { result ≡ numbers_of (outstanding_of outstanding) }
+#[tactic(auto, unfolding(crate::specs::Clients::numbers_of))]
+fn numbers_of(outstanding: Option<Outstanding>) -> Numbers
+    ensures { result ≡ numbers_of outstanding }
 {
     match outstanding {
-        OutstandingOption::None => Numbers {
+        None => Numbers {
             flag: 0,
             seq: 0,
             sent: 0,
         },
-        OutstandingOption::Some { seq, first_sent } => Numbers {
+        Some(Outstanding { seq, first_sent }) => Numbers {
             flag: 1,
             seq,
             sent: first_sent.0,
@@ -66,26 +59,24 @@ fn words_of(outstanding: OutstandingOption) -> Numbers
     }
 }
 
-// The outstanding command of three words.
-fn outstanding_of(flag: u64, seq: u64, sent: u64) -> OutstandingOption
-    ensures { outstanding_of result ≡ outstanding_in flag seq sent }
+// The outstanding command that three words tell.
+#[tactic(auto, unfolding(crate::specs::Clients::outstanding_in))]
+fn outstanding_in(flag: u64, seq: u64, sent: u64) -> Option<Outstanding>
+    ensures { result ≡ outstanding_in flag seq sent }
 {
-    if flag == 0 {
-        OutstandingOption::None
-    } else {
-        OutstandingOption::Some {
-            seq,
-            first_sent: SimTime(sent),
-        }
-    }
+    (flag != 0).then_some(Outstanding {
+        seq,
+        first_sent: SimTime(sent),
+    })
 }
 
 // Whether three words are those of an outstanding command, or of none.
+#[tactic(auto, using(crate::specs::ClientLaws::tell_three))]
 fn tell_outstanding(flag: u64, seq: u64, sent: u64) -> bool
     ensures { result ≡ tell_outstanding flag seq sent }
 {
     if flag == 0 {
-        (seq == 0) & (sent == 0)
+        seq == 0 && sent == 0
     } else {
         flag == 1
     }
@@ -94,6 +85,7 @@ fn tell_outstanding(flag: u64, seq: u64, sent: u64) -> bool
 // ---- rows
 
 // Client k of n.
+#[tactic(auto, using(crate::specs::ClientLaws::read_is))]
 pub fn read(s: &[u8], n: usize, k: usize) -> Client
     requires { (k < n) × (8 * (n * 8) ≤ length s.now) }
     ensures { ReadsClient n k result s.now }
@@ -101,7 +93,7 @@ pub fn read(s: &[u8], n: usize, k: usize) -> Client
     let at = k * 8;
     let flag = words::load(s, at + 3);
     let seq = words::load(s, at + 4);
-    let outstanding = outstanding_of(flag, seq, words::load(s, at + 5));
+    let outstanding = outstanding_in(flag, seq, words::load(s, at + 5));
     Client {
         target: words::load(s, at),
         next_seq: words::load(s, at + 1),
@@ -111,12 +103,13 @@ pub fn read(s: &[u8], n: usize, k: usize) -> Client
 }
 
 // Puts a client in the place of client k.
+#[tactic(auto, using(crate::specs::ClientLaws::write_is))]
 pub fn write(s: &mut [u8], n: usize, k: usize, client: Client)
     requires { (k < n) × (8 * (n * 8) ≤ length s.old) }
     ensures { WritesClient n k client s.old s.new }
 {
     let outstanding = client.outstanding;
-    let o = words_of(outstanding);
+    let o = numbers_of(outstanding);
     let row = [
         client.target,
         client.next_seq,
@@ -133,6 +126,7 @@ pub fn write(s: &mut [u8], n: usize, k: usize, client: Client)
 // ---- the test of a region
 
 // Whether row k is a client whose target is below `servers`.
+#[tactic(auto, using(crate::specs::ClientLaws::row_tests))]
 fn row_ok(s: &[u8], n: usize, k: usize, servers: u64) -> bool
     requires { (k < n) × (8 * (n * 8) ≤ length s.now) }
     ensures { result ≡ (client_code servers).ok (drop (k * 8) (W s.now)) }
@@ -154,22 +148,13 @@ fn rows_ok(s: &[u8], n: usize, servers: u64) -> bool
     requires { 8 * (n * 8) ≤ length s.now }
     ensures { result ≡ ok_n (clients servers).row n (W s.now) }
 {
-    let mut i = 0;
-    while i < n {
-        if !row_ok(s, n, i, servers) {
-            return false;
-        }
-        i += 1;
-    }
-    true
+    (0..n).all(|k| row_ok(s, n, k, servers))
 }
 
 // Whether the bytes are a table of n clients whose targets are below `servers`.
+#[tactic(auto, using(layout::specs::TableLaws::checks))]
 pub fn check(s: &[u8], n: usize, servers: u64) -> bool
     ensures { Decides result (Tabled (clients servers) n s.now) }
 {
-    if !rows::padding(s, n, 8) {
-        return false;
-    }
-    rows_ok(s, n, servers)
+    rows::padding(s, n, 8) && rows_ok(s, n, servers)
 }

@@ -1,36 +1,23 @@
 -- What the proofs of config's functions cite. Assumes nothing.
-use Rattle.std.specs.Prelude.{◌≡◌, Bool, not, ◌||◌, List, [], ◌∷◌, ℕ, suc, ◌+◌, ◌*◌, ◌^◌, ◌≤◌, ltb, leb, eqb}
+use Rattle.std.specs.Prelude.{◌≡◌, Bool, not, ◌||◌, List, ◌∷◌, ℕ, ◌+◌, ◌*◌, ◌≤◌, ltb, leb, eqb, Result, Ok, Err}
 use Rattle.std.proofs.Math.Path.{refl}
 use Rattle.std.proofs.Common.{sym, ap, ◌∙◌, mul-le-mul_right, mul-le-mul, arith, lt-ltb, le-ltb, le-leb, leb-true, leb-false, eqb-true, Fits}
 use Rattle.std.proofs.Math.Bool.{true, false}
 use Rattle.std.proofs.lemmas.Bool.{lt-leb, eqb-false, not-true, not-false}
 use Rattle.laws.specs.Bools.{◌and◌, no_and, and_left, and_assoc, and_true}
 use Rattle.laws.proofs.BoolLaws.{and_both, and_no, and_right, code_and}
-use Rattle.std.specs.Int.{w64}
 use Rattle.config.specs.declared.Config.{Config}
-use Rattle.config.specs.declared.Validity.{Validity}
 use Rattle.config.specs.declared.SimConfig.{SimConfig}
 use Rattle.config.specs.declared.Limits.{Limits}
-use Rattle.config.specs.declared.Judged.{Judged}
-use Rattle.config.specs.declared.Judged.TheVariants.{Accepted, Servers, Consensus, Settings}
-use Rattle.config.specs.Config.{validate, accepts, validity_number}
-use Rattle.config.specs.Limits.{judged_number, within, servers_fit, limits_fit, counts_fit, settings_fit, judge, area_length, InLimits}
+use Rattle.config.specs.declared.ConfigError.{ConfigError}
+use Rattle.units.specs.declared.refusal.Refusal.{Refusal}
+use Rattle.units.specs.declared.refusal.Refusal.TheVariants.{Servers, Consensus, Settings}
+use Rattle.config.specs.Config.{validate, accepts}
+use Rattle.config.specs.Limits.{within, servers_fit, limits_fit, counts_fit, settings_fit, judge, area_length, InLimits}
 use Rattle.config.specs.Questions.{first_no}
 
 -- questions that are put in order
 module _ {A : Type 0} (accepted : A) where
-  pub none_left : accepted ≡ first_no accepted []
-  unfolding first_no
-  none_left = refl
-
-  pub question_yes : (r : A) (b : Bool) (n : A) (qs : List (Bool × A)) → b ≡ true → r ≡ first_no accepted qs → r ≡ first_no accepted ((b, n) ∷ qs)
-  unfolding first_no
-  question_yes r b n qs h e = rw h e
-
-  pub question_no : (b : Bool) (n : A) (qs : List (Bool × A)) → b ≡ false → n ≡ first_no accepted ((b, n) ∷ qs)
-  unfolding first_no
-  question_no b n qs h = rw h
-
   -- where all is accepted, each question was answered yes
   pub was_yes : (b : Bool) (n : A) (qs : List (Bool × A)) → (n ≡ accepted → ⊥) → first_no accepted ((b, n) ∷ qs) ≡ accepted → b ≡ true
   unfolding first_no
@@ -41,15 +28,6 @@ module _ {A : Type 0} (accepted : A) where
   unfolding first_no
   rest_yes true n qs h e = e
   rest_yes false n qs h e = absurd (h e)
-
--- a test `!f(x)` that was taken, and one that was left
-pub answered_no : (r b : Bool) → r ≡ b → not r ≡ true → b ≡ false
-answered_no r b e h = sym e ∙ not-true r h
-
-pub answered_yes : (r b : Bool) → r ≡ b → not r ≡ false → b ≡ true
-answered_yes r b e h = sym e ∙ not-false r h
-
-pub ruleset questions = (none_left, question_yes, question_no, answered_no, answered_yes)
 
 -- the code's tests against 0
 pub zero_positive : (n : ℕ) → n ≡ 0 → ltb 0 n ≡ false
@@ -81,25 +59,14 @@ and_cong a b c d p q = rw (p, q)
 
 pub ruleset conjunction = (code_and, and_assoc, and_true, and_cong)
 
--- question 2's answer, as the code gives it
-pub accepts_is : (c : Config) (v : Validity) (r : ℕ) → v ≡ validate c → r ≡ validity_number v → eqb r 0 ≡ accepts c
+-- question 2's answer, as the code branches on it
+pub accepted : (c : Config) (u : Unit {0}) → Ok u ≡ validate c → accepts c ≡ true
 unfolding accepts
-accepts_is c v r p q = rw (q, p)
+accepted c u e = rw (← e)
 
--- products
-pub product_bound : (a b : ℕ) → a ≤ 65536 → a * b ≤ 65536 * b
-product_bound a b h = mul-le-mul_right b h
-
-pub product_fits : (a b : ℕ) → a ≤ 65536 → b ≤ 2 ^ 32 → Fits w64 (a * b)
-product_fits a b h k = omega (arith, product_bound a b h)
-
--- the area's length, as the code computes it
-pub area_is : (S C : ℕ) (l : Limits) (a b s q h g : ℕ)
-    → a ≡ 2 * l.log_indexes * (l.payload + 24) → b ≡ l.writes * (l.payload + 32) → s ≡ S * (512 + a + b + 16 * l.history)
-    → q ≡ l.events * (l.message + 64) → h ≡ l.history * (2 * l.payload + 160) → g ≡ l.log_indexes * (l.payload + 16)
-    → 4096 + s + q + h + g + 64 * C ≡ area_length S C l
-unfolding area_length
-area_is S C l a b s q h g e₁ e₂ e₃ e₄ e₅ e₆ = rw (e₃, e₄, e₅, e₆, e₁, e₂)
+pub refused : (c : Config) (why : ConfigError) → Err why ≡ validate c → accepts c ≡ false
+unfolding accepts
+refused c why e = rw (← e)
 
 -- the longest area
 most : (a b m n : ℕ) → a ≤ m → b ≤ n → a * b ≤ m * n
@@ -116,10 +83,12 @@ area_most S C l i =
     let g = most l.log_indexes (l.payload + 16) 1024 272 (omega arith) (omega arith) in
     omega arith
 
-pub area_bound : (S C : ℕ) (l : Limits) (n : ℕ) → InLimits S C l → n ≡ area_length S C l → n ≤ 480931840
-area_bound S C l n i e = rw e (area_most S C l i)
-
-pub ruleset area = (product_bound, product_fits, area_is, area_bound)
+-- the same as the code adds it up
+pub area_sum : (S C : ℕ) (l : Limits) → InLimits S C l
+    → 4096 + S * (512 + 2 * l.log_indexes * (l.payload + 24) + l.writes * (l.payload + 32) + 16 * l.history) + l.events * (l.message + 64)
+    + l.history * (2 * l.payload + 160) + l.log_indexes * (l.payload + 16) + 64 * C ≤ 480931840
+unfolding area_length
+area_sum = area_most
 
 -- settings that are accepted are within the limits
 low : (a b n : ℕ) → within a b n ≡ true → a ≤ n
@@ -130,9 +99,9 @@ high : (a b n : ℕ) → within a b n ≡ true → n ≤ b
 unfolding within
 high a b n h = leb-true n b (and_right _ _ h)
 
--- each refusal has another number than the acceptance
-refusal : (r : Judged) (k : ℕ) → judged_number r ≡ suc k → r ≡ Accepted → ⊥
-refusal r k e a = let z : ◌≡◌ {A = ℕ} (suc k) 0 = sym e ∙ ap judged_number a in omega arith
+-- a refusal is no acceptance
+apart : {why : Refusal} → ◌≡◌ {A = Result (Unit {0}) Refusal} (Err why) (Ok tt) → ⊥
+apart e = cc
 
 -- each question answered yes
 pub record AllYes (c : SimConfig) (l : Limits) : Type 0 where
@@ -141,20 +110,20 @@ pub record AllYes (c : SimConfig) (l : Limits) : Type 0 where
   pub settings : settings_fit c l ≡ true
 
 -- settings that are accepted have a yes to each question
-pub all_yes : (c : SimConfig) (l : Limits) (r : Judged) → r ≡ judge c l → r ≡ Accepted → AllYes c l
+pub all_yes : (c : SimConfig) (l : Limits) (r : Result (Unit {0}) Refusal) → r ≡ judge c l → r ≡ Ok tt → AllYes c l
 unfolding judge
 all_yes c l r e a =
     let q₁ = sym e ∙ a in
-    let q₂ = rest_yes Accepted _ Servers _ (refusal Servers 0 refl) q₁ in
-    let q₃ = rest_yes Accepted _ Consensus _ (refusal Consensus 1 refl) q₂ in
+    let q₂ = rest_yes (Ok tt) _ (Err Servers) _ apart q₁ in
+    let q₃ = rest_yes (Ok tt) _ (Err Consensus) _ apart q₂ in
     record {
-      servers = was_yes Accepted _ Servers _ (refusal Servers 0 refl) q₁;
-      consensus = was_yes Accepted _ Consensus _ (refusal Consensus 1 refl) q₂;
-      settings = was_yes Accepted _ Settings _ (refusal Settings 2 refl) q₃;
+      servers = was_yes (Ok tt) _ (Err Servers) _ apart q₁;
+      consensus = was_yes (Ok tt) _ (Err Consensus) _ apart q₂;
+      settings = was_yes (Ok tt) _ (Err Settings) _ apart q₃;
     }
 
 -- and counts that fit
-pub counts_yes : (c : SimConfig) (l : Limits) (r : Judged) → r ≡ judge c l → r ≡ Accepted → counts_fit c.servers c.clients l ≡ true
+pub counts_yes : (c : SimConfig) (l : Limits) (r : Result (Unit {0}) Refusal) → r ≡ judge c l → r ≡ Ok tt → counts_fit c.servers c.clients l ≡ true
 unfolding settings_fit counts_fit
 counts_yes c l r e a =
     let y = all_yes c l r e a in
@@ -202,5 +171,5 @@ limits_counts S C l i =
     i.history) refl)))))))
 
 -- so settings that are accepted are within the limits
-pub in_limits : (c : SimConfig) (l : Limits) (r : Judged) → r ≡ judge c l → r ≡ Accepted → InLimits c.servers c.clients l
+pub in_limits : (c : SimConfig) (l : Limits) (r : Result (Unit {0}) Refusal) → r ≡ judge c l → r ≡ Ok tt → InLimits c.servers c.clients l
 in_limits c l r e a = counts_limits c.servers c.clients l (counts_yes c l r e a)

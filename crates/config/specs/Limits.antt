@@ -1,11 +1,12 @@
 -- The limits of document 01, questions 1 to 3 and the area's length. Assumes nothing.
-use Rattle.std.specs.Prelude.{Bool, [], ◌∷◌, ℕ, ◌+◌, ◌*◌, ◌^◌, ◌≤◌, leb}
+use Rattle.std.specs.Prelude.{Bool, [], ◌∷◌, ℕ, ◌+◌, ◌*◌, ◌^◌, ◌≤◌, leb, Result, Ok, Err}
 use Rattle.laws.specs.Bools.{◌and◌, allb, every}
 use Rattle.units.specs.declared.Duration.{Duration}
 use Rattle.config.specs.declared.SimConfig.{SimConfig}
 use Rattle.config.specs.declared.Limits.{Limits}
-use Rattle.config.specs.declared.Judged.{Judged}
-use Rattle.config.specs.declared.Judged.TheVariants.{Accepted, Servers, Consensus, Settings}
+use Rattle.units.specs.Refusals.{answer_number}
+use Rattle.units.specs.declared.refusal.Refusal.{Refusal}
+use Rattle.units.specs.declared.refusal.Refusal.TheVariants.{Servers, Consensus, Settings}
 use Rattle.config.specs.Questions.{first_no}
 use Rattle.config.specs.Config.{accepts}
 
@@ -53,15 +54,12 @@ settings_fit c l =
     ∷ [])
 
 -- Questions 1 to 3, in order.
-unfoldable pub judge : SimConfig → Limits → Judged
-judge c l = first_no Accepted ((servers_fit c.servers, Servers) ∷ (accepts c.consensus, Consensus) ∷ (settings_fit c l, Settings) ∷ [])
+unfoldable pub judge : SimConfig → Limits → Result (Unit {0}) Refusal
+judge c l = first_no (Ok tt) ((servers_fit c.servers, Err Servers) ∷ (accepts c.consensus, Err Consensus) ∷ (settings_fit c l, Err Settings) ∷ [])
 
 -- Document 01's number for an answer.
-abbrev pub judged_number : Judged → ℕ
-judged_number Accepted = 0
-judged_number Servers = 1
-judged_number Consensus = 2
-judged_number Settings = 3
+abbrev pub judged_number : Result (Unit {0}) Refusal → ℕ
+judged_number = answer_number
 
 -- The counts that an area begins with: servers, clients and the capacities.
 unfoldable pub counts_fit : ℕ → ℕ → Limits → Bool

@@ -2,10 +2,12 @@
 #![tactic(auto)]
 
 ghost use Rattle.std.specs.Prelude.{◌≡◌, ◌+◌, ◌*◌, ◌≤◌, ◌^◌};
-ghost use Rattle.config.specs.Config.{validate, accepts, validity_number};
-ghost use Rattle.config.specs.Limits.{within, servers_fit, duration_fits, durations_fit, limits_fit, settings_fit, counts_fit, judge, judged_number, area_length, InLimits};
+ghost use Rattle.units.specs.declared.refusal.Refusal.TheVariants.{Consensus};
+ghost use Rattle.config.specs.Config.{validate};
+ghost use Rattle.config.specs.Limits.{within, servers_fit, duration_fits, durations_fit, limits_fit, settings_fit, counts_fit, judge, area_length, InLimits};
 
 use units::Duration;
+use units::refusal::Refusal;
 
 // Settings shared by both algorithms.
 #[derive(Clone, Copy)]
@@ -22,10 +24,9 @@ pub struct Config {
     pub max_entries_in_flight: u64,
 }
 
-// Whether the settings can be used together: the first problem found, or that there is none.
+// Why settings can not be used together: the first problem found.
 #[derive(Clone, Copy)]
-pub enum Validity {
-    Valid,
+pub enum ConfigError {
     // election_timeout_min must be positive
     ElectionTimeoutMinZero,
     // election_timeout_min must not exceed election_timeout_max
@@ -38,48 +39,40 @@ pub enum Validity {
     MaxEntriesInFlightTooFew,
 }
 
-impl Validity {
-    // Document 01's number for an answer: 0, or question 2's.
-    fn number(self) -> u64
-        ensures { result ≡ validity_number self }
-    {
-        match self {
-            Validity::Valid => 0,
-            Validity::ElectionTimeoutMinZero => 2,
-            Validity::ElectionTimeoutMinAboveMax => 2,
-            Validity::HeartbeatIntervalOutOfRange => 2,
-            Validity::MaxEntriesPerMessageZero => 2,
-            Validity::MaxEntriesInFlightTooFew => 2,
-        }
+// Each is a no to question 2.
+impl From<ConfigError> for Refusal {
+    ghost from_gives = { λ _ refusal. refusal ≡ Consensus };
+
+    fn from(_error: ConfigError) -> Refusal {
+        Refusal::Consensus
     }
 }
 
 impl Config {
     // Checks that the settings can be used together.
-    pub fn validate(self) -> Validity
+    #[tactic(auto, unfolding(crate::specs::Config::validate, crate::specs::Questions::first_no), using(crate::specs::Laws::tests))]
+    pub fn validate(self) -> Result<(), ConfigError>
         ensures { result ≡ validate self }
     {
         let heartbeat_interval = self.heartbeat_interval.0;
         let election_timeout_min = self.election_timeout_min.0;
         let election_timeout_max = self.election_timeout_max.0;
-        let max_entries_per_message = self.max_entries_per_message;
-        let max_entries_in_flight = self.max_entries_in_flight;
         if election_timeout_min == 0 {
-            return Validity::ElectionTimeoutMinZero;
+            return Err(ConfigError::ElectionTimeoutMinZero);
         }
         if election_timeout_max < election_timeout_min {
-            return Validity::ElectionTimeoutMinAboveMax;
+            return Err(ConfigError::ElectionTimeoutMinAboveMax);
         }
-        if (heartbeat_interval == 0) | (election_timeout_min <= heartbeat_interval) {
-            return Validity::HeartbeatIntervalOutOfRange;
+        if heartbeat_interval == 0 || election_timeout_min <= heartbeat_interval {
+            return Err(ConfigError::HeartbeatIntervalOutOfRange);
         }
-        if max_entries_per_message == 0 {
-            return Validity::MaxEntriesPerMessageZero;
+        if self.max_entries_per_message == 0 {
+            return Err(ConfigError::MaxEntriesPerMessageZero);
         }
-        if max_entries_in_flight < max_entries_per_message {
-            return Validity::MaxEntriesInFlightTooFew;
+        if self.max_entries_in_flight < self.max_entries_per_message {
+            return Err(ConfigError::MaxEntriesInFlightTooFew);
         }
-        Validity::Valid
+        Ok(())
     }
 }
 
@@ -125,54 +118,24 @@ pub struct Limits {
     pub history: u64,
 }
 
-// The answer to questions 1, 2 and 3: accepted, or the first that is answered no.
-#[derive(Clone, Copy)]
-pub enum Judged {
-    Accepted,
-    // 1: are there 1 to 8 servers?
-    Servers,
-    // 2: does `validate` accept?
-    Consensus,
-    // 3: are the other settings within limits?
-    Settings,
-}
-
-impl Judged {
-    // Document 01's number for an answer.
-    pub fn number(self) -> u64
-        ensures { result ≡ judged_number self }
-    {
-        match self {
-            Judged::Accepted => 0,
-            Judged::Servers => 1,
-            Judged::Consensus => 2,
-            Judged::Settings => 3,
-        }
-    }
-}
-
 // Is a number from `low` to `high`?
+#[tactic(auto, unfolding(crate::specs::Limits::within))]
 fn within(low: u64, high: u64, n: u64) -> bool
     ensures { result ≡ within low high n }
 {
-    (low <= n) & (n <= high)
+    (low..=high).contains(&n)
 }
 
 // Question 1: are there 1 to 8 servers?
+#[tactic(auto, unfolding(crate::specs::Limits::servers_fit))]
 fn servers_fit(servers: u64) -> bool
     ensures { result ≡ servers_fit servers }
 {
     within(1, 8, servers)
 }
 
-// Question 2: does `validate` accept?
-fn accepts(config: Config) -> bool
-    ensures { result ≡ accepts config }
-{
-    config.validate().number() == 0
-}
-
 // Is a duration at most 2^40 ns?
+#[tactic(auto, unfolding(crate::specs::Limits::duration_fits))]
 fn duration_fits(duration: Duration) -> bool
     ensures { result ≡ duration_fits duration }
 {
@@ -180,6 +143,7 @@ fn duration_fits(duration: Duration) -> bool
 }
 
 // Are all durations of the settings within their limit?
+#[tactic(auto, unfolding(crate::specs::Limits::durations_fit), using(crate::specs::Laws::conjunction))]
 fn durations_fit(config: SimConfig) -> bool
     ensures { result ≡ durations_fit config }
 {
@@ -194,6 +158,7 @@ fn durations_fit(config: SimConfig) -> bool
 }
 
 // Are the capacities within their limits?
+#[tactic(auto, unfolding(crate::specs::Limits::limits_fit), using(crate::specs::Laws::conjunction))]
 fn limits_fit(limits: Limits) -> bool
     ensures { result ≡ limits_fit limits }
 {
@@ -206,6 +171,7 @@ fn limits_fit(limits: Limits) -> bool
 }
 
 // Are the counts that an area begins with within limits: servers, clients and the capacities?
+#[tactic(auto, unfolding(crate::specs::Limits::counts_fit), using(crate::specs::Laws::conjunction))]
 pub fn counts_fit(servers: u64, clients: u64, limits: Limits) -> bool
     ensures { result ≡ counts_fit servers clients limits }
 {
@@ -213,6 +179,7 @@ pub fn counts_fit(servers: u64, clients: u64, limits: Limits) -> bool
 }
 
 // Question 3: are the other settings within limits?
+#[tactic(auto, unfolding(crate::specs::Limits::settings_fit), using(crate::specs::Laws::conjunction))]
 fn settings_fit(config: SimConfig, limits: Limits) -> bool
     ensures { result ≡ settings_fit config limits }
 {
@@ -225,27 +192,18 @@ fn settings_fit(config: SimConfig, limits: Limits) -> bool
 }
 
 // The first of questions 1, 2 and 3 that is answered no.
-pub fn judge(config: SimConfig, limits: Limits) -> Judged
+#[tactic(auto, unfolding(crate::specs::Limits::judge, crate::specs::Questions::first_no), using(crate::specs::Laws::accepted, crate::specs::Laws::refused))]
+pub fn judge(config: SimConfig, limits: Limits) -> Result<(), Refusal>
     ensures { result ≡ judge config limits }
 {
     if !servers_fit(config.servers) {
-        return Judged::Servers;
+        return Err(Refusal::Servers);
     }
-    if !accepts(config.consensus) {
-        return Judged::Consensus;
-    }
+    config.consensus.validate()?;
     if !settings_fit(config, limits) {
-        return Judged::Settings;
+        return Err(Refusal::Settings);
     }
-    Judged::Accepted
-}
-
-// A count of places times the bytes of each.
-fn product(count: u64, bytes: u64) -> u64
-    requires { (count ≤ 65536) × (bytes ≤ 2 ^ 32) }
-    ensures { (result ≡ count * bytes) × (result ≤ 65536 * bytes) }
-{
-    count * bytes
+    Ok(())
 }
 
 // The length of the area in bytes.
@@ -256,10 +214,10 @@ pub fn area_length(servers: u64, clients: u64, limits: Limits) -> u64
     let l = limits.log_indexes;
     let p = limits.payload;
     let h = limits.history;
-    let server = 512 + product(2 * l, p + 24) + product(limits.writes, p + 32) + 16 * h;
-    4096 + product(servers, server)
-        + product(limits.events, limits.message + 64)
-        + product(h, 2 * p + 160)
-        + product(l, p + 16)
+    let server = 512 + 2 * l * (p + 24) + limits.writes * (p + 32) + 16 * h;
+    4096 + servers * server
+        + limits.events * (limits.message + 64)
+        + h * (2 * p + 160)
+        + l * (p + 16)
         + 64 * clients
 }

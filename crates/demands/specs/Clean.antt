@@ -1,8 +1,7 @@
 -- What every call's definition gives can be heard: it refuses with a number that is not 0, and the bytes of its answer have room in the lent buffer. Assumes nothing.
-use Rattle.std.specs.Prelude.{◌≡◌, refl, Bool, false, not, ◌&&◌, List, [], ◌∷◌, ℕ, zero, suc, ◌-◌, ◌^◌, ◌≤◌, ◌<◌, leb, ltb, get_or}
+use Rattle.std.specs.Prelude.{◌≡◌, refl, Bool, false, not, ◌&&◌, List, [], ◌∷◌, ℕ, zero, suc, ◌-◌, ◌^◌, ◌≤◌, ◌<◌, leb, ltb, get_or, Option, None, Some}
 use Rattle.std.proofs.Common.{sym, ap, subst, ◌∙◌, arith}
 use Rattle.std.proofs.Math.Bool.{true}
-use Rattle.std.proofs.Math.Option.{Option, none, some}
 use Rattle.std.proofs.Math.Dec.{eqb}
 use Rattle.std.proofs.Math.ListN.{length}
 use borrow.Author.Tests.{leb-true, ltb-false}
@@ -26,8 +25,6 @@ use Rattle.faults.specs.Fault as faults
 use Rattle.faults.specs.Fault.{within_limits}
 use Rattle.faults.specs.declared.Fault.{Fault}
 use Rattle.faults.specs.declared.Fault.TheVariants.{Crash, CrashDuringNextInput, Restart, CrashLeader, Partition, Block, Unblock, HealLinks, SetLoss, SetDuplication, SetDelayFactor, HealAll}
-use Rattle.faults.specs.declared.FaultOption.{FaultOption}
-use Rattle.faults.specs.declared.FaultOption.TheVariants as Given
 use Rattle.layout.specs.Payload.{payload}
 use Rattle.raft_log.specs.Log.{entry_at, Log}
 use Rattle.raft_log.specs.Places.{place}
@@ -248,9 +245,9 @@ clean_schedule s time kind first second groups =
     (λ u. rw u (refuses 7 refl))))
     (λ t. rw t (refuses 6 refl))
   where
-    by : (o : FaultOption) → Clean {A = Unit {0}} Any (with_fault o (λ f. done tt (schedule_fault s time f)))
-    by Given.None = refuses 9 refl
-    by (Given.Some f) = cases (within_limits f) (λ t. rw t (gives tt)) (λ t. rw t (refuses 9 refl))
+    by : (o : Option Fault) → Clean {A = Unit {0}} Any (with_fault o (λ f. done tt (schedule_fault s time f)))
+    by None = refuses 9 refl
+    by (Some f) = cases (within_limits f) (λ t. rw t (gives tt)) (λ t. rw t (refuses 9 refl))
 
 pub clean_write_hard_state : (s : State) (term : Term) (present vote : ℕ) → Clean Any (write_hard_state_call term present vote s)
 unfolding write_hard_state_call
@@ -331,8 +328,8 @@ payload_short p noop h = omega arith
 payload_short p (command bytes) h = leb-true _ _ (and_left _ _ (and_right _ _ h))
 
 place_short : (p : ℕ) (o : Option Entry) → (place p).good o ≡ true → length (entry_bytes o) ≤ p
-place_short p none h = omega arith
-place_short p (some e) h = payload_short p e.payload (and_left _ _ h)
+place_short p None h = omega arith
+place_short p (Some e) h = payload_short p e.payload (and_left _ _ h)
 
 -- an element of a list of which each is in range, or none
 entry_short : (p : ℕ) (log : Log) (index : ℕ) → every (place p).good log ≡ true → length (entry_bytes (entry_at log index)) ≤ p

@@ -1,10 +1,7 @@
 -- An answer read back from the struct that C gets and the lent buffer: what a host hears. Assumes nothing.
-use Rattle.std.specs.Prelude.{List, [], ◌∷◌, ℕ, eqb, get_or, take}
-use Rattle.std.proofs.Math.Option.{Option, none, some}
+use Rattle.std.specs.Prelude.{List, [], ◌∷◌, ℕ, eqb, get_or, take, Option, None, Some}
 use Rattle.laws.specs.Bools.{pick}
 use Rattle.units.specs.Types.{Payload, noop, command}
-use Rattle.units.specs.declared.NodeOption.{NodeOption}
-use Rattle.units.specs.declared.NodeOption.TheVariants as node
 use Rattle.units.specs.declared.LogIndex.{LogIndex}
 use Rattle.model.specs.Simulation.{Opening, no_input, open_start, open_message, open_timer, open_proposal, open_confirmation}
 use Rattle.model.specs.Calls.{timer_of, Sealing, synced, nothing_to_sync, cut}
@@ -22,6 +19,7 @@ use Rattle.answers.specs.declared.AppliedAnswer.{AppliedAnswer}
 use Rattle.answers.specs.declared.AppliedEntryAnswer.{AppliedEntryAnswer}
 use Rattle.answers.specs.declared.ReplyAnswer.{ReplyAnswer}
 use Rattle.answers.specs.declared.ConfirmationAnswer.{ConfirmationAnswer}
+use Rattle.units.specs.declared.NodeId.{NodeId}
 
 -- ---- small values
 
@@ -31,11 +29,11 @@ unless refusal a = pick (eqb refusal 0) a (no refusal)
 
 -- Something behind a flag.
 abbrev pub behind : {A : Type 0} → ℕ → A → Option A
-behind flag x = pick (eqb flag 0) none (some x)
+behind flag x = pick (eqb flag 0) None (Some x)
 
 -- A server that may be absent, from its flag and its id.
-abbrev pub node_heard : ℕ → ℕ → NodeOption
-node_heard flag id = pick (eqb flag 0) node.None (node.Some (record { 0 = id }))
+abbrev pub node_heard : ℕ → ℕ → Option NodeId
+node_heard flag id = pick (eqb flag 0) None (Some (record { 0 = id }))
 
 -- A payload: a noop, or the command at the front of the buffer.
 abbrev pub payload_heard : ℕ → ℕ → List ℕ → Payload

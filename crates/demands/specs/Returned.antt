@@ -1,12 +1,9 @@
 -- What is heard of a struct is the answer whose numbers it has: of a refusal, and of every answer whose bytes the buffer holds; of a seal in proofs/Returned.antt. Assumes nothing.
-use Rattle.std.specs.Prelude.{◌≡◌, refl, Bool, true, false, List, [], ℕ, ◌+◌, ◌≤◌, ◌<◌, eqb, length, take, drop}
+use Rattle.std.specs.Prelude.{◌≡◌, refl, Bool, true, false, List, [], ℕ, ◌+◌, ◌≤◌, ◌<◌, eqb, length, take, drop, Option, None, Some}
 use Rattle.std.proofs.Common.{sym, ap, ap₂, ◌∙◌, arith, ne_eqb}
-use Rattle.std.proofs.Math.Option.{Option, none, some}
 use Rattle.std.proofs.lemmas.List.Edits.{sets, sets-eq}
 use Rattle.std.proofs.Math.Seq.{take-append_seam}
 use Rattle.units.specs.Types.{Payload, noop, command, Entry}
-use Rattle.units.specs.declared.NodeOption.{NodeOption}
-use Rattle.units.specs.declared.NodeOption.TheVariants as node
 use Rattle.units.specs.declared.LogIndex.{LogIndex}
 use Rattle.protocol.specs.declared.Timer.{Timer}
 use Rattle.protocol.specs.declared.Timer.TheVariants.{Election, Heartbeat}
@@ -22,6 +19,7 @@ use Rattle.model.specs.Reads.{LogRead}
 use Rattle.answers.specs.Answers.{nodePresent, nodeId, payload_kind, commandBytes, done_yes, input_of, opened_yes, asked_yes, stepped_yes, hard_state_yes, log_yes, entry_yes, applied_yes, applied_entry_yes, reply_yes, confirmation_yes}
 use Rattle.answers.specs.Numbers.{input_bytes, entry_bytes, applied_bytes}
 use Rattle.demands.specs.Heard.{unless, behind, node_heard, payload_heard, opening_heard, heard_done, heard_opened, heard_asked, heard_stepped, heard_hard_state, heard_log, heard_entry, heard_applied, heard_applied_entry, heard_reply, heard_confirmation}
+use Rattle.units.specs.declared.NodeId.{NodeId}
 
 -- a refusal's number
 pub unless_no : (n : ℕ) (a : Answer) → 0 < n → unless n a ≡ no n
@@ -29,9 +27,9 @@ unless_no n a l = rw (ne_eqb n 0 (λ e. let z : 0 < 0 = rw e at l in absurd (ome
 
 -- ---- small values
 
-node_heard_lem : (v : NodeOption) → node_heard (nodePresent v) (nodeId v) ≡ v
-node_heard_lem node.None = refl
-node_heard_lem (node.Some id) = refl
+node_heard_lem : (v : Option NodeId) → node_heard (nodePresent v) (nodeId v) ≡ v
+node_heard_lem None = refl
+node_heard_lem (Some id) = refl
 
 timer_heard : (t : Timer) → timer_of (timer_number t) ≡ t
 timer_heard Election = refl
@@ -85,30 +83,30 @@ stepped_heard s z l = ap₂ (λ (d : Bool) (o : Opening). stepped (record { due 
 -- ---- reads
 
 pub hard_state_heard : (h : HardState) → heard_hard_state (hard_state_yes h) ≡ got (got_hard_state h)
-hard_state_heard h = ap (λ (v : NodeOption). got (got_hard_state (record { term = h.term; voted_for = v }))) (node_heard_lem h.voted_for)
+hard_state_heard h = ap (λ (v : Option NodeId). got (got_hard_state (record { term = h.term; voted_for = v }))) (node_heard_lem h.voted_for)
 
 pub log_heard : (l : LogRead) → heard_log (log_yes l) ≡ got (got_log l)
 log_heard l = refl
 
 pub entry_heard : (e : Option Entry) (z : List ℕ) → length (entry_bytes e) ≤ length z → heard_entry (entry_yes e) (sets z 0 (entry_bytes e)) ≡ got (got_entry e)
-entry_heard none z l = refl
-entry_heard (some e) z l = ap (λ (p : Payload). got (got_entry (some (record { term = e.term; payload = p })))) (payload_heard_lem e.payload _ (front z _ l))
+entry_heard None z l = refl
+entry_heard (Some e) z l = ap (λ (p : Payload). got (got_entry (Some (record { term = e.term; payload = p })))) (payload_heard_lem e.payload _ (front z _ l))
 
 pub applied_heard : (n : ℕ) → heard_applied (applied_yes n) ≡ got (got_applied n)
 applied_heard n = refl
 
 pub applied_entry_heard : (p : Option Payload) (z : List ℕ) → length (applied_bytes p) ≤ length z → heard_applied_entry (applied_entry_yes p) (sets z 0 (applied_bytes p)) ≡ got (got_applied_entry p)
-applied_entry_heard none z l = refl
-applied_entry_heard (some p) z l = ap (λ (x : Payload). got (got_applied_entry (some x))) (payload_heard_lem p _ (front z _ l))
+applied_entry_heard None z l = refl
+applied_entry_heard (Some p) z l = ap (λ (x : Payload). got (got_applied_entry (Some x))) (payload_heard_lem p _ (front z _ l))
 
 pub reply_heard : (r : Option Reply) → heard_reply (reply_yes r) ≡ got (got_reply r)
-reply_heard none = refl
-reply_heard (some r) = refl
+reply_heard None = refl
+reply_heard (Some r) = refl
 
 pub confirmation_heard : (c : Option Confirmation) → heard_confirmation (confirmation_yes c) ≡ got (got_confirmation c)
-confirmation_heard none = refl
-confirmation_heard (some c) = ap (λ (i : Option LogIndex). got (got_confirmation (some (record { request = c.request; read_index = i })))) (by c.read_index)
+confirmation_heard None = refl
+confirmation_heard (Some c) = ap (λ (i : Option LogIndex). got (got_confirmation (Some (record { request = c.request; read_index = i })))) (by c.read_index)
   where
     by : (i : Option LogIndex) → behind (Rattle.answers.specs.Answers.read_index_flag i) (record { 0 = Rattle.answers.specs.Answers.read_index_number i }) ≡ i
-    by none = refl
-    by (some index) = refl
+    by None = refl
+    by (Some index) = refl

@@ -1,11 +1,11 @@
 -- Faults as numbers (faults.rs): the kind in order of declaration from 0, and two numbers; the ranges of document 01. Assumes nothing.
-use Rattle.std.specs.Prelude.{Bool, true, ◌&&◌, List, [], ◌∷◌, ℕ, zero, suc, ◌/◌, ◌%◌, ◌^◌, leb, ltb, eqb, get_or}
-use Rattle.laws.specs.Bools.{pick, ◌and◌}
+use Rattle.std.specs.Prelude.{Bool, true, ◌&&◌, List, [], ◌∷◌, ℕ, zero, suc, ◌/◌, ◌%◌, ◌^◌, leb, ltb, eqb, get_or, Option, None, Some}
+use Rattle.std.specs.Bool.{then_some}
+use Rattle.laws.specs.Bools.{◌and◌}
 use Rattle.units.specs.declared.NodeId.{NodeId}
 use Rattle.faults.specs.declared.Fault.{Fault}
+use Rattle.faults.specs.declared.FaultNumbers.{FaultNumbers}
 use Rattle.faults.specs.declared.Fault.TheVariants.{Crash, CrashDuringNextInput, Restart, CrashLeader, Partition, Block, Unblock, HealLinks, SetLoss, SetDuplication, SetDelayFactor, HealAll}
-use Rattle.faults.specs.declared.FaultOption.{FaultOption}
-use Rattle.faults.specs.declared.FaultOption.TheVariants.{None, Some}
 
 -- The number of a fault's kind.
 abbrev pub fault_kind : Fault → ℕ
@@ -52,29 +52,29 @@ fault_second (SetDuplication rate) = 0
 fault_second (SetDelayFactor factor) = 0
 fault_second HealAll = 0
 
--- A fault if its numbers pass a test.
-unfoldable pub only : Bool → Fault → FaultOption
-only test fault = pick test (Some fault) None
+-- A fault's numbers.
+abbrev pub numbers_of : Fault → FaultNumbers
+numbers_of fault = record { kind = fault_kind fault; first = fault_first fault; second = fault_second fault }
 
 -- The faults of two numbers, in order of their kinds; a number that the kind does not have is 0, and a rate has 32 bits.
-abbrev pub faults_of : ℕ → ℕ → List FaultOption
+abbrev pub faults_of : ℕ → ℕ → List (Option Fault)
 faults_of first second =
-    only (eqb second 0) (Crash (record { 0 = first }))
-    ∷ only (eqb second 0) (CrashDuringNextInput (record { 0 = first }))
-    ∷ only (eqb second 0) (Restart (record { 0 = first }))
-    ∷ only (eqb second 0) (CrashLeader (record { 0 = first }))
-    ∷ only (eqb second 0) (Partition first)
+    then_some (eqb second 0) (Crash (record { 0 = first }))
+    ∷ then_some (eqb second 0) (CrashDuringNextInput (record { 0 = first }))
+    ∷ then_some (eqb second 0) (Restart (record { 0 = first }))
+    ∷ then_some (eqb second 0) (CrashLeader (record { 0 = first }))
+    ∷ then_some (eqb second 0) (Partition first)
     ∷ Some (Block (record { 0 = first }) (record { 0 = second }))
     ∷ Some (Unblock (record { 0 = first }) (record { 0 = second }))
-    ∷ only (eqb first 0 && eqb second 0) HealLinks
-    ∷ only (ltb first (2 ^ 32) && eqb second 0) (SetLoss first)
-    ∷ only (ltb first (2 ^ 32) && eqb second 0) (SetDuplication first)
-    ∷ only (eqb second 0) (SetDelayFactor first)
-    ∷ only (eqb first 0 && eqb second 0) HealAll
+    ∷ then_some (eqb first 0 && eqb second 0) HealLinks
+    ∷ then_some (ltb first (2 ^ 32) && eqb second 0) (SetLoss first)
+    ∷ then_some (ltb first (2 ^ 32) && eqb second 0) (SetDuplication first)
+    ∷ then_some (eqb second 0) (SetDelayFactor first)
+    ∷ then_some (eqb first 0 && eqb second 0) HealAll
     ∷ []
 
 -- The fault of three numbers; none where they are not the numbers of a fault.
-unfoldable pub fault_of : ℕ → ℕ → ℕ → FaultOption
+unfoldable pub fault_of : ℕ → ℕ → ℕ → Option Fault
 fault_of kind first second = get_or (faults_of first second) kind None
 
 -- Whether a server is in a cluster of so many servers.

@@ -2,7 +2,8 @@
 #![tactic(auto)]
 
 ghost use Rattle.std.specs.Prelude.{◌≡◌, ◌≤◌};
-ghost use Rattle.faults.specs.Fault.{fault_kind, fault_first, fault_second, only, fault_of, in_cluster, groups_in, targets_known, within_limits, fault_in_range};
+ghost use Rattle.std.specs.Result.{result_ok};
+ghost use Rattle.faults.specs.Fault.{numbers_of, fault_of, in_cluster, groups_in, targets_known, within_limits, fault_in_range};
 
 use units::{Duration, NodeId};
 
@@ -35,117 +36,83 @@ pub enum Fault {
     HealAll,
 }
 
-// A fault, or that three numbers are not those of one.
+// A fault as numbers: its kind in order of declaration from 0, and two numbers, 0 where it has fewer.
 #[derive(Clone, Copy)]
-pub enum FaultOption {
-    None,
-    Some(Fault),
+pub struct FaultNumbers {
+    pub kind: u64,
+    pub first: u64,
+    pub second: u64,
 }
 
-// The number of a fault's kind.
-pub fn fault_kind(fault: Fault) -> u64
-    ensures { result ≡ fault_kind fault }
+// Three numbers.
+fn numbers(kind: u64, first: u64, second: u64) -> FaultNumbers
+    ensures { result ≡ record { kind = kind; first = first; second = second } }
 {
-    match fault {
-        Fault::Crash(_) => 0,
-        Fault::CrashDuringNextInput(_) => 1,
-        Fault::Restart(_) => 2,
-        Fault::CrashLeader { downtime: _ } => 3,
-        Fault::Partition(_) => 4,
-        Fault::Block { from: _, to: _ } => 5,
-        Fault::Unblock { from: _, to: _ } => 6,
-        Fault::HealLinks => 7,
-        Fault::SetLoss(_) => 8,
-        Fault::SetDuplication(_) => 9,
-        Fault::SetDelayFactor(_) => 10,
-        Fault::HealAll => 11,
+    FaultNumbers {
+        kind,
+        first,
+        second,
     }
 }
 
-// A fault's first number, 0 where it has none.
-pub fn fault_first(fault: Fault) -> u64
-    ensures { result ≡ fault_first fault }
-{
-    match fault {
-        Fault::Crash(server) => server.0,
-        Fault::CrashDuringNextInput(server) => server.0,
-        Fault::Restart(server) => server.0,
-        Fault::CrashLeader { downtime } => downtime.0,
-        Fault::Partition(groups) => groups,
-        Fault::Block { from, to: _ } => from.0,
-        Fault::Unblock { from, to: _ } => from.0,
-        Fault::HealLinks => 0,
-        Fault::SetLoss(rate) => rate as u64,
-        Fault::SetDuplication(rate) => rate as u64,
-        Fault::SetDelayFactor(factor) => factor,
-        Fault::HealAll => 0,
-    }
-}
+impl From<Fault> for FaultNumbers {
+    ghost from_gives = { λ fault n. n ≡ numbers_of fault };
 
-// A fault's second number, 0 where it has none.
-pub fn fault_second(fault: Fault) -> u64
-    ensures { result ≡ fault_second fault }
-{
-    match fault {
-        Fault::Crash(_) => 0,
-        Fault::CrashDuringNextInput(_) => 0,
-        Fault::Restart(_) => 0,
-        Fault::CrashLeader { downtime: _ } => 0,
-        Fault::Partition(_) => 0,
-        Fault::Block { from: _, to } => to.0,
-        Fault::Unblock { from: _, to } => to.0,
-        Fault::HealLinks => 0,
-        Fault::SetLoss(_) => 0,
-        Fault::SetDuplication(_) => 0,
-        Fault::SetDelayFactor(_) => 0,
-        Fault::HealAll => 0,
-    }
-}
-
-// A fault if its numbers pass a test.
-fn only(test: bool, fault: Fault) -> FaultOption
-    ensures { result ≡ only test fault }
-{
-    if test {
-        FaultOption::Some(fault)
-    } else {
-        FaultOption::None
+    fn from(fault: Fault) -> FaultNumbers {
+        match fault {
+            Fault::Crash(server) => numbers(0, server.0, 0),
+            Fault::CrashDuringNextInput(server) => numbers(1, server.0, 0),
+            Fault::Restart(server) => numbers(2, server.0, 0),
+            Fault::CrashLeader { downtime } => numbers(3, downtime.0, 0),
+            Fault::Partition(groups) => numbers(4, groups, 0),
+            Fault::Block { from, to } => numbers(5, from.0, to.0),
+            Fault::Unblock { from, to } => numbers(6, from.0, to.0),
+            Fault::HealLinks => numbers(7, 0, 0),
+            Fault::SetLoss(rate) => numbers(8, rate as u64, 0),
+            Fault::SetDuplication(rate) => numbers(9, rate as u64, 0),
+            Fault::SetDelayFactor(factor) => numbers(10, factor, 0),
+            Fault::HealAll => numbers(11, 0, 0),
+        }
     }
 }
 
 // The fault of three numbers.
-pub fn fault_of(kind: u64, first: u64, second: u64) -> FaultOption
-    ensures { result ≡ fault_of kind first second }
-{
-    let alone = second == 0;
-    let bare = (first == 0) & (second == 0);
-    let rated = (first < 4294967296) & (second == 0);
-    let rate = (first % 4294967296) as u32;
-    match kind {
-        0 => only(alone, Fault::Crash(NodeId(first))),
-        1 => only(alone, Fault::CrashDuringNextInput(NodeId(first))),
-        2 => only(alone, Fault::Restart(NodeId(first))),
-        3 => only(
-            alone,
-            Fault::CrashLeader {
+impl TryFrom<FaultNumbers> for Fault {
+    type Error = ();
+
+    ghost try_from_gives = { λ numbers fault. result_ok fault ≡ fault_of numbers.kind numbers.first numbers.second };
+
+    #[tactic(auto, using(crate::specs::Laws::arm))]
+    fn try_from(numbers: FaultNumbers) -> Result<Fault, ()> {
+        let first = numbers.first;
+        let second = numbers.second;
+        let alone = second == 0;
+        let bare = (first == 0) & (second == 0);
+        match numbers.kind {
+            0 if alone => Ok(Fault::Crash(NodeId(first))),
+            1 if alone => Ok(Fault::CrashDuringNextInput(NodeId(first))),
+            2 if alone => Ok(Fault::Restart(NodeId(first))),
+            3 if alone => Ok(Fault::CrashLeader {
                 downtime: Duration(first),
-            },
-        ),
-        4 => only(alone, Fault::Partition(first)),
-        5 => FaultOption::Some(Fault::Block {
-            from: NodeId(first),
-            to: NodeId(second),
-        }),
-        6 => FaultOption::Some(Fault::Unblock {
-            from: NodeId(first),
-            to: NodeId(second),
-        }),
-        7 => only(bare, Fault::HealLinks),
-        8 => only(rated, Fault::SetLoss(rate)),
-        9 => only(rated, Fault::SetDuplication(rate)),
-        10 => only(alone, Fault::SetDelayFactor(first)),
-        11 => only(bare, Fault::HealAll),
-        _ => FaultOption::None,
+            }),
+            4 if alone => Ok(Fault::Partition(first)),
+            5 => Ok(Fault::Block {
+                from: NodeId(first),
+                to: NodeId(second),
+            }),
+            6 => Ok(Fault::Unblock {
+                from: NodeId(first),
+                to: NodeId(second),
+            }),
+            7 if bare => Ok(Fault::HealLinks),
+            8 if alone => u32::try_from(first).map(Fault::SetLoss).map_err(|_| ()),
+            9 if alone => u32::try_from(first)
+                .map(Fault::SetDuplication)
+                .map_err(|_| ()),
+            10 if alone => Ok(Fault::SetDelayFactor(first)),
+            11 if bare => Ok(Fault::HealAll),
+            _ => Err(()),
+        }
     }
 }
 
@@ -153,44 +120,38 @@ pub fn fault_of(kind: u64, first: u64, second: u64) -> FaultOption
 pub fn in_cluster(servers: u64, id: NodeId) -> bool
     ensures { result ≡ in_cluster servers id }
 {
-    (1 <= id.0) & (id.0 <= servers)
+    (1..=servers).contains(&id.0)
 }
 
-// Whether no group of a partition has a member outside the cluster.
+// Whether no group of a partition, of eight bits each, has a member outside the cluster.
 fn groups_in(groups: u64, servers: u64) -> bool
-    requires { servers ≤ 8 }
     ensures { result ≡ groups_in 8 groups servers }
 {
-    let mut rest = groups;
-    let mut i: u64 = 0;
-    while i < 8 {
-        if (rest % 256) >> servers != 0 {
-            return false;
-        }
-        rest = rest / 256;
-        i += 1;
-    }
-    true
+    groups
+        .to_le_bytes()
+        .iter()
+        .all(|group| u64::from(*group) >> servers.min(8) == 0)
 }
 
 // Whether every server that a fault names is in the cluster.
+#[tactic(auto, using(crate::specs::Laws::both_is))]
 pub fn targets_known(servers: u64, fault: Fault) -> bool
-    requires { servers ≤ 8 }
     ensures { result ≡ targets_known servers fault }
 {
     match fault {
-        Fault::Crash(server) => in_cluster(servers, server),
-        Fault::CrashDuringNextInput(server) => in_cluster(servers, server),
-        Fault::Restart(server) => in_cluster(servers, server),
-        Fault::CrashLeader { downtime: _ } => true,
+        Fault::Crash(server) | Fault::CrashDuringNextInput(server) | Fault::Restart(server) => {
+            in_cluster(servers, server)
+        }
         Fault::Partition(groups) => groups_in(groups, servers),
-        Fault::Block { from, to } => in_cluster(servers, from) & in_cluster(servers, to),
-        Fault::Unblock { from, to } => in_cluster(servers, from) & in_cluster(servers, to),
-        Fault::HealLinks => true,
-        Fault::SetLoss(_) => true,
-        Fault::SetDuplication(_) => true,
-        Fault::SetDelayFactor(_) => true,
-        Fault::HealAll => true,
+        Fault::Block { from, to } | Fault::Unblock { from, to } => {
+            in_cluster(servers, from) & in_cluster(servers, to)
+        }
+        Fault::CrashLeader { .. }
+        | Fault::HealLinks
+        | Fault::SetLoss(_)
+        | Fault::SetDuplication(_)
+        | Fault::SetDelayFactor(_)
+        | Fault::HealAll => true,
     }
 }
 
@@ -199,24 +160,24 @@ pub fn within_limits(fault: Fault) -> bool
     ensures { result ≡ within_limits fault }
 {
     match fault {
-        Fault::Crash(_) => true,
-        Fault::CrashDuringNextInput(_) => true,
-        Fault::Restart(_) => true,
         Fault::CrashLeader { downtime } => downtime.0 <= 1099511627776,
-        Fault::Partition(_) => true,
-        Fault::Block { from: _, to: _ } => true,
-        Fault::Unblock { from: _, to: _ } => true,
-        Fault::HealLinks => true,
-        Fault::SetLoss(rate) => (rate as u64) < 4294967296,
-        Fault::SetDuplication(rate) => (rate as u64) < 4294967296,
         Fault::SetDelayFactor(factor) => factor <= 65536,
-        Fault::HealAll => true,
+        Fault::Crash(_)
+        | Fault::CrashDuringNextInput(_)
+        | Fault::Restart(_)
+        | Fault::Partition(_)
+        | Fault::Block { .. }
+        | Fault::Unblock { .. }
+        | Fault::HealLinks
+        | Fault::SetLoss(_)
+        | Fault::SetDuplication(_)
+        | Fault::HealAll => true,
     }
 }
 
 // Whether a fault is in range in a cluster of so many servers.
+#[tactic(auto, using(crate::specs::Laws::both_is))]
 pub fn fault_in_range(servers: u64, fault: Fault) -> bool
-    requires { servers ≤ 8 }
     ensures { result ≡ fault_in_range servers fault }
 {
     targets_known(servers, fault) & within_limits(fault)

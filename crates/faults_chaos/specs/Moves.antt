@@ -1,9 +1,8 @@
 -- A schedule moves the generator by as many draws as it tells. Assumes nothing.
-use Rattle.std.specs.Prelude.{◌≡◌, ltb, eqb, get_or}
+use Rattle.std.specs.Prelude.{◌≡◌, ltb, eqb, get_or, Option, None, Some, Ok, Err}
 use Rattle.std.proofs.Math.Path.{refl, sym, ap, subst}
 use Rattle.std.proofs.Common.{◌∙◌, add-zero}
 use mathlib.Core.List.{List, [], ◌∷◌, ◌++◌}
-use Rattle.std.proofs.Math.Option.{Option, none, some}
 use Prim.Native.Nat.{ℕ, zero, suc, ◌+◌, ◌-◌, ◌*◌, min}
 use Rattle.std.proofs.Math.Dec.{leb}
 use Rattle.std.proofs.Math.ListN.{length}
@@ -15,8 +14,8 @@ use Rattle.rng.specs.Laws.{under_after, after_add}
 use Rattle.rng.specs.declared.Rng.{Rng}
 use Rattle.faults_chaos.specs.declared.Timed.{Timed}
 use Rattle.faults_chaos.specs.declared.ChaosConfig.{ChaosConfig}
-use Rattle.faults_chaos.specs.Kinds.{kinds}
-use Rattle.faults_chaos.specs.Schedule.{Draws, draw, give, uniform, pick_server, pick_other, Groups, no_groups, deal, split, push, Faulting, crash, crash_during_input, partition, block_link, loss, duplication, crash_leader, slower, fault_of_kind, one_fault, Chaos, refused, made, placed, generate, known_ids, times_in_range, chaos_schedule}
+use Rattle.faults_chaos.specs.declared.Draws.{Draws}
+use Rattle.faults_chaos.specs.Schedule.{draw, give, uniform, pick_server, pick_other, Groups, no_groups, deal, split, push, Faulting, partition, block_link, loss, crash_leader, slower, kinds, fault_of_kind, one_fault, Chaos, placed, generate, known_ids, times_in_range, chaos_schedule}
 
 -- The generator after so many draws as are told.
 pub record Moves {A : Type 0} (g : Rng) (d : Draws A) : Type 0 where
@@ -47,12 +46,12 @@ pick_moves servers g = made_moves g (draw g (length servers)) (pick_server serve
 
 pub other_moves : (left : ℕ) (server : NodeId) (servers : List NodeId) (g : Rng) → Moves g (pick_other left server servers g)
 unfolding pick_other
-other_moves zero server servers g = give_moves none g
+other_moves zero server servers g = give_moves None g
 other_moves (suc left) server servers g =
     let d = pick_server servers g in
-    let again = pick (eqb d.result.0 server.0) (pick_other left server servers) (give (some d.result)) in
+    let again = pick (eqb d.result.0 server.0) (pick_other left server servers) (give (Some d.result)) in
     join_moves g d (again d.next) (pick_moves servers g)
-    (pick_both (λ (f : Rng → Draws (Option NodeId)). Moves d.next (f d.next)) (eqb d.result.0 server.0) (other_moves left server servers d.next) (give_moves (some d.result) d.next))
+    (pick_both (λ (f : Rng → Draws (Option NodeId)). Moves d.next (f d.next)) (eqb d.result.0 server.0) (other_moves left server servers d.next) (give_moves (Some d.result) d.next))
 
 deal_moves : (groups : Groups) (servers : List NodeId) (g : Rng) → Moves g (deal groups servers g)
 unfolding deal
@@ -94,7 +93,7 @@ module _ (time until : SimTime) (server : NodeId) (servers : List NodeId) (g : R
   moving f = Moves g (f g)
 
   kinds_move : All moving (kinds time until server servers)
-  unfolding All moving crash crash_during_input loss duplication crash_leader
+  unfolding All moving loss crash_leader
   kinds_move = (
     give_moves _ g,
     (
@@ -127,14 +126,14 @@ fault_moves servers config time g =
 
 -- A schedule.
 Moved : Rng → Chaos → Type 0
-Moved g (refused n) = Unit {0}
-Moved g (made entries draws next) = next ≡ after draws g
+Moved g (Err refusal) = Unit {0}
+Moved g (Ok schedule) = schedule.next ≡ after schedule.draws g
 
 module _ (servers : List NodeId) (config : ChaosConfig) (room : ℕ) (g : Rng) where
   placed_moved : (schedule : List Timed) (o : Option (List Timed)) (more : List Timed → Chaos) → ((l : List Timed) → Moved g (more l)) → Moved g (placed servers config room schedule o more)
   unfolding Moved
-  placed_moved schedule none more h = tt
-  placed_moved schedule (some entries) more h = pick_both (Moved g) (leb (length schedule + length entries) room) (h (schedule ++ entries)) tt
+  placed_moved schedule None more h = tt
+  placed_moved schedule (Some entries) more h = pick_both (Moved g) (leb (length schedule + length entries) room) (h (schedule ++ entries)) tt
 
   generate_moved : (turns : ℕ) (time : SimTime) (schedule : List Timed) (draws : ℕ) (next : Rng) → next ≡ after draws g
       → Moved g (generate servers config room turns time schedule draws next)
@@ -161,6 +160,7 @@ module _ (servers : List NodeId) (config : ChaosConfig) (room : ℕ) (g : Rng) w
       tt
 
   -- The generator after a schedule is the one that was lent, after the schedule's draws.
-  pub schedule_moves : (entries : List Timed) (draws : ℕ) (next : Rng) → chaos_schedule servers config room g ≡ made entries draws next → next ≡ after draws g
+  pub schedule_moves : (schedule : Draws (List Timed)) → chaos_schedule servers config room g ≡ Ok schedule
+      → schedule.next ≡ after schedule.draws g
   unfolding Moved
-  schedule_moves entries draws next e = subst (Moved g) e chaos_moved
+  schedule_moves schedule e = subst (Moved g) e chaos_moved

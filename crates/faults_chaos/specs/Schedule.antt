@@ -1,24 +1,20 @@
--- A random fault schedule (faults.rs), with document 01's bound on redraws, its numbers of refusals and the room of the lent list. Assumes nothing.
-use Rattle.std.specs.Prelude.{Bool, List, [], ◌∷◌, ◌++◌, ℕ, zero, suc, ◌+◌, ◌-◌, ◌*◌, ◌^◌, min, leb, ltb, eqb, length, get_or}
-use Rattle.std.proofs.Math.Option.{Option, none, some}
+-- A random fault schedule (faults.rs), with document 01's bound on redraws, its refusals and the room of the lent list. Assumes nothing.
+use Rattle.std.specs.Prelude.{Bool, List, [], ◌∷◌, ◌++◌, ℕ, zero, suc, ◌+◌, ◌-◌, ◌*◌, ◌^◌, min, leb, ltb, eqb, length, get_or, Option, None, Some, Result, Ok, Err}
 use Rattle.std.specs.Int.Bits.{bit_or}
 use Rattle.laws.specs.Bools.{pick, every, ◌and◌}
 use Rattle.laws.specs.Order.{numbers, sort_by}
 use Rattle.units.specs.Time.{minus}
 use Rattle.units.specs.declared.NodeId.{NodeId}
 use Rattle.units.specs.declared.SimTime.{SimTime}
+use Rattle.units.specs.declared.refusal.Refusal.{Refusal}
+use Rattle.units.specs.declared.refusal.Refusal.TheVariants as question
 use Rattle.rng.specs.Rng.{under}
 use Rattle.rng.specs.declared.Rng.{Rng}
 use Rattle.faults.specs.declared.Fault.{Fault}
 use Rattle.faults.specs.declared.Fault.TheVariants.{Crash, CrashDuringNextInput, Restart, CrashLeader, Partition, Block, Unblock, HealLinks, SetLoss, SetDuplication, SetDelayFactor, HealAll}
 use Rattle.faults_chaos.specs.declared.Timed.{Timed}
 use Rattle.faults_chaos.specs.declared.ChaosConfig.{ChaosConfig}
-
--- A result of drawing: what was drawn, how many draws it took, and the generator after them.
-pub record Draws (A : Type 0) : Type 0 where
-  pub result : A
-  pub draws : ℕ
-  pub next : Rng
+use Rattle.faults_chaos.specs.declared.Draws.{Draws}
 
 -- One draw below a bound.
 abbrev pub draw : Rng → ℕ → Draws ℕ
@@ -44,9 +40,9 @@ pick_server servers g = then (draw g (length servers)) (λ n. give (get_or serve
 
 -- The other end of a blocked link, drawn again while it is the first server, in at most so many draws; none where they do not suffice.
 unfoldable pub pick_other : ℕ → NodeId → List NodeId → Rng → Draws (Option NodeId)
-pick_other zero server servers g = give none g
+pick_other zero server servers g = give None g
 pick_other (suc left) server servers g =
-    then (pick_server servers g) (λ other. pick (eqb other.0 server.0) (pick_other left server servers) (give (some other)))
+    then (pick_server servers g) (λ other. pick (eqb other.0 server.0) (pick_other left server servers) (give (Some other)))
 
 -- The bits of servers put into a group one after the other: bit k is server k + 1.
 unfoldable pub mask_from : ℕ → List NodeId → ℕ
@@ -117,12 +113,12 @@ delay_factors = 3 ∷ 10 ∷ []
 
 -- The entries of one fault: at its time, and at the time it is undone.
 unfoldable pub start_and_end : SimTime → SimTime → Fault → Fault → Option (List Timed)
-start_and_end time until fault undone = some (record { time = time; fault = fault } ∷ record { time = until; fault = undone } ∷ [])
+start_and_end time until fault undone = Some (record { time = time; fault = fault } ∷ record { time = until; fault = undone } ∷ [])
 
 -- A blocked link and its end; none where no second server came.
 unfoldable pub blocked_link : SimTime → SimTime → NodeId → Option NodeId → Option (List Timed)
-blocked_link time until server none = none
-blocked_link time until server (some other) = start_and_end time until (Block server other) (Unblock server other)
+blocked_link time until server None = None
+blocked_link time until server (Some other) = start_and_end time until (Block server other) (Unblock server other)
 
 -- The entries of one fault, with the draws that it makes; none where no second server came.
 abbrev pub Faulting : Type 0
@@ -130,13 +126,9 @@ Faulting = Rng → Draws (Option (List Timed))
 
 -- The kinds of fault in the Rust's order, each with its own draws.
 module _ (time until : SimTime) where
-  -- a crash between inputs
-  unfoldable pub crash : NodeId → Faulting
-  crash server = give (start_and_end time until (Crash server) (Restart server))
-
-  -- a crash during an input
-  unfoldable pub crash_during_input : NodeId → Faulting
-  crash_during_input server = give (start_and_end time until (CrashDuringNextInput server) (Restart server))
+  -- a fault that lasts until it is undone, with no draw
+  abbrev pub lasting : Fault → Fault → Faulting
+  lasting fault undone = give (start_and_end time until fault undone)
 
   -- a partition in two groups
   unfoldable pub partition : List NodeId → Faulting
@@ -150,33 +142,31 @@ module _ (time until : SimTime) where
   unfoldable pub loss : Faulting
   loss g = then (draw g 3) (λ n. give (start_and_end time until (SetLoss (get_or loss_levels n 0)) (SetLoss 0)))
 
-  -- message duplication, with no draw
-  unfoldable pub duplication : Faulting
-  duplication = give (start_and_end time until (SetDuplication 100_000) (SetDuplication 0))
-
   -- a crash of the leader, with no draw; its restart is no entry of its own
   unfoldable pub crash_leader : Faulting
-  crash_leader = give (some (record { time = time; fault = CrashLeader (minus until time) } ∷ []))
+  crash_leader = give (Some (record { time = time; fault = CrashLeader (minus until time) } ∷ []))
 
   -- slower delivery
   unfoldable pub slower : Faulting
   slower g = then (draw g 2) (λ n. give (start_and_end time until (SetDelayFactor (get_or delay_factors n 0)) (SetDelayFactor 1)))
 
-  -- With one server, a partition and a blocked link become a delay factor.
-  unfoldable pub fault_of_kind : NodeId → List NodeId → ℕ → Faulting
-  fault_of_kind server servers kind =
+  -- The kinds but the last, which is slower delivery: crashes between inputs and during an input, a partition, a blocked link, loss,
+  -- duplication, a crash of the leader. With one server, a partition and a blocked link become a delay factor.
+  abbrev pub kinds : NodeId → List NodeId → List Faulting
+  kinds server servers =
       let multi = ltb 1 (length servers) in
-      get_or
-      (crash server
-      ∷ crash_during_input server
+      lasting (Crash server) (Restart server)
+      ∷ lasting (CrashDuringNextInput server) (Restart server)
       ∷ pick multi (partition servers) slower
       ∷ pick multi (block_link server servers) slower
       ∷ loss
-      ∷ duplication
+      ∷ lasting (SetDuplication 100_000) (SetDuplication 0)
       ∷ crash_leader
-      ∷ [])
-      kind
-      slower
+      ∷ []
+
+  -- The fault of a kind.
+  unfoldable pub fault_of_kind : NodeId → List NodeId → ℕ → Faulting
+  fault_of_kind server servers kind = get_or (kinds server servers) kind slower
 
 -- One fault that starts at a time before the end: its draws in the Rust's order.
 unfoldable pub one_fault : List NodeId → ChaosConfig → SimTime → Faulting
@@ -186,27 +176,31 @@ one_fault servers config time g =
     (λ server g₂. then (draw g₂ 8)
     (λ kind. fault_of_kind time (record { 0 = min (time.0 + duration) config.end.0 }) server servers kind)))
 
--- What a schedule answers: a refusal's number, or the faults in order of time, equal times as generated, with the number of draws and the generator after them.
-pub data Chaos : Type 0 where
-  refused : ℕ → Chaos
-  made : List Timed → ℕ → Rng → Chaos
+-- What a schedule answers: a refusal, or the faults in order of time, equal times as generated, in the draws that they took.
+abbrev pub Chaos : Type 0
+Chaos = Result (Draws (List Timed)) Refusal
 
 module _ (servers : List NodeId) (config : ChaosConfig) (room : ℕ) where
   -- The end of the schedule: HealAll's place is asked for last.
   abbrev pub ended : List Timed → ℕ → Rng → Chaos
   ended schedule draws g =
       pick (ltb (length schedule) room)
-      (made (sort_by numbers (λ (t : Timed). t.time.0) (schedule ++ record { time = config.end; fault = HealAll } ∷ [])) draws g)
-      (refused 10)
+      (Ok (record {
+        result = sort_by numbers (λ (t : Timed). t.time.0) (schedule ++ record { time = config.end; fault = HealAll } ∷ []);
+        draws = draws;
+        next = g;
+      }))
+      (Err question.Room)
 
-  -- The entries of a fault are placed behind those before it, and the schedule goes on; 11 where no second server came, 10 where an entry finds no place.
+  -- The entries of a fault are placed behind those before it, and the schedule goes on; refused where no second server came, and where
+  -- an entry finds no place.
   abbrev pub placed : List Timed → Option (List Timed) → (List Timed → Chaos) → Chaos
-  placed schedule none more = refused 11
-  placed schedule (some entries) more = pick (leb (length schedule + length entries) room) (more (schedule ++ entries)) (refused 10)
+  placed schedule None more = Err question.SecondServer
+  placed schedule (Some entries) more = pick (leb (length schedule + length entries) room) (more (schedule ++ entries)) (Err question.Room)
 
   -- Faults until a gap ends at or past the end. Each turn but the last fills a place, so one turn more than the room is enough.
   unfoldable pub generate : ℕ → SimTime → List Timed → ℕ → Rng → Chaos
-  generate zero time schedule draws g = refused 10
+  generate zero time schedule draws g = Err question.Room
   generate (suc turns) time schedule draws g =
       let gap = uniform 0 (config.mean_gap.0 * 2) g in
       let start : SimTime = record { 0 = time.0 + gap.result } in
@@ -224,11 +218,12 @@ unfoldable pub times_in_range : ChaosConfig → Bool
 times_in_range config =
     leb config.start.0 (2 ^ 62) and leb config.end.0 (2 ^ 62) and leb config.mean_gap.0 (2 ^ 40) and leb config.max_duration.0 (2 ^ 40)
 
--- A random fault schedule for a list of servers, into a list with room for so many entries (chaos_schedule): questions 1, 7 and 9, then 10 and 11 in draw order.
+-- A random fault schedule for a list of servers, into a list with room for so many entries (chaos_schedule): the questions of the
+-- servers, of their ids and of the times, then those of room and of a second server in draw order.
 unfoldable pub chaos_schedule : List NodeId → ChaosConfig → ℕ → Rng → Chaos
 chaos_schedule servers config room g =
     pick (leb 1 (length servers) and leb (length servers) 8)
     (pick (known_ids servers)
-    (pick (times_in_range config) (generate servers config room (suc room) config.start [] 0 g) (refused 9))
-    (refused 7))
-    (refused 1)
+    (pick (times_in_range config) (generate servers config room (suc room) config.start [] 0 g) (Err question.Argument))
+    (Err question.UnknownServer))
+    (Err question.Servers)

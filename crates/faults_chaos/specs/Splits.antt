@@ -1,36 +1,18 @@
 -- Laws of the split of servers in two groups: groups as bits, servers drawn into them, and neither left empty. Assumes nothing.
-use Rattle.std.specs.Prelude.{◌≡◌, refl, Bool, true, false, List, [], ◌∷◌, ◌++◌, ℕ, suc, ◌+◌, ◌-◌, ◌*◌, ◌%◌, ◌^◌, ◌≤◌, ◌<◌, eqb, length, get_or, drop}
-use Rattle.std.proofs.Common.{sym, ap, ◌∙◌, add-one, arith, drop_of_length-le, pow_pos, shl_exact, drop-cons}
+use Rattle.std.specs.Prelude.{◌≡◌, refl, Bool, true, false, List, [], ◌∷◌, ◌++◌, ℕ, suc, ◌+◌, ◌-◌, ◌*◌, ◌^◌, ◌≤◌, ◌<◌, eqb, length, get_or, drop}
+use Rattle.std.proofs.Common.{sym, ap, ◌∙◌, add-one, arith, drop_of_length-le, pow_pos, drop-cons}
 use Rattle.std.specs.Int.Bits.{bit_or, or_zero_l}
-use Rattle.std.proofs.lemmas.Nat.{or_lt}
 use Rattle.std.proofs.Math.Dec.{leb}
-use Rattle.std.proofs.Math.Pow.{pow-lt}
-use borrow.Author.Tests.{eq-eqb, ne_eqb, leb-true}
+use borrow.Author.Tests.{ne_eqb, leb-true}
 use Rattle.laws.specs.Bools.{pick, pick_both, ◌and◌, and_left}
 use Rattle.laws.proofs.BoolLaws.{and_right, every_get}
 use Rattle.units.specs.declared.NodeId.{NodeId}
 use Rattle.rng.specs.Rng.{under}
 use Rattle.rng.specs.declared.Rng.{Rng}
-use Rattle.rng.specs.declared.Drawn.{Drawn}
-use Rattle.faults_chaos.specs.declared.Group.{Group}
-use Rattle.faults_chaos.specs.declared.Dealt.{Dealt}
+use Rattle.faults_chaos.specs.declared.members.Dealt.{Dealt}
 use Rattle.faults_chaos.specs.Schedule.{Groups, no_groups, groups_word, mask_from, mask_of, but_last, last_only, push, deal, both_held, split, known_ids}
 use Rattle.faults_chaos.specs.Draws.{length_ids, id_at}
-use Rattle.faults_chaos.specs.Answers.{ids_of, over, group_of, with_bit, Small, deal_one, dealt_of, held_word}
-
--- A server's bit.
-pub bit_is : (server : ℕ) → 1 ≤ server → server ≤ 8 → (1 * 2 ^ (server - 1)) % 2 ^ 64 ≡ 2 ^ (server - 1)
-bit_is server h k = shl_exact {a = 1} 1 (server - 1) 64 (omega arith) (omega arith) ∙ omega arith
-
-bit_below : (server : ℕ) → server ≤ 8 → 2 ^ (server - 1) < 256
-bit_below server h = pow-lt {i = server - 1} {j = 8} (omega arith)
-
-pub shifted_below : (server : ℕ) → 1 ≤ server → server ≤ 8 → (1 * 2 ^ (server - 1)) % 2 ^ 64 < 256
-shifted_below server h k = rw (bit_is server h k) (bit_below server k)
-
-pub with_small : (group : Group) (bit : ℕ) → Small group → bit < 256 → Small (with_bit group bit)
-unfolding with_bit
-with_small group bit s h = record { all = or_lt 8 group.all bit s.all h; before = s.all; last = h }
+use Rattle.faults_chaos.specs.Answers.{ids_of, over, group_of, with_bit, deal_one, dealt_of, held_word}
 
 -- The bits of a group with one server more.
 mask_snoc : (mask : ℕ) (servers : List NodeId) (s : NodeId) → mask_from mask (servers ++ s ∷ []) ≡ bit_or (mask_from mask servers) (2 ^ (s.0 - 1))
@@ -53,16 +35,6 @@ last_snoc (x ∷ y ∷ ys) s = last_snoc (y ∷ ys) s
 group_snoc : (servers : List NodeId) (s : NodeId) → with_bit (group_of servers) (2 ^ (s.0 - 1)) ≡ group_of (servers ++ s ∷ [])
 unfolding group_of with_bit mask_from
 group_snoc servers s = rw (mask_snoc 0 servers s, but_last_snoc, last_snoc, or_zero_l)
-
--- One server drawn into a group, from the code's steps.
-module _ (dealt : Dealt) (server : NodeId) (side : Drawn) (bit : ℕ) (group : Group) (e : side ≡ under dealt.next 2) (b : bit ≡ 2 ^ (server.0 - 1)) where
-  pub deal_first : side.value ≡ 0 → group ≡ with_bit dealt.first bit → record { first = group; second = dealt.second; next = side.next } ≡ deal_one dealt server
-  unfolding deal_one
-  deal_first h w = let h' = rw e at h in rw (w, b, e) (simp (eq-eqb _ _ h'))
-
-  pub deal_second : (side.value ≡ 0 → ⊥) → group ≡ with_bit dealt.second bit → record { first = dealt.first; second = group; next = side.next } ≡ deal_one dealt server
-  unfolding deal_one
-  deal_second h w = let h' = rw e at h in rw (w, b, e) (simp (ne_eqb _ _ h'))
 
 -- The groups that the code has, for groups of servers.
 pub record Holds (dealt : Dealt) (groups : Groups) : Type 0 where
@@ -101,9 +73,6 @@ deal_nil groups ids i g h = rw (drop_of_length-le ids {i = i} h)
 
 -- The deal after i servers: what is left of it decides the groups and the generator.
 pub record Dealing (ids : List ℕ) (g : Rng) (dealt : Dealt) (i : ℕ) : Type 0 where
-  pub upto : i ≤ length ids
-  pub first : Small dealt.first
-  pub second : Small dealt.second
   pub groups : Groups
   pub holds : Holds dealt groups
   pub rest : dealt_of (deal no_groups (ids_of ids) g) ≡ dealt_of (deal groups (ids_of (drop i ids)) dealt.next)
@@ -112,25 +81,18 @@ pub dealing_start : (ids : List ℕ) (g : Rng)
     → Dealing ids g (record { first = record { all = 0; before = 0; last = 0 }; second = record { all = 0; before = 0; last = 0 }; next = g }) 0
 unfolding group_of mask_from but_last last_only
 dealing_start ids g = record {
-  upto = omega arith;
-  first = record { all = omega arith; before = omega arith; last = omega arith };
-  second = record { all = omega arith; before = omega arith; last = omega arith };
   groups = no_groups;
   holds = record { first = refl; second = refl };
   rest = refl;
 }
 
 module _ (ids : List ℕ) (g : Rng) (dealt : Dealt) (i : ℕ) (d : Dealing ids g dealt i) where
-  pub dealing_next : (next : Dealt) → i < length ids → next ≡ deal_one dealt (record { 0 = get_or ids i 0 }) → Small next.first → Small next.second
-      → Dealing ids g next (i + 1)
-  dealing_next next h e s₁ s₂ =
+  pub dealing_next : (next : Dealt) → i < length ids → next ≡ deal_one dealt (record { 0 = get_or ids i 0 }) → Dealing ids g next (i + 1)
+  dealing_next next h e =
       let s : NodeId = record { 0 = get_or ids i 0 } in
       let groups = push (under dealt.next 2).value s d.groups in
       let moved : next.next ≡ (under dealt.next 2).next = ap (λ (x : Dealt). x.next) e ∙ one_next dealt s in
       record {
-        upto = omega arith;
-        first = s₁;
-        second = s₂;
         groups = groups;
         holds = rw e (holds_one dealt d.groups s d.holds);
         rest = d.rest ∙ deal_cons d.groups ids i dealt.next h ∙ ap (λ (r : Rng). dealt_of (deal groups (ids_of (drop (i + 1) ids)) r)) (sym moved);
@@ -140,7 +102,7 @@ module _ (ids : List ℕ) (g : Rng) (dealt : Dealt) (i : ℕ) (d : Dealing ids g
   dealing_done h = sym (d.rest ∙ deal_nil d.groups ids i dealt.next h ∙ rw (← d.holds.first, ← d.holds.second))
 
 -- A listed id is a server's.
-module _ (ids : List ℕ) (i : ℕ) (k : known_ids (ids_of ids) ≡ true) (h : i < length ids) where
+module _ (ids : List ℕ) (k : known_ids (ids_of ids) ≡ true) (i : ℕ) (h : i < length ids) where
   known : (leb 1 (get_or ids i 0) and leb (get_or ids i 0) 8) ≡ true
   unfolding known_ids
   known = rw (id_at ids i) at (every_get (λ (s : NodeId). leb 1 s.0 and leb s.0 8) (ids_of ids) i (record { 0 = 0 }) (rw (length_ids ids) h) k)
@@ -150,20 +112,6 @@ module _ (ids : List ℕ) (i : ℕ) (k : known_ids (ids_of ids) ≡ true) (h : i
 
   pub known_high : get_or ids i 0 ≤ 8
   known_high = leb-true (get_or ids i 0) 8 (and_right _ _ known)
-
--- The word of two groups, from the code's steps.
-module _ (first second : Group) where
-  pub held_second : first.last ≡ 0 → second.last + 256 * second.before ≡ held_word first second
-  unfolding held_word
-  held_second h = simp (eq-eqb _ _ h)
-
-  pub held_first : (first.last ≡ 0 → ⊥) → second.last ≡ 0 → first.before + 256 * first.last ≡ held_word first second
-  unfolding held_word
-  held_first h k = simp (ne_eqb _ _ h, eq-eqb _ _ k)
-
-  pub held_both : (first.last ≡ 0 → ⊥) → (second.last ≡ 0 → ⊥) → first.all + 256 * second.all ≡ held_word first second
-  unfolding held_word
-  held_both h k = simp (ne_eqb _ _ h, ne_eqb _ _ k)
 
 -- A group is empty just where its last server has no bit.
 last_zero : (servers : List NodeId) → eqb (mask_of (last_only servers)) 0 ≡ eqb (length servers) 0
@@ -202,5 +150,3 @@ split_is ids g dealt word e h =
     rw (h, e, n, held_is d.result)
 
 pub ruleset dealing = (dealing_start, dealing_next, dealing_done, known_low, known_high)
-
-pub ruleset holding = (held_second, held_first, held_both)

@@ -16,29 +16,23 @@ use Rattle.layout.specs.Tables.{Table, Held, Becomes, opened}
 use Rattle.layout.specs.Order.{last_place, one, heads}
 use Rattle.layout.specs.SortedTables.{Queued, queued_push}
 use Rattle.layout.specs.TableLaws.{held_rows, held_rule}
-use Rattle.faults.specs.Fault.{fault_kind, fault_first, fault_second}
 use Rattle.faults_chaos.specs.declared.Timed.{Timed}
 use Rattle.faults_chaos.specs.declared.Entries.{Entries}
-use Rattle.faults_chaos.specs.declared.Entries.TheVariants.{NoSecondServer, One, Two}
-use Rattle.faults_chaos.specs.Answers.{count_of}
-use Rattle.faults_chaos.specs.Plans.{list_of}
+use Rattle.faults_chaos.specs.declared.Entries.TheVariants.{One, Two}
+use Rattle.faults_chaos.specs.Answers.{count_of, list_of}
 use Rattle.faults_schedule.specs.declared.Listed.{Listed}
-use Rattle.faults_schedule.specs.Listed.{time_of, schedule, numbers_of, push, push_each, Extends, Places}
+use Rattle.faults_schedule.specs.Listed.{time_of, schedule, row_of, push, push_each, Extends, Places}
 
 queued : Queued schedule numbers time_of one
 unfolding one
 queued = record { rule = λ x. refl; read = λ ws. refl }
 
-pub numbers_are : (t : Timed) (k f s : ℕ) → k ≡ fault_kind t.fault → f ≡ fault_first t.fault → s ≡ fault_second t.fault
-    → ◌≡◌ {A = Listed} (record { time = t.time; kind = k; first = f; second = s }) (numbers_of t)
-numbers_are t k f s ek ef es i = record { time = t.time; kind = ek i; first = ef i; second = es i }
-
 -- the words of a row
 abbrev pub words_of : Listed → List ℕ
-words_of l = l.time.0 ∷ l.kind ∷ l.first ∷ l.second ∷ []
+words_of l = l.time.0 ∷ l.fault.kind ∷ l.fault.first ∷ l.fault.second ∷ []
 
-pub pushed : (entry : Timed) (l : Listed) (n i : ℕ) (b b₁ b₂ : List ℕ) → 32 * (n + 1) ≤ length b → l ≡ numbers_of entry
-    → Fits w64 l.time.0 → Fits w64 l.kind → Fits w64 l.first → Fits w64 l.second
+pub pushed : (entry : Timed) (l : Listed) (n i : ℕ) (b b₁ b₂ : List ℕ) → 32 * (n + 1) ≤ length b → l ≡ row_of entry
+    → Fits w64 l.time.0 → Fits w64 l.fault.kind → Fits w64 l.fault.first → Fits w64 l.fault.second
     → i ≡ last_place numbers l.time.0 (heads one 4 n (W b)) → i ≤ n → b₁ ≡ opened 4 n i b → b₂ ≡ sets b₁ (8 * (i * 4)) (bytes (words_of l))
     → Becomes schedule n (n + 1) b b₂ (push entry)
 unfolding push
@@ -129,10 +123,6 @@ extends_then {n} {m} {k} {b} {b₁} {b₂} {f} {g} h p q =
 
 -- the entries of a fault: room for each, and what they make of the list
 module _ (e : Entries) (n : ℕ) (b : List ℕ) where
-  pub no_entry : e ≡ NoSecondServer → Places e n n b b
-  unfolding list_of push_each
-  no_entry h = record { count = rw h (omega arith); to = rw h (record { to = λ x k. k; behind = refl; long = refl }) }
-
   module _ (r : 32 * (n + count_of e) ≤ length b) where
     room_after : {v : Entries} → e ≡ v → 32 * (n + count_of v) ≤ length b
     room_after h = subst (λ (v : Entries). 32 * (n + count_of v) ≤ length b) h r
@@ -163,4 +153,4 @@ module _ (e : Entries) (n : ℕ) (b : List ℕ) where
                 (omega arith) p q));
           }
 
-pub ruleset entries = (no_entry, one_room, one_entry, first_room, second_room, two_entries)
+pub ruleset entries = (one_room, one_entry, first_room, second_room, two_entries)

@@ -1,11 +1,10 @@
 -- The list of a schedule as a table: rows of 4 words, in order of their times, equal times in the order of their pushes. Assumes nothing.
 use Rattle.std.specs.Prelude.{◌≡◌, refl, List, [], ◌∷◌, map, ℕ, ◌+◌, ◌*◌, length, take, drop}
 use Rattle.laws.specs.Order.{numbers, sorted, push_by}
-use Rattle.faults.specs.Fault.{fault_kind, fault_first, fault_second}
+use Rattle.faults.specs.Fault.{numbers_of}
 use Rattle.faults_chaos.specs.declared.Timed.{Timed}
 use Rattle.faults_chaos.specs.declared.Entries.{Entries}
-use Rattle.faults_chaos.specs.Answers.{count_of}
-use Rattle.faults_chaos.specs.Plans.{list_of}
+use Rattle.faults_chaos.specs.Answers.{count_of, list_of}
 use Rattle.layout.specs.Code.{Code, word, pair, iso}
 use Rattle.layout.specs.Tables.{Table, Held}
 use Rattle.faults_schedule.specs.declared.Listed.{Listed}
@@ -16,10 +15,10 @@ Four = ℕ × (ℕ × (ℕ × ℕ))
 
 -- A row of numbers, and the numbers of a row.
 abbrev pub from_four : Four → Listed
-from_four x = record { time = record { 0 = x.0 }; kind = x.1.0; first = x.1.1.0; second = x.1.1.1 }
+from_four x = record { time = record { 0 = x.0 }; fault = record { kind = x.1.0; first = x.1.1.0; second = x.1.1.1 } }
 
 abbrev pub to_four : Listed → Four
-to_four l = (l.time.0, (l.kind, (l.first, l.second)))
+to_four l = (l.time.0, (l.fault.kind, (l.fault.first, l.fault.second)))
 
 -- How they lie in words.
 abbrev pub listed_row : Code Listed
@@ -33,13 +32,13 @@ time_of l = l.time.0
 abbrev pub schedule : Table Listed
 schedule = record { row = listed_row; rule = λ x. sorted numbers (map time_of x) }
 
--- A scheduled fault as its numbers.
-abbrev pub numbers_of : Timed → Listed
-numbers_of t = record { time = t.time; kind = fault_kind t.fault; first = fault_first t.fault; second = fault_second t.fault }
+-- The row of a scheduled fault: its time and its numbers.
+abbrev pub row_of : Timed → Listed
+row_of t = record { time = t.time; fault = numbers_of t.fault }
 
 -- One scheduled fault more, behind the rows that are not later.
 unfoldable pub push : Timed → List Listed → List Listed
-push t x = push_by numbers time_of (numbers_of t) x
+push t x = push_by numbers time_of (row_of t) x
 
 -- Scheduled faults more, one after another.
 unfoldable pub push_each : List Timed → List Listed → List Listed

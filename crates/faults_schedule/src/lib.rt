@@ -6,49 +6,38 @@ ghost use Rattle.std.specs.Prelude.{◌≡◌, ◌+◌, ◌*◌, ◌/◌, ◌≤
 ghost use Rattle.faults_chaos.specs.Schedule.{chaos_schedule};
 ghost use Rattle.faults_chaos.specs.Answers.{ids_of, count_of};
 ghost use Rattle.layout.specs.Tables.{Becomes};
-ghost use Rattle.faults_schedule.specs.Listed.{numbers_of, schedule, push, Extends, Places};
+ghost use Rattle.faults_schedule.specs.Listed.{row_of, schedule, push, Extends, Places};
 ghost use Rattle.faults_schedule.specs.Schedules.{Accepted, list_after, Schedules};
 
-use faults::Fault;
-use faults_chaos::{ChaosConfig, Entries, Planned, Timed};
+use faults::{Fault, FaultNumbers};
+use faults_chaos::{ChaosConfig, Entries, Servers, Timed};
 use layout::rows;
 use rng::Rng;
+use units::refusal::Refusal;
 use units::{Duration, SimTime};
 
 // A fault of the list: its time and its numbers.
 #[derive(Clone, Copy)]
 struct Listed {
     time: SimTime,
-    kind: u64,
-    first: u64,
-    second: u64,
+    fault: FaultNumbers,
 }
 
-// A schedule's answer: the number of a refusal (1, 7, 9, 10 or 11), or how many entries were written and how many draws were made.
+// A schedule that is written: how many entries it has, and how many draws were made.
 #[derive(Clone, Copy)]
-pub enum Scheduled {
-    Refused(u64),
-    Made { count: u64, draws: u64 },
+pub struct Made {
+    pub count: u64,
+    pub draws: u64,
 }
 
-// A schedule's answer, and the generator after it.
-#[derive(Clone, Copy)]
-pub struct DrawnSchedule {
-    pub value: Scheduled,
-    pub next: Rng,
-}
+impl From<Timed> for Listed {
+    ghost from_gives = { λ entry row. row ≡ row_of entry };
 
-// A scheduled fault as its numbers.
-fn numbers(entry: Timed) -> Listed
-    ensures { result ≡ numbers_of entry }
-{
-    let time = entry.time;
-    let fault = entry.fault;
-    Listed {
-        time,
-        kind: faults::fault_kind(fault),
-        first: faults::fault_first(fault),
-        second: faults::fault_second(fault),
+    fn from(entry: Timed) -> Listed {
+        Listed {
+            time: entry.time,
+            fault: FaultNumbers::from(entry.fault),
+        }
     }
 }
 
@@ -57,10 +46,15 @@ fn push(list: &mut [u8], n: usize, entry: Timed)
     requires { 32 * (n + 1) ≤ length list.old }
     ensures { Becomes schedule n (n + 1) list.old list.new (push entry) }
 {
-    let row = numbers(entry);
-    let i = rows::last_place1(list, n, 4, row.time.0);
+    let row = Listed::from(entry);
+    let fault = row.fault;
+    let i = rows::last_place(list, n, 4, row.time.0);
     rows::open_row(list, n, i, 4);
-    words::store_all(list, i * 4, &[row.time.0, row.kind, row.first, row.second]);
+    words::store_all(
+        list,
+        i * 4,
+        &[row.time.0, fault.kind, fault.first, fault.second],
+    );
 }
 
 // One scheduled fault more among the first n of a list; what lies behind its place stays.
@@ -80,7 +74,6 @@ fn push_entries(list: &mut [u8], n: usize, entries: Entries) -> usize
     ensures { Places entries n result list.old list.new }
 {
     match entries {
-        Entries::NoSecondServer => n,
         Entries::One(entry) => {
             place(list, n, entry);
             n + 1
@@ -94,81 +87,55 @@ fn push_entries(list: &mut [u8], n: usize, entries: Entries) -> usize
 }
 
 // Draws a schedule again that was not refused, and writes it into the list.
-fn write(servers: &[u8], config: ChaosConfig, list: &mut [u8], g: Rng)
-    requires { Accepted (chaos_schedule (ids_of servers.now) config (length list.old / 32) g) }
+fn write(servers: Servers, config: ChaosConfig, list: &mut [u8], g: Rng)
+    requires { Accepted (chaos_schedule (ids_of servers.ids.now) config (length list.old / 32) g) }
     ensures { list.new ≡ list_after
-        (chaos_schedule (ids_of servers.now) config (length list.old / 32) g) list.old }
+        (chaos_schedule (ids_of servers.entry.ids.now) config (length list.old / 32) g) list.old }
 {
-    let end = config.end.0;
+    let end = config.end;
     let gaps = Duration(config.mean_gap.0 * 2);
     let mut time = config.start;
     let mut count: usize = 0;
     let mut next = g;
     loop {
         let gap = faults_chaos::uniform(next, Duration(0), gaps);
-        let start = SimTime(time.0 + gap.duration.0);
-        let drawn = gap.next;
-        if end <= start.0 {
+        let start = SimTime(time.0 + gap.result.0);
+        if end <= start {
             let healed = Timed {
-                time: SimTime(end),
+                time: end,
                 fault: Fault::HealAll,
             };
             place(list, count, healed);
             return;
         }
-        let fault = faults_chaos::one_fault(servers, config, start, drawn);
-        let entries = fault.entries;
-        count = push_entries(list, count, entries);
+        let fault = faults_chaos::one_fault(servers, config, start, gap.next);
+        count = push_entries(list, count, fault.result.unwrap());
         next = fault.next;
         time = start;
     }
 }
 
-// A random fault schedule for a list of servers, written into a lent list; refused, the list and the generator are as they were.
-pub fn drawn_schedule(servers: &[u8], config: ChaosConfig, list: &mut [u8], g: Rng) -> DrawnSchedule
-    ensures { Schedules
-        (chaos_schedule (ids_of servers.now) config (length list.old / 32) g)
-        result.value
-        list.old list.new
-        g result.next }
-{
-    let room = (list.len() / 32) as u64;
-    let plan = faults_chaos::chaos_plan(servers, config, room, g);
-    let Planned::Made {
-        entries,
-        draws,
-        next,
-    } = plan
-    else {
-        return DrawnSchedule {
-            value: Scheduled::Refused(plan.number()),
-            next: g,
-        };
-    };
-    write(servers, config, list, g);
-    DrawnSchedule {
-        value: Scheduled::Made {
-            count: entries,
-            draws,
-        },
-        next,
-    }
-}
-
-// The same with a lent generator, which moves by the schedule's draws.
+// A random fault schedule for a list of servers, written into a lent list, with a lent generator, which moves by the schedule's draws;
+// refused, the list and the generator are as they were.
 pub fn chaos_schedule(
-    servers: &[u8],
+    ids: &[u8],
     config: ChaosConfig,
     list: &mut [u8],
     rng: &mut Rng,
-) -> Scheduled
+) -> Result<Made, Refusal>
     ensures { Schedules
-        (chaos_schedule (ids_of servers.now) config (length list.old / 32) rng.old)
+        (chaos_schedule (ids_of ids.now) config (length list.old / 32) rng.old)
         result
         list.old list.new
         rng.old rng.new }
 {
-    let drawn = drawn_schedule(servers, config, list, *rng);
-    *rng = drawn.next;
-    drawn.value
+    let room = (list.len() / 32) as u64;
+    let g = *rng;
+    let plan = faults_chaos::chaos_plan(ids, config, room, g)?;
+    write(Servers { ids }, config, list, g);
+    *rng = plan.next;
+    Ok(Made {
+        count: plan.result,
+        draws: plan.draws,
+    })
 }

@@ -1,10 +1,9 @@
 -- Elements by place, and what holds of each element, by its place, and how it is kept as the list changes. Assumes nothing.
-use Rattle.std.specs.Prelude.{◌≡◌, Bool, length, get_or, drop}
+use Rattle.std.specs.Prelude.{◌≡◌, Bool, length, get_or, drop, None, Some}
 use Rattle.std.proofs.Math.Path.{refl, subst}
 use Rattle.std.proofs.Common.{sym, ap, ◌∙◌, add-one, arith, drop-cons}
 use Rattle.std.proofs.Math.Bool.{true, false}
 use mathlib.Core.List.{List, [], ◌∷◌, ◌++◌}
-use Rattle.std.proofs.Math.Option.{none, some}
 use Prim.Native.Nat.{ℕ, zero, suc, ◌+◌, ◌≤◌, ◌<◌}
 use Rattle.laws.specs.Bools.{pick}
 use Rattle.laws.specs.Decides.{false_true}
@@ -14,13 +13,13 @@ use Rattle.laws.specs.Order.{Order, push_by}
 -- ---- the element at a place
 
 module _ {A : Type 0} where
-  pub at_there : (x : List A) (i : ℕ) (d : A) → i < length x → at x i ≡ some (get_or x i d)
+  pub at_there : (x : List A) (i : ℕ) (d : A) → i < length x → at x i ≡ Some (get_or x i d)
   unfolding at
   at_there [] i d h = absurd (omega arith)
   at_there (a ∷ x) zero d h = refl
   at_there (a ∷ x) (suc i) d h = at_there x i d (omega arith)
 
-  pub at_none : (x : List A) (i : ℕ) → length x ≤ i → at x i ≡ none
+  pub at_none : (x : List A) (i : ℕ) → length x ≤ i → at x i ≡ None
   unfolding at
   at_none [] i h = refl
   at_none (a ∷ x) zero h = absurd (omega arith)
@@ -50,7 +49,7 @@ module _ {A : Type 0} where
   each_get P (x ∷ xs) h zero d l = h.0
   each_get P (x ∷ xs) h (suc i) d l = each_get (λ i. P (suc i)) xs h.1 i d (omega arith)
 
-  pub each_at : (P : ℕ → A → Type 0) (xs : List A) → Each P xs → (i : ℕ) (x : A) → at xs i ≡ some x → P i x
+  pub each_at : (P : ℕ → A → Type 0) (xs : List A) → Each P xs → (i : ℕ) (x : A) → at xs i ≡ Some x → P i x
   unfolding at
   each_at P [] h i x e = absurd (false_true (ap is_some e))
   each_at P (y ∷ xs) h zero x e = subst (P zero) (cc) h.0

@@ -1,7 +1,8 @@
 -- Lists by place. Assumes nothing.
-use Rattle.std.specs.Prelude.{Bool, true, false, List, [], ◌∷◌, ℕ, zero, suc, eqb}
-use Rattle.std.proofs.Math.Option.{Option, none, some}
+use Rattle.std.specs.Prelude.{Bool, true, false, List, [], ◌∷◌, ℕ, zero, suc, eqb, Option, None, Some}
+pub use Rattle.std.specs.Prelude.{is_some}
 use Rattle.laws.specs.Bools.{◌and◌}
+pub use Rattle.std.specs.Option.{is_some}
 
 -- the element at place i changed by f
 unfoldable pub modify : {A : Type 0} → ℕ → (A → A) → List A → List A
@@ -14,15 +15,10 @@ unfoldable pub list_from : {A : Type 0} → ℕ → ℕ → (ℕ → A) → List
 list_from i zero f = []
 list_from i (suc n) f = f i ∷ list_from (suc i) n f
 
--- whether an option holds something
-abbrev pub is_some : {A : Type 0} → Option A → Bool
-is_some none = false
-is_some (some a) = true
-
 -- the element at place i, if there is one
 unfoldable pub at : {A : Type 0} → List A → ℕ → Option A
-at [] i = none
-at (x ∷ xs) zero = some x
+at [] i = None
+at (x ∷ xs) zero = Some x
 at (x ∷ xs) (suc i) = at xs i
 
 -- whether two lists of numbers are equal

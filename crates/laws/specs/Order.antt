@@ -1,7 +1,6 @@
 -- Orders on keys, and lists in order: sets and maps as lists whose keys rise, and lists in which equal keys stand in order of arrival. Assumes nothing.
-use Rattle.std.specs.Prelude.{◌≡◌, refl, Bool, true, false, not, List, [], ◌∷◌, ◌⊎◌, ℕ, ltb}
+use Rattle.std.specs.Prelude.{◌≡◌, refl, Bool, true, false, not, List, [], ◌∷◌, ◌⊎◌, ℕ, ltb, Option, None, Some}
 use Rattle.std.proofs.Common.{sym, subst, ◌∙◌, inl, inr, ⊎_elim, arith, ltb-true, ltb-false, lt-ltb, le-ltb}
-use Rattle.std.proofs.Math.Option.{Option, none, some}
 use Rattle.laws.specs.Bools.{pick, ◌and◌}
 use Rattle.laws.specs.Decides.{false_true}
 
@@ -132,5 +131,5 @@ sort_by O key rows = push_all O key rows []
 
 -- The row of key k among rows that rise, if there is one.
 unfoldable pub lookup : {K T : Type 0} → Order K → (T → K) → K → List T → Option T
-lookup O key k [] = none
-lookup O key k (b ∷ x) = pick (O.before (key b) k) (lookup O key k x) (pick (O.before k (key b)) none (some b))
+lookup O key k [] = None
+lookup O key k (b ∷ x) = pick (O.before (key b) k) (lookup O key k x) (pick (O.before k (key b)) None (Some b))

@@ -1,9 +1,8 @@
 -- What a row put into a list in order, pushed into it or taken out of it makes of its length. Assumes nothing.
-use Rattle.std.specs.Prelude.{◌≡◌, Bool}
+use Rattle.std.specs.Prelude.{◌≡◌, Bool, Option, None, Some}
 use Rattle.std.proofs.Math.Path.{refl, ap}
 use Rattle.std.proofs.Math.Bool.{true, false}
 use mathlib.Core.List.{List, [], ◌∷◌}
-use Rattle.std.proofs.Math.Option.{Option, none, some}
 use Prim.Native.Nat.{suc, ◌+◌, ◌≤◌}
 use native.Mathlib.Omega.{arith}
 use Rattle.std.proofs.Math.ListN.{length}
@@ -19,9 +18,9 @@ module _ {K T : Type 0} (O : Order K) (key : T → K) where
   length_insert a (b ∷ x) = by (O.before (key b) (key a)) (O.before (key a) (key b)) (lookup O key (key a) x) (length_insert a x)
     where
       by : (s t : Bool) (o : Option T) → length (insert_by O key a x) ≡ pick (is_some o) (length x) (length x + 1)
-          → length (pick s (b ∷ insert_by O key a x) (pick t (a ∷ b ∷ x) (b ∷ x))) ≡ pick (is_some (pick s o (pick t none (some b)))) (length (b ∷ x)) (length (b ∷ x) + 1)
-      by true t none h = omega (arith, h)
-      by true t (some c) h = ap suc h
+          → length (pick s (b ∷ insert_by O key a x) (pick t (a ∷ b ∷ x) (b ∷ x))) ≡ pick (is_some (pick s o (pick t None (Some b)))) (length (b ∷ x)) (length (b ∷ x) + 1)
+      by true t None h = omega (arith, h)
+      by true t (Some c) h = ap suc h
       by false true o h = omega arith
       by false false o h = refl
 
@@ -56,9 +55,9 @@ module _ {K T : Type 0} (O : Order K) (key : T → K) where
   length_remove k (b ∷ x) = by (O.before (key b) k) (O.before k (key b)) (lookup O key k x) (length_remove k x)
     where
       by : (s t : Bool) (o : Option T) → length (remove_by O key k x) + pick (is_some o) 1 0 ≡ length x
-          → length (pick s (b ∷ remove_by O key k x) (pick t (b ∷ x) x)) + pick (is_some (pick s o (pick t none (some b)))) 1 0 ≡ length (b ∷ x)
-      by true t none h = omega (arith, h)
-      by true t (some c) h = omega (arith, h)
+          → length (pick s (b ∷ remove_by O key k x) (pick t (b ∷ x) x)) + pick (is_some (pick s o (pick t None (Some b)))) 1 0 ≡ length (b ∷ x)
+      by true t None h = omega (arith, h)
+      by true t (Some c) h = omega (arith, h)
       by false true o h = omega arith
       by false false o h = omega arith
 

@@ -1,6 +1,5 @@
 -- What the proofs of applied.rt cite. Assumes nothing.
 use Rattle.std.specs.Prelude.{refl, List, ℕ, ◌+◌, ◌*◌, ◌≤◌, length}
-use Rattle.std.proofs.Common.{arith}
 use Rattle.words.specs.Words.{Bytes}
 use Rattle.units.specs.Types.{Payload, payload_of}
 use Rattle.layout.specs.Tables.{Becomes, append}

@@ -1,9 +1,8 @@
 -- Codes: how a value of a type lies in 64-bit words, with the test that words are such a content. The laws are proved once for each way to
 -- put codes together; the code of a state is built from them and brings its laws with it. They speak of words that BEGIN with a content
 -- (`enc x ++ r`), so that codes are put side by side with no cutting. Assumes nothing.
-use Rattle.std.specs.Prelude.{◌≡◌, refl, Bool, true, false, List, [], ◌∷◌, ◌++◌, ℕ, zero, suc, ◌+◌, ◌*◌, ◌-◌, ◌^◌, ◌≤◌, ◌<◌, leb, ltb, eqb, length, take, drop, get_or, replicate}
+use Rattle.std.specs.Prelude.{◌≡◌, refl, Bool, true, false, List, [], ◌∷◌, ◌++◌, ℕ, zero, suc, ◌+◌, ◌*◌, ◌-◌, ◌^◌, ◌≤◌, ◌<◌, leb, ltb, eqb, length, take, drop, get_or, replicate, Option, None, Some}
 use Rattle.std.proofs.Common.{sym, ap, ◌∙◌, append_assoc, zero-mul, suc-mul, add_comm, arith, length-append, length-drop, take-append-drop, take_at, drop_at, drop-drop, length-take-le, leb-true, le-leb, ltb-true, lt-ltb, eqb-true, eq-eqb, ne_eqb}
-use Rattle.std.proofs.Math.Option.{Option, none, some}
 use Rattle.std.proofs.lemmas.List.{length-replicate}
 use Rattle.laws.specs.Bools.{pick, ◌and◌, and_left, every}
 use Rattle.laws.proofs.BoolLaws.{and_right, and_both}
@@ -197,13 +196,13 @@ module _ {A : Type 0} (a : Code A) (ok' : List ℕ → Bool) (parse' : List ℕ 
 module _ {A : Type 0} (a : Code A) where
   -- The words of a place: zeros where it is empty.
   abbrev pub enc_o : Option A → List ℕ
-  enc_o none = zeros a.size
-  enc_o (some x) = a.enc x
+  enc_o None = zeros a.size
+  enc_o (Some x) = a.enc x
 
   -- The places that have a content.
   abbrev pub good_o : Option A → Bool
-  good_o none = true
-  good_o (some x) = a.good x
+  good_o None = true
+  good_o (Some x) = a.good x
 
   -- Whether words begin with a place: a first word of 0 says that it is empty.
   abbrev pub ok_o : List ℕ → Bool
@@ -211,15 +210,15 @@ module _ {A : Type 0} (a : Code A) where
 
   -- The place that words begin with.
   abbrev pub parse_o : List ℕ → Option A
-  parse_o ws = pick (eqb (get_or ws 0 0) 0) none (some (a.parse ws))
+  parse_o ws = pick (eqb (get_or ws 0 0) 0) None (Some (a.parse ws))
 
   pub size_enc_o : (x : Option A) → good_o x ≡ true → length (enc_o x) ≡ a.size
-  size_enc_o none h = length-replicate a.size zero
-  size_enc_o (some x) h = a.size_enc x h
+  size_enc_o None h = length-replicate a.size zero
+  size_enc_o (Some x) h = a.size_enc x h
 
   pub fit_enc_o : (x : Option A) → good_o x ≡ true → Fit (enc_o x)
-  fit_enc_o none h = each_zeros a.size
-  fit_enc_o (some x) h = a.fit_enc x h
+  fit_enc_o None h = each_zeros a.size
+  fit_enc_o (Some x) h = a.fit_enc x h
 
   module _ (some_size : 0 < a.size) (marked : (x : A) (r : List ℕ) → a.good x ≡ true → 0 < get_or (a.enc x ++ r) 0 0) where
     zero_first : (n : ℕ) (r : List ℕ) → 0 < n → get_or (zeros n ++ r) 0 0 ≡ 0
@@ -227,28 +226,28 @@ module _ {A : Type 0} (a : Code A) where
     zero_first (suc n) r h = refl
 
     pub ok_enc_o : (x : Option A) (r : List ℕ) → good_o x ≡ true → ok_o (enc_o x ++ r) ≡ true
-    ok_enc_o none r h = rw (eq-eqb _ 0 (zero_first a.size r some_size)) (zeros_ok a.size r)
-    ok_enc_o (some x) r h =
+    ok_enc_o None r h = rw (eq-eqb _ 0 (zero_first a.size r some_size)) (zeros_ok a.size r)
+    ok_enc_o (Some x) r h =
         let m : 0 < get_or (a.enc x ++ r) 0 0 = marked x r h in
         rw (ne_eqb (get_or (a.enc x ++ r) 0 0) 0 (omega arith)) (a.ok_enc x r h)
 
     pub parse_enc_o : (x : Option A) (r : List ℕ) → good_o x ≡ true → parse_o (enc_o x ++ r) ≡ x
-    parse_enc_o none r h = rw (eq-eqb _ 0 (zero_first a.size r some_size))
-    parse_enc_o (some x) r h =
+    parse_enc_o None r h = rw (eq-eqb _ 0 (zero_first a.size r some_size))
+    parse_enc_o (Some x) r h =
         let m : 0 < get_or (a.enc x ++ r) 0 0 = marked x r h in
         rw (ne_eqb (get_or (a.enc x ++ r) 0 0) 0 (omega arith), a.parse_enc x r h)
 
     pub enc_parse_o : (ws : List ℕ) → Fit ws → a.size ≤ length ws → ok_o ws ≡ true → enc_o (parse_o ws) ++ drop a.size ws ≡ ws
     enc_parse_o ws f h k = by (eqb (get_or ws 0 0) 0) k
       where
-        by : (b : Bool) → pick b (allz (take a.size ws)) (a.ok ws) ≡ true → enc_o (pick b none (some (a.parse ws))) ++ drop a.size ws ≡ ws
+        by : (b : Bool) → pick b (allz (take a.size ws)) (a.ok ws) ≡ true → enc_o (pick b None (Some (a.parse ws))) ++ drop a.size ws ≡ ws
         by true k = zeros_back a.size ws h k
         by false k = a.enc_parse ws f h k
 
     pub good_parse_o : (ws : List ℕ) → Fit ws → a.size ≤ length ws → ok_o ws ≡ true → good_o (parse_o ws) ≡ true
     good_parse_o ws f h k = by (eqb (get_or ws 0 0) 0) k
       where
-        by : (b : Bool) → pick b (allz (take a.size ws)) (a.ok ws) ≡ true → good_o (pick b none (some (a.parse ws))) ≡ true
+        by : (b : Bool) → pick b (allz (take a.size ws)) (a.ok ws) ≡ true → good_o (pick b None (Some (a.parse ws))) ≡ true
         by true k = refl
         by false k = a.good_parse ws f h k
 

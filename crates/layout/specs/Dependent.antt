@@ -1,10 +1,9 @@
 -- Two more ways to make codes: a second code that depends on the first value (a table whose count stands elsewhere), and a code of values told by
 -- others where what is not stored follows from a content being good. Assumes nothing.
-use Rattle.std.specs.Prelude.{◌≡◌, refl, Bool, true, List, [], ◌∷◌, ◌++◌, ℕ, ◌+◌, ◌≤◌, length, drop}
-use Rattle.std.proofs.Common.{sym, ap, ap₂, subst, ◌∙◌, append_assoc, arith, length-append, length-drop, drop_at, drop-drop}
-use Rattle.laws.specs.Bools.{◌and◌, and_left, every}
+use Rattle.std.specs.Prelude.{◌≡◌, Bool, true, List, ◌++◌, ℕ, ◌+◌, ◌≤◌, length, drop}
+use Rattle.std.proofs.Common.{sym, ap, ap₂, ◌∙◌, append_assoc, arith, length-append, length-drop, drop_at, drop-drop}
+use Rattle.laws.specs.Bools.{◌and◌, and_left}
 use Rattle.laws.proofs.BoolLaws.{and_right, and_both}
-use Rattle.words.specs.Words.{Fit}
 use Rattle.words.specs.Numbers.{each_append, each_drop}
 use Rattle.layout.specs.Code.{Code}
 

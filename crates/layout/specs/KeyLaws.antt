@@ -1,5 +1,5 @@
 -- What the proofs of keys.rt cite. Assumes nothing.
-use Rattle.std.specs.Prelude.{◌≡◌, refl, Bool, false, List, [], ◌∷◌, ℕ, ◌+◌, ◌-◌, ◌*◌, ◌^◌, ◌≤◌, ◌<◌, leb, ltb, length, get_or, drop}
+use Rattle.std.specs.Prelude.{◌≡◌, refl, Bool, false, List, [], ◌∷◌, ℕ, ◌+◌, ◌-◌, ◌*◌, ◌^◌, ◌≤◌, ◌<◌, leb, ltb, length, get_or, drop, Result, Ok, Err}
 use Rattle.std.proofs.Common.{sym, ap, ◌∙◌, add-zero, arith, get_or-drop, Fits, lt-ltb, le-ltb, le-leb}
 use Rattle.std.proofs.lemmas.List.Edits.{sets}
 use Rattle.std.specs.Int.{w64}
@@ -9,9 +9,7 @@ use Rattle.laws.proofs.BoolLaws.{and_both, and_no}
 use Rattle.laws.specs.Order.{pairs, rising}
 use Rattle.words.specs.Words.{bytes, W}
 use Rattle.client.specs.declared.ClientKey.{ClientKey}
-use Rattle.layout.specs.declared.rows.Found.{Found}
-use Rattle.layout.specs.declared.rows.Found.TheVariants.{At, Absent}
-use Rattle.layout.specs.declared.keys.Inserting.TheVariants.{Inserted, Full}
+use Rattle.layout.specs.declared.keys.Full.{Full}
 use Rattle.layout.specs.Code.{ok_n}
 use Rattle.layout.specs.Tables.{opened, removed, rows_in}
 use Rattle.layout.specs.TableLaws.{Rowed, rowed_start, rowed_turn, rowed_fail, rowed_done}
@@ -42,24 +40,24 @@ told_room m room h = rw (le-leb m room h) refl
 told_full : (m room : ℕ) → room < m → ◌≡◌ {A = ℕ} 10 (pick (leb m room) 0 10)
 told_full m room h = rw (lt-leb m room h) refl
 
-module _ (n : ℕ) (b : List ℕ) (k : ClientKey) (f : Found) (e : f ≡ find pairs (k.client, k.seq) (heads two 2 n (W b))) (i : ℕ) where
-  pub key_there : (room : ℕ) → n ≤ room → f ≡ At i → Inserts k n room (Inserted n) b b
+module _ (n : ℕ) (b : List ℕ) (k : ClientKey) (f : Result ℕ ℕ) (e : f ≡ find pairs (k.client, k.seq) (heads two 2 n (W b))) (i : ℕ) where
+  pub key_there : (room : ℕ) → n ≤ room → f ≡ Ok i → Inserts k n room (Ok n) b b
   key_there room l t = record {
     told = λ c N x h. told_room _ room (let m = keyed_known (keyed c) n b k f e h i t in omega arith);
     to = λ z c h. keyed_inserted (keyed c) n b k f e i t;
     kept = λ z. absurd (omega arith);
   }
 
-  pub key_full : (room : ℕ) → f ≡ Absent i → room ≤ n → Inserts k n room Full b b
-  key_full room t l = record {
+  pub key_full : (room : ℕ) (full : Full) → f ≡ Err i → room ≤ n → Inserts k n room (Err full) b b
+  key_full room full t l = record {
     told = λ c N x h. told_full _ room (let m = keyed_more (keyed c) n b k f e h i t in omega arith);
     to = λ z c h. absurd (omega arith);
     kept = λ z. refl;
   }
 
-  pub key_new : (room at : ℕ) (b₁ b₂ : List ℕ) → 8 * (room * 2) ≤ length b → Fits w64 k.client → Fits w64 k.seq → f ≡ Absent i → n < room → at ≡ i * 2
+  pub key_new : (room at : ℕ) (b₁ b₂ : List ℕ) → 8 * (room * 2) ≤ length b → Fits w64 k.client → Fits w64 k.seq → f ≡ Err i → n < room → at ≡ i * 2
       → b₁ ≡ opened 2 n i b → b₂ ≡ sets b₁ (8 * at) (bytes (k.client ∷ k.seq ∷ []))
-      → Inserts k n room (Inserted (n + 1)) b b₂
+      → Inserts k n room (Ok (n + 1)) b b₂
   key_new room at b₁ b₂ r p q t l a e₁ e₂ = record {
     told = λ c N x h. told_room _ room (let m = keyed_more (keyed c) n b k f e h i t in omega arith);
     to = λ z c h. keyed_insert (keyed c) n b k f e i b₁ b₂ (omega arith)
@@ -68,10 +66,10 @@ module _ (n : ℕ) (b : List ℕ) (k : ClientKey) (f : Found) (e : f ≡ find pa
     kept = λ z. absurd (omega arith);
   }
 
-  pub key_gone : (b' : List ℕ) → f ≡ At i → b' ≡ removed 2 n i b → Removes k n (n - 1) b b'
+  pub key_gone : (b' : List ℕ) → f ≡ Ok i → b' ≡ removed 2 n i b → Removes k n (n - 1) b b'
   key_gone b' t e' = record { to = λ c. keyed_remove (keyed c) n b (key_of k) f e i no_key b' t e' }
 
-  pub key_not_there : f ≡ Absent i → Removes k n n b b
+  pub key_not_there : f ≡ Err i → Removes k n n b b
   key_not_there t = record { to = λ c. keyed_removed (keyed c) n b (key_of k) f e i t }
 
 pub ruleset key = (key_there, key_full, key_new, key_gone, key_not_there)
@@ -88,7 +86,7 @@ module _ (n : ℕ) (ws : List ℕ) (c i x : ℕ) (r : Rowed (keys c).row n ws i)
   pub client_above : c ≤ x → false ≡ ok_n (keys c).row n ws
   client_above l = rowed_fail (keys c).row n ws i r h (and_no _ _ (ap (λ (y : ℕ). ltb y c) client_at_lem ∙ le-ltb x c l))
 
-pub ruleset clients = (rowed_start, client_fine, client_above, rowed_done)
+pub ruleset client_rows = (rowed_start, client_fine, client_above, rowed_done)
 
 -- ---- check: the order of the words is that of the rows
 

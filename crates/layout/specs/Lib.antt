@@ -5,6 +5,7 @@ pub mod Tables
 pub mod Contents
 pub mod Regions
 pub mod Rows
+pub mod AllRows
 pub mod TableLaws
 pub mod Order
 pub mod Sorted

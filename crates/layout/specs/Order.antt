@@ -1,9 +1,7 @@
 -- Keys in order: what the contracts of sorted tables cite, over the orders of `laws`. Assumes nothing.
-use Rattle.std.specs.Prelude.{Bool, List, [], ◌∷◌, ℕ, zero, suc, get_or, drop}
+use Rattle.std.specs.Prelude.{Bool, List, [], ◌∷◌, ℕ, zero, suc, get_or, drop, Result, Ok, Err}
 use Rattle.laws.specs.Bools.{pick}
 use Rattle.laws.specs.Order.{Order, below, not_below}
-use Rattle.layout.specs.declared.rows.Found.{Found}
-use Rattle.layout.specs.declared.rows.Found.TheVariants.{At, Absent}
 
 -- ---- places
 
@@ -21,14 +19,14 @@ abbrev pub last_place : {K : Type 0} → Order K → K → List K → ℕ
 last_place O k ks = first (below O k) ks
 
 -- One place further on.
-abbrev pub later : Found → Found
-later (At i) = At (suc i)
-later (Absent i) = Absent (suc i)
+abbrev pub later : Result ℕ ℕ → Result ℕ ℕ
+later (Ok i) = Ok (suc i)
+later (Err i) = Err (suc i)
 
 -- The keys below k are passed; then k is there, or not.
-unfoldable pub find : {K : Type 0} → Order K → K → List K → Found
-find O k [] = Absent 0
-find O k (a ∷ ks) = pick (O.before a k) (later (find O k ks)) (pick (O.before k a) (Absent 0) (At 0))
+unfoldable pub find : {K : Type 0} → Order K → K → List K → Result ℕ ℕ
+find O k [] = Err 0
+find O k (a ∷ ks) = pick (O.before a k) (later (find O k ks)) (pick (O.before k a) (Err 0) (Ok 0))
 
 -- ---- the keys of n rows of w words, as the code reads them
 

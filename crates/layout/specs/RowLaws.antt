@@ -1,28 +1,40 @@
 -- What the proofs of the functions of rows.rt cite: the code's calls and tests as premises, in the code's order. Assumes nothing.
-use Rattle.std.specs.Prelude.{◌≡◌, Bool, true, false, take, replicate}
+use Rattle.std.specs.Prelude.{◌≡◌, Bool, true, false, take, replicate, Option, Some, None, Ok, Err}
 use Rattle.std.proofs.Math.Path.{refl, sym, ap}
-use Rattle.std.proofs.Common.{ap₂, ◌∙◌, add-zero, le-div_iff_mul-le, div-lt_iff_lt-mul, arith, length-drop, drop_of_length-le, take_all, drop-drop}
+use Rattle.std.proofs.Common.{ap₂, ◌∙◌, add-zero, subst, ⊎_elim, cond, div-lt_iff_lt-mul, arith, length-drop, take_all, drop-drop}
 use Rattle.std.proofs.Math.Bool.{not}
-use mathlib.Core.List.{List, ◌∷◌, map}
+use mathlib.Core.List.{List, [], ◌∷◌, map}
 use Prim.Native.Nat.{ℕ, zero, suc, ◌+◌, ◌-◌, ◌*◌, ◌/◌, ◌%◌, ◌≤◌, ◌<◌}
 use Rattle.std.proofs.Math.Nat.{zero-mul, suc-mul}
 use Rattle.std.proofs.Math.Dec.{ltb}
 use Rattle.std.proofs.Math.ListN.{length, get_or, drop}
 use Rattle.std.proofs.lemmas.List.Edits.{sets}
 use Rattle.std.proofs.Math.Seq.{get_or-drop}
-use borrow.Author.Tests.{lt-ltb, le-ltb, le-leb, lt-leb, eq-eqb, ne_eqb, not-true, not-false}
-use Rattle.laws.specs.Bools.{◌and◌, no_and}
+use Rattle.std.specs.List.{range_with_len, position_or_len, FoldsTo}
+use Rattle.std.proofs.lemmas.List.FromFn.{length-range_with_len}
+use Rattle.std.specs.Option.{unwrap_or, MatchOption}
+use Rattle.std.specs.Fn.{CalledAtTwo}
+use Rattle.std.specs.Iterator.{AlwaysYields, YieldsThen, FindsPosition}
+use Rattle.std.proofs.iter.Yields.{nat_range_steps}
+use Rattle.std.proofs.lemmas.Iterator.{YieldsList, YieldsList-from_range, YieldsList-from_map, maps}
+use Rattle.std.specs.Iterator.Adapters.{map_source, map_callee}
+use Rattle.std.specs.declared.iter.Map.{Map}
+use Rattle.std.proofs.lemmas.Iterator.Search.{position_from_yields_List}
+use Rattle.std.specs.declared.ops.Range.{Range}
+use Rattle.std.specs.Iterator.Order.{OrderTurn, ChecksNeighbours}
+use denote.Ref.{Bor}
+use denote.Param.Members.{Mut, Called}
+use borrow.Author.Tests.{le-leb, lt-leb, eq-eqb, ne_eqb, ltb-false}
+use Rattle.laws.specs.Bools.{pick, ◌and◌, no_and}
 use Rattle.laws.proofs.BoolLaws.{and_no, true_and}
-use Rattle.laws.specs.ListLaws.{drop_next}
 use Rattle.words.specs.Words.{W, allz}
 use Rattle.words.specs.Lift.{length_w}
-use Rattle.layout.specs.declared.rows.Found.TheVariants.{At, Absent}
 use Rattle.layout.specs.Code.{Code, parse_n}
 use Rattle.layout.specs.Tables.{opened, removed, padded, rows_in}
 use Rattle.layout.specs.Rows.{row_end}
-use Rattle.laws.specs.Order.{numbers, pairs, lex_before, below, not_below, chain}
+use Rattle.laws.specs.Order.{Order, chain}
 use Rattle.layout.specs.Order.{first, place, find, one, two, heads}
-use Rattle.layout.specs.Sorted.{Looking, look_start, look_here, look_next, look_end, found_end, found_above, found_here}
+use Rattle.layout.specs.Sorted.{first_le, found_end, found_above, found_here}
 
 -- ---- moves: `at` is where row i starts
 
@@ -41,9 +53,6 @@ remove_calls w n i at b b₁ b₂ h e e₁ e₂ =
 
 -- ---- padding
 
-pub room : (n w x : ℕ) → 0 < w → n ≤ x / w → n * w ≤ x
-room n w x h k = (le-div_iff_mul-le h).0 k
-
 pub pad_ragged : (w n : ℕ) (b : List ℕ) → (length b % 8 ≡ 0 → ⊥) → false ≡ padded w n b
 unfolding padded
 pad_ragged w n b h = sym (no_and _ _ (ne_eqb (length b % 8) 0 h))
@@ -59,19 +68,6 @@ pad_rest w n at b r e p k z =
     z ∙ ap (λ (j : ℕ). allz (take (length b / 8 - j) (drop j (W b)))) p
     ∙ ap allz (take_all (length b / 8 - n * w) (drop (n * w) (W b)) (omega (arith, length-drop (n * w) (W b), length_w b)))
     ∙ sym (ap₂ (λ (p q : Bool). p and (q and allz (drop (n * w) (W b)))) (eq-eqb (length b % 8) 0 e) (le-leb (n * w) (length b / 8) l) ∙ true_and _ ∙ true_and _)
-
--- ---- two numbers before two others
-
-pub below2_first : (a b c d : ℕ) → a < c → true ≡ lex_before numbers numbers (a, b) (c, d)
-below2_first a b c d h = rw (lt-ltb a c h)
-
-pub below2_above : (a b c d : ℕ) → c ≤ a → c < a → false ≡ lex_before numbers numbers (a, b) (c, d)
-below2_above a b c d h k = rw (le-ltb a c h, lt-ltb c a k)
-
-pub below2_second : (a b c d : ℕ) → c ≤ a → a ≤ c → ltb b d ≡ lex_before numbers numbers (a, b) (c, d)
-below2_second a b c d h k = rw (le-ltb a c h, le-ltb c a k)
-
-pub ruleset below2 = (below2_first, below2_above, below2_second)
 
 -- ---- the keys that the code reads
 
@@ -98,175 +94,128 @@ heads_are {K} c g key e n b = all n (W b)
     all zero ws = refl
     all (suc n) ws = ap₂ (λ (x : K) (l : List K). x ∷ l) (e ws) (all n (drop c.size ws))
 
-module _ (w n : ℕ) (ws : List ℕ) (i at : ℕ) (h : i < n) (e : at ≡ i * w) where
+-- what `read` makes of the words at `at`
+pub one_read : (ws : List ℕ) (at x : ℕ) → x ≡ get_or ws at 0 → x ≡ one (drop at ws)
+unfolding one
+one_read ws at x e = e ∙ sym (get_or-drop at ws 0 0 ∙ ap (λ (k : ℕ). get_or ws k 0) (add-zero at))
+
+pub two_read : (ws : List ℕ) (at x y : ℕ) → x ≡ get_or ws at 0 → y ≡ get_or ws (at + 1) 0 → ◌≡◌ {A = ℕ × ℕ} (x, y) (two (drop at ws))
+unfolding two
+two_read ws at x y e f =
+    let a : x ≡ get_or (drop at ws) 0 0 = e ∙ sym (get_or-drop at ws 0 0 ∙ ap (λ (k : ℕ). get_or ws k 0) (add-zero at)) in
+    let b : y ≡ get_or (drop at ws) 1 0 = f ∙ sym (get_or-drop at ws 1 0) in
+    λ j. (a j, b j)
+
+-- ---- the keys as the code goes through them: one for each number below n
+
+module _ {K : Type 0} (g : List ℕ → K) (w : ℕ) (ws : List ℕ) where
   -- the key of row i
-  one_read : (x : ℕ) → x ≡ get_or ws at 0 → get_or (heads one w n ws) i 0 ≡ x
-  unfolding one
-  one_read x p = get_d_heads one w n ws i 0 h ∙ ap (λ (k : ℕ). get_or (drop k ws) 0 0) (sym e) ∙ get_or-drop at ws 0 0 ∙ ap (λ (k : ℕ). get_or ws k 0) (add-zero at) ∙ sym p
+  abbrev pub key_of_row : ℕ → K
+  key_of_row i = g (drop (i * w) ws)
 
-  two_read : (x y : ℕ) → x ≡ get_or ws at 0 → y ≡ get_or ws (at + 1) 0 → get_or (heads two w n ws) i (0, 0) ≡ (x, y)
-  unfolding two
-  two_read x y p q =
-      get_d_heads two w n ws i (0, 0) h ∙ ap (λ (k : ℕ). (get_or (drop k ws) 0 0, get_or (drop k ws) 1 0)) (sym e)
-      ∙ (let a : get_or (drop at ws) 0 0 ≡ x = get_or-drop at ws 0 0 ∙ ap (λ (k : ℕ). get_or ws k 0) (add-zero at) ∙ sym p in
-      let b : get_or (drop at ws) 1 0 ≡ y = get_or-drop at ws 1 0 ∙ sym q in
-      λ j. (a j, b j))
+  heads_from : (n a : ℕ) → heads g w n (drop (a * w) ws) ≡ map key_of_row (range_with_len a n)
+  unfolding heads
+  heads_from zero a = refl
+  heads_from (suc n) a =
+      let e : a * w + w ≡ (a + 1) * w = omega arith in
+      ap (λ (l : List K). key_of_row a ∷ l) (ap (heads g w n) (drop-drop w (a * w) ws ∙ ap (λ (k : ℕ). drop k ws) e) ∙ heads_from n (a + 1))
 
--- ---- the loops that look for a place
+  heads_map : (n : ℕ) → heads g w n ws ≡ map key_of_row (range_with_len 0 n)
+  heads_map n = ap (λ (k : ℕ). heads g w n (drop k ws)) (sym (zero-mul w)) ∙ heads_from n 0
 
-pub keys_start : {K : Type 0} (f : K → Bool) (x : List K) → Looking f x 0
-keys_start f x = look_start f x
+-- ---- the place of a key
 
-pub keys_end : {K : Type 0} (f : K → Bool) (g : List ℕ → K) (w n : ℕ) (ws : List ℕ) (i : ℕ) → Looking f (heads g w n ws) i → n ≤ i → i ≡ first f (heads g w n ws)
-keys_end f g w n ws i l h = look_end f l (omega (arith, length_heads g w n ws))
+first_map : {A B : Type 0} (f : B → Bool) (h : A → B) (xs : List A) → position_or_len (λ x. f (h x)) xs ≡ first f (map h xs)
+unfolding first
+first_map f h [] = refl
+first_map f h (x ∷ xs) = by (f (h x)) (first_map f h xs)
+  where
+    by : (b : Bool) → position_or_len (λ x. f (h x)) xs ≡ first f (map h xs) → cond (not b) (1 + position_or_len (λ x. f (h x)) xs) 0 ≡ pick b 0 (suc (first f (map h xs)))
+    by true e = refl
+    by false e = let s : 1 + position_or_len (λ x. f (h x)) xs ≡ suc (position_or_len (λ x. f (h x)) xs) = omega arith in s ∙ ap suc e
 
-module _ (w n : ℕ) (ws : List ℕ) (i at k x : ℕ) where
-  inside : i < n → i < length (heads one w n ws)
-  inside h = omega (arith, length_heads one w n ws)
+-- what `position` and `unwrap_or` make of the numbers below n, where `acts` says what the closure answers at each
+module _ {K F : Type 0} (f : K → Bool) (g : List ℕ → K) (w n : ℕ) (ws : List ℕ) (m : Mut F (ℕ × Unit {0}) Bool) (c : F)
+    (acts : (i : ℕ) (b : Bool) (c' : F) → Called m c (i, tt) b c' → (c' ≡ c) × (b ≡ f (g (drop (i * w) ws)))) where
+  at_row : ℕ
+  at_row = position_or_len (λ i. f (g (drop (i * w) ws))) (range_with_len 0 n)
 
-  pub place1_here : Looking (not_below numbers k) (heads one w n ws) i → i < n → at ≡ i * w → x ≡ get_or ws at 0 → k ≤ x → i ≡ place numbers k (heads one w n ws)
-  unfolding not_below
-  place1_here l h e p t = look_here (not_below numbers k) l (inside h) 0 (ap (λ (y : ℕ). not (ltb y k)) (one_read w n ws i at h e x p) ∙ ap not (le-ltb x k t))
+  first_row : at_row ≡ first f (heads g w n ws)
+  unfolding at_row
+  first_row = first_map f (key_of_row g w ws) (range_with_len 0 n) ∙ ap (first f) (sym (heads_map g w ws n))
 
-  pub place1_next : Looking (not_below numbers k) (heads one w n ws) i → i < n → at ≡ i * w → x ≡ get_or ws at 0 → x < k → Looking (not_below numbers k) (heads one w n ws) (i + 1)
-  unfolding not_below
-  place1_next l h e p t = look_next (not_below numbers k) l (inside h) 0 (ap (λ (y : ℕ). not (ltb y k)) (one_read w n ws i at h e x p) ∙ ap not (lt-ltb x k t))
+  first_within : at_row ≤ n
+  first_within = omega (arith, first_row, first_le f (heads g w n ws), length_heads g w n ws)
 
-  pub last1_here : Looking (below numbers k) (heads one w n ws) i → i < n → at ≡ i * w → x ≡ get_or ws at 0 → k < x → i ≡ first (below numbers k) (heads one w n ws)
-  unfolding below
-  last1_here l h e p t = look_here (below numbers k) l (inside h) 0 (ap (λ (y : ℕ). ltb k y) (one_read w n ws i at h e x p) ∙ lt-ltb k x t)
-
-  pub last1_next : Looking (below numbers k) (heads one w n ws) i → i < n → at ≡ i * w → x ≡ get_or ws at 0 → x ≤ k → Looking (below numbers k) (heads one w n ws) (i + 1)
-  unfolding below
-  last1_next l h e p t = look_next (below numbers k) l (inside h) 0 (ap (λ (y : ℕ). ltb k y) (one_read w n ws i at h e x p) ∙ le-ltb k x t)
-
-module _ (w n : ℕ) (ws : List ℕ) (i at a b x y : ℕ) (r : Bool) where
-  inside2 : i < n → i < length (heads two w n ws)
-  inside2 h = omega (arith, length_heads two w n ws)
-
-  pub place2_here : Looking (not_below pairs (a, b)) (heads two w n ws) i → i < n → at ≡ i * w → x ≡ get_or ws at 0 → y ≡ get_or ws (at + 1) 0 → r ≡ lex_before numbers numbers (x, y) (a, b) → not r ≡ true
-      → i ≡ place pairs (a, b) (heads two w n ws)
-  unfolding not_below
-  place2_here l h e p q t f =
-      look_here (not_below pairs (a, b)) l (inside2 h) (0, 0) (ap (λ (z : ℕ × ℕ). not (lex_before numbers numbers z (a, b))) (two_read w n ws i at h e x y p q) ∙ ap not (sym t) ∙ f)
-
-  pub place2_next : Looking (not_below pairs (a, b)) (heads two w n ws) i → i < n → at ≡ i * w → x ≡ get_or ws at 0 → y ≡ get_or ws (at + 1) 0 → r ≡ lex_before numbers numbers (x, y) (a, b) → not r ≡ false
-      → Looking (not_below pairs (a, b)) (heads two w n ws) (i + 1)
-  unfolding not_below
-  place2_next l h e p q t f =
-      look_next (not_below pairs (a, b)) l (inside2 h) (0, 0) (ap (λ (z : ℕ × ℕ). not (lex_before numbers numbers z (a, b))) (two_read w n ws i at h e x y p q) ∙ ap not (sym t) ∙ f)
-
-pub ruleset place1 = (keys_start, place1_here, place1_next, keys_end)
-
-pub ruleset last1 = (keys_start, last1_here, last1_next, keys_end)
-
-pub ruleset place2 = (keys_start, place2_here, place2_next, keys_end)
+  pub row_found : (r : Option ℕ) (u : Range ℕ) (x : ℕ) → FindsPosition nat_range_steps m (record { start = 0; end = n }) c r u → x ≡ unwrap_or r n
+      → (x ≡ first f (heads g w n ws)) × (x ≤ n)
+  unfolding at_row
+  row_found r u x h e =
+      let l : length (range_with_len 0 n) ≡ n = length-range_with_len 0 n in
+      let p = position_from_yields_List (λ i. f (g (drop (i * w) ws))) u c r h (YieldsList-from_range 0 n n refl (omega arith)) acts in
+      let q : x ≡ at_row = e ∙ ap (λ (o : Option ℕ). unwrap_or o n) (p ∙ ap (λ (k : ℕ). cond (ltb at_row k) (Some at_row) None) l) ∙ by (ltb at_row n) refl in
+      (q ∙ first_row, omega (arith, q, first_within))
+    where
+      by : (b : Bool) → ltb at_row n ≡ b → unwrap_or (cond b (Some at_row) None) n ≡ at_row
+      by true t = refl
+      by false t = omega (arith, ltb-false at_row n t, first_within)
 
 -- ---- what is found at a place
 
-module _ (w n : ℕ) (ws : List ℕ) (i k : ℕ) (e : i ≡ place numbers k (heads one w n ws)) where
-  pub find1_end : n ≤ i → Absent i ≡ find numbers k (heads one w n ws)
-  find1_end h = found_end numbers k (heads one w n ws) i e (omega (arith, length_heads one w n ws)) 0
+module _ {K : Type 0} (O : Order K) (g : List ℕ → K) (w n : ℕ) (ws : List ℕ) (i : ℕ) (k : K) (u : i ≡ place O k (heads g w n ws)) where
+  pub find_end : n ≤ i → Err i ≡ find O k (heads g w n ws)
+  find_end h = found_end O k (heads g w n ws) i u (omega (arith, length_heads g w n ws)) k
 
-  module _ (at x : ℕ) (h : i < n) (p : at ≡ i * w) (q : x ≡ get_or ws at 0) where
-    pub find1_above : k < x → Absent i ≡ find numbers k (heads one w n ws)
-    find1_above t = found_above numbers k (heads one w n ws) i e (omega (arith, length_heads one w n ws)) 0 (ap (ltb k) (one_read w n ws i at h p x q) ∙ lt-ltb k x t)
+  module _ (x : K) (r : Bool) (h : i < n) (p : x ≡ g (drop (i * w) ws)) (q : r ≡ O.before k x) where
+    here : O.before k (get_or (heads g w n ws) i x) ≡ r
+    here = ap (O.before k) (get_d_heads g w n ws i x h ∙ sym p) ∙ sym q
 
-    pub find1_here : x ≤ k → At i ≡ find numbers k (heads one w n ws)
-    find1_here t = found_here numbers k (heads one w n ws) i e (omega (arith, length_heads one w n ws)) 0 (ap (ltb k) (one_read w n ws i at h p x q) ∙ le-ltb k x t)
+    pub find_above : r ≡ true → Err i ≡ find O k (heads g w n ws)
+    find_above t = found_above O k (heads g w n ws) i u (omega (arith, length_heads g w n ws)) x (here ∙ t)
 
-module _ (w n : ℕ) (ws : List ℕ) (i a b : ℕ) (e : i ≡ place pairs (a, b) (heads two w n ws)) where
-  pub find2_end : n ≤ i → Absent i ≡ find pairs (a, b) (heads two w n ws)
-  find2_end h = found_end pairs (a, b) (heads two w n ws) i e (omega (arith, length_heads two w n ws)) (0, 0)
+    pub find_here : r ≡ false → Ok i ≡ find O k (heads g w n ws)
+    find_here t = found_here O k (heads g w n ws) i u (omega (arith, length_heads g w n ws)) x (here ∙ t)
 
-  module _ (at x y : ℕ) (r : Bool) (h : i < n) (p : at ≡ i * w) (q : x ≡ get_or ws at 0) (q' : y ≡ get_or ws (at + 1) 0) (t : r ≡ lex_before numbers numbers (a, b) (x, y)) where
-    read : lex_before numbers numbers (a, b) (get_or (heads two w n ws) i (0, 0)) ≡ r
-    read = ap (lex_before numbers numbers (a, b)) (two_read w n ws i at h p x y q q') ∙ sym t
+pub ruleset finds = (find_end, find_above, find_here)
 
-    pub find2_above : r ≡ true → Absent i ≡ find pairs (a, b) (heads two w n ws)
-    find2_above u = found_above pairs (a, b) (heads two w n ws) i e (omega (arith, length_heads two w n ws)) (0, 0) (read ∙ u)
+-- ---- what `is_sorted_by` answers of the items that come from s: whether each is related to the next
 
-    pub find2_here : r ≡ false → At i ≡ find pairs (a, b) (heads two w n ws)
-    find2_here u = found_here pairs (a, b) (heads two w n ws) i e (omega (arith, length_heads two w n ws)) (0, 0) (read ∙ u)
+module _ {S A B F : Type 0} (steps : S → Option A → S → Type 0) (v : A → B) (m : Mut F (Bor A × (Bor A × Unit {0})) Bool) (r : B → B → Bool) (f : F)
+    (acts : (x y : A) (b : Bool) (f' : F) → CalledAtTwo m f x y b f' → (f' ≡ f) × (b ≡ r (v x) (v y))) where
+  after : (all : List B) (xs : List A) (o : Option A) (s u : S) (last : A) (q : F × A) (b : Bool) → AlwaysYields steps v s all → YieldsThen steps s xs o u
+      → FoldsTo {P = F × A} (OrderTurn m) (f, last) xs q → MatchOption o (b ≡ true) (λ y. (b ≡ false) × ((j : F) × CalledAtTwo m q.0 q.1 y false j)) → b ≡ chain r (v last ∷ all)
+  unfolding chain ◌and◌
+  after [] [] None s u last q b a y z e = e
+  after [] [] (Some x) s u last q b a y z e = absurd (a x u (subst (λ (t : S). steps t (Some x) u) (sym y.1) y.2))
+  after [] (x ∷ xs) o s u last q b a y z e = absurd (a x y.1.0 y.1.1)
+  after (c ∷ all) [] None s u last q b a y z e = absurd (a.0 u (subst (λ (t : S). steps t None u) (sym y.1) y.2))
+  after (c ∷ all) [] (Some x) s u last q b a y z e =
+      let t = a.1 x u (subst (λ (t : S). steps t (Some x) u) (sym y.1) y.2) in
+      let k = acts last x false e.1.0 (subst (λ (p : F × A). CalledAtTwo m p.0 p.1 x false e.1.0) (sym z) e.1.1) in
+      e.0 ∙ sym (no_and (r (v last) c) (chain r (c ∷ all)) (ap (r (v last)) (sym t.0) ∙ sym k.1))
+  after (c ∷ all) (x ∷ xs) o s u last q b a y z e =
+      let t = a.1 x y.1.0 y.1.1 in
+      let k = acts last x true z.0.0 z.1.0 in
+      let p : z.0 ≡ (f, x) = λ i. (k.0 i, z.1.1 i) in
+      after all xs o y.1.0 u x q b t.1 (y.0, y.1.2, y.2) (subst (λ (p : F × A). FoldsTo (OrderTurn m) p xs q) p z.2) e
+      ∙ ap (λ (d : B). chain r (d ∷ all)) t.0
+      ∙ sym (ap (λ (t : Bool). t and chain r (c ∷ all)) (ap (r (v last)) (sym t.0) ∙ sym k.1) ∙ true_and (chain r (c ∷ all)))
 
-pub ruleset find1 = (find1_end, find1_above, find1_here)
-
-pub ruleset find2 = (find2_end, find2_above, find2_here)
-
--- ---- the loops that look at the order: k is the key before row i
-
-pub record Chained {K : Type 0} (r : K → K → Bool) (ks : List K) (k : K) (i : ℕ) : Type 0 where
-  pub is : chain r ks ≡ chain r (k ∷ drop i ks)
-  pub upto : i ≤ length ks
-
-module _ {K : Type 0} (r : K → K → Bool) (g : List ℕ → K) (w n : ℕ) (ws : List ℕ) where
-  pub chain_none : n ≡ 0 → true ≡ chain r (heads g w n ws)
-  unfolding chain heads
-  chain_none e = sym (ap (λ (m : ℕ). chain r (heads g w m ws)) e)
-
-  -- the first key, and one more
-  first_key : (k d : K) → (n ≡ 0 → ⊥) → get_or (heads g w n ws) 0 d ≡ k → Chained r (heads g w n ws) k 1
-  first_key k d h e =
-      let l : 0 < length (heads g w n ws) = omega (arith, length_heads g w n ws) in
-      record { is = ap (chain r) (drop_next (heads g w n ws) 0 d l ∙ ap (λ (x : K). x ∷ drop 1 (heads g w n ws)) e); upto = l }
-
-  module _ (i : ℕ) (k k' d : K) (c : Chained r (heads g w n ws) k i) (h : i < n) (e : get_or (heads g w n ws) i d ≡ k') where
-    split : chain r (heads g w n ws) ≡ (r k k' and chain r (k' ∷ drop (i + 1) (heads g w n ws)))
-    unfolding chain
-    split =
-        let l : i < length (heads g w n ws) = omega (arith, length_heads g w n ws) in
-        c.is ∙ ap (λ (x : List K). chain r (k ∷ x)) (drop_next (heads g w n ws) i d l ∙ ap (λ (x : K). x ∷ drop (i + 1) (heads g w n ws)) e)
-
-    more_keys : r k k' ≡ true → Chained r (heads g w n ws) k' (i + 1)
-    more_keys t = record { is = split ∙ ap (λ (b : Bool). b and chain r (k' ∷ drop (i + 1) (heads g w n ws))) t ∙ true_and _; upto = omega (arith, length_heads g w n ws) }
-
-    no_more : r k k' ≡ false → false ≡ chain r (heads g w n ws)
-    no_more t = sym (split ∙ no_and _ _ t)
-
-  pub chain_done : (i : ℕ) (k : K) → Chained r (heads g w n ws) k i → n ≤ i → true ≡ chain r (heads g w n ws)
+  pub ordered : (all : List B) (s : S) (b : Bool) → ChecksNeighbours m steps s f b → YieldsList steps v s all → b ≡ chain r all
   unfolding chain
-  chain_done i k c h =
-      sym (c.is ∙ ap (λ (x : List K). chain r (k ∷ x)) (drop_of_length-le (heads g w n ws) {i = i} (omega (arith, length_heads g w n ws))) ∙ true_and _)
+  ordered [] s b h y = ⊎_elim (λ d. d.1) (λ n. absurd (y.runs n.0 n.5.1.0 n.5.1.1)) h
+  ordered (c ∷ all) s b h y =
+      ⊎_elim (λ d. absurd (y.runs.0 d.0.0 (subst (λ (t : S). steps t None d.0.0) (sym d.0.1.1) d.0.1.2)))
+      (λ n. let t = y.runs.1 n.0 n.5.1.0 n.5.1.1 in
+      after all n.1 n.2 n.5.1.0 n.3 n.0 n.4 b t.1 (n.5.0, n.5.1.2, n.5.2) n.6 n.7 ∙ ap (λ (d : B). chain r (d ∷ all)) t.0) h
 
-module _ (w n : ℕ) (ws : List ℕ) (at x : ℕ) where
-  pub chain1_start : (r : ℕ → ℕ → Bool) → (n ≡ 0 → ⊥) → at ≡ 0 * w → x ≡ get_or ws at 0 → Chained r (heads one w n ws) x 1
-  chain1_start r h e p = first_key r one w n ws x 0 h (one_read w n ws 0 at (omega arith) e x p)
-
-  module _ (i k : ℕ) (h : i < n) (e : at ≡ i * w) (p : x ≡ get_or ws at 0) where
-    here : get_or (heads one w n ws) i 0 ≡ x
-    here = one_read w n ws i at h e x p
-
-    pub rising1_turn : Chained (below numbers) (heads one w n ws) k i → k < x → Chained (below numbers) (heads one w n ws) x (i + 1)
-    unfolding below
-    rising1_turn c t = more_keys (below numbers) one w n ws i k x 0 c h here (lt-ltb k x t)
-
-    pub rising1_fail : Chained (below numbers) (heads one w n ws) k i → x ≤ k → false ≡ chain (below numbers) (heads one w n ws)
-    unfolding below
-    rising1_fail c t = no_more (below numbers) one w n ws i k x 0 c h here (le-ltb k x t)
-
-    pub sorted1_turn : Chained (not_below numbers) (heads one w n ws) k i → k ≤ x → Chained (not_below numbers) (heads one w n ws) x (i + 1)
-    unfolding not_below
-    sorted1_turn c t = more_keys (not_below numbers) one w n ws i k x 0 c h here (ap not (le-ltb x k t))
-
-    pub sorted1_fail : Chained (not_below numbers) (heads one w n ws) k i → x < k → false ≡ chain (not_below numbers) (heads one w n ws)
-    unfolding not_below
-    sorted1_fail c t = no_more (not_below numbers) one w n ws i k x 0 c h here (ap not (lt-ltb x k t))
-
-module _ (w n : ℕ) (ws : List ℕ) (at x y : ℕ) where
-  pub chain2_start : (r : ℕ × ℕ → ℕ × ℕ → Bool) → (n ≡ 0 → ⊥) → at ≡ 0 * w → x ≡ get_or ws at 0 → y ≡ get_or ws (at + 1) 0 → Chained r (heads two w n ws) (x, y) 1
-  chain2_start r h e p q = first_key r two w n ws (x, y) (0, 0) h (two_read w n ws 0 at (omega arith) e x y p q)
-
-  module _ (i k l : ℕ) (t : Bool) (h : i < n) (e : at ≡ i * w) (p : x ≡ get_or ws at 0) (q : y ≡ get_or ws (at + 1) 0) (b : t ≡ lex_before numbers numbers (k, l) (x, y)) where
-    pub rising2_turn : Chained (below pairs) (heads two w n ws) (k, l) i → not t ≡ false → Chained (below pairs) (heads two w n ws) (x, y) (i + 1)
-    unfolding below
-    rising2_turn c f = more_keys (below pairs) two w n ws i (k, l) (x, y) (0, 0) c h (two_read w n ws i at h e x y p q) (sym b ∙ not-false t f)
-
-    pub rising2_fail : Chained (below pairs) (heads two w n ws) (k, l) i → not t ≡ true → false ≡ chain (below pairs) (heads two w n ws)
-    unfolding below
-    rising2_fail c f = no_more (below pairs) two w n ws i (k, l) (x, y) (0, 0) c h (two_read w n ws i at h e x y p q) (sym b ∙ not-true t f)
-
-pub ruleset rising1 = (chain_none, chain1_start, rising1_turn, rising1_fail, chain_done)
-
-pub ruleset sorted1 = (chain_none, chain1_start, sorted1_turn, sorted1_fail, chain_done)
-
-pub ruleset rising2 = (chain_none, chain2_start, rising2_turn, rising2_fail, chain_done)
+-- the same of the keys of n rows, as `map` reads them: m reads a key, and m' compares two
+pub rows_ordered : {K F G : Type 0} (r : K → K → Bool) (g : List ℕ → K) (w n : ℕ) (ws : List ℕ) (m : Mut G (ℕ × Unit {0}) K) (c : G)
+    (m' : Mut F (Bor K × (Bor K × Unit {0})) Bool) (f : F) (s : Map (Range ℕ) G) (b : Bool)
+    → map_source s ≡ record { start = 0; end = n } → map_callee s ≡ c
+    → ((i : ℕ) (x : K) (c' : G) → Called m c (i, tt) x c' → (c' ≡ c) × (x ≡ g (drop (i * w) ws)))
+    → ((x y : K) (b : Bool) (f' : F) → CalledAtTwo m' f x y b f' → (f' ≡ f) × (b ≡ r x y))
+    → ChecksNeighbours m' (maps nat_range_steps m) s f b → b ≡ chain r (heads g w n ws)
+rows_ordered r g w n ws m c m' f s b e e' reads compares h =
+    ordered (maps nat_range_steps m) (λ x. x) m' r f compares (map (key_of_row g w ws) (range_with_len 0 n)) s b h
+    (YieldsList-from_map m (key_of_row g w ws) (YieldsList-from_range 0 n n e (omega arith)) e' reads) ∙ ap (chain r) (sym (heads_map g w ws n))

@@ -1,22 +1,17 @@
 -- Lists in order: where a key is, what a row put in or taken out leaves, and that keys which rise are each there once. Assumes nothing.
-use Rattle.std.specs.Prelude.{◌≡◌, Bool, ◌⊎◌, ltb, length, get_or}
+use Rattle.std.specs.Prelude.{◌≡◌, Bool, ◌⊎◌, ltb, length, get_or, Option, None, Some, Result, Ok, Err}
 use Rattle.std.proofs.Math.Path.{refl, sym, ap, subst}
-use Rattle.std.proofs.Common.{◌∙◌, drop_of_length-le, drop-cons, lt-ltb, le-ltb}
+use Rattle.std.proofs.Common.{◌∙◌, lt-ltb, le-ltb}
 use Rattle.std.proofs.Math.Bool.{true, false, not}
 use mathlib.Core.List.{List, [], ◌∷◌, ◌++◌, map}
 use Rattle.std.proofs.Math.Logic.{⊎_elim}
-use Rattle.std.proofs.Math.Option.{Option, none, some}
-use Prim.Native.Nat.{ℕ, zero, suc, ◌+◌, ◌≤◌, ◌<◌}
-use Rattle.std.proofs.Math.Nat.{add-zero}
-use Rattle.std.proofs.Math.Numerals.{add-one}
+use Prim.Native.Nat.{ℕ, zero, suc, ◌≤◌, ◌<◌}
 use native.Mathlib.Omega.{arith}
 use Rattle.std.proofs.Math.Dec.{leb-suc-suc}
 use Rattle.std.proofs.Math.ListN.{take, drop}
 use Rattle.laws.specs.Bools.{pick, and_left, every}
 use Rattle.laws.proofs.BoolLaws.{and_right, and_both, every_get}
 use Rattle.laws.specs.Decides.{false_true}
-use Rattle.layout.specs.declared.rows.Found.{Found}
-use Rattle.layout.specs.declared.rows.Found.TheVariants.{At, Absent}
 use Rattle.layout.specs.Tables.{insert_at, remove_at}
 use Rattle.laws.specs.Order.{Order, below, not_below, next, chain, rising, sorted, insert_by, push_by, remove_by, lookup}
 use Rattle.layout.specs.Order.{first, place, last_place, later, find}
@@ -32,31 +27,6 @@ module _ {A : Type 0} (f : A → Bool) where
   unfolding first
   first_le [] = omega arith
   first_le (a ∷ x) = pick_le (f a) (first_le x)
-
-  -- what a loop that looks for it knows at index i: no element before i is taken
-  pub record Looking (x : List A) (i : ℕ) : Type 0 where
-    pub rest : first f x ≡ i + first f (drop i x)
-    pub upto : i ≤ length x
-
-  pub look_start : (x : List A) → Looking x 0
-  look_start x = record { rest = omega arith; upto = omega arith }
-
-  pub look_here : {x : List A} {i : ℕ} → Looking x i → i < length x → (d : A) → f (get_or x i d) ≡ true → i ≡ first f x
-  unfolding first
-  look_here {x} {i} l h d t =
-      sym (l.rest ∙ ap (λ (y : List A). i + first f y) (drop-cons x i d h) ∙ ap (λ (b : Bool). i + pick b 0 (suc (first f (drop (suc i) x)))) t ∙ add-zero i)
-
-  pub look_next : {x : List A} {i : ℕ} → Looking x i → i < length x → (d : A) → f (get_or x i d) ≡ false → Looking x (i + 1)
-  unfolding first
-  look_next {x} {i} l h d t = rw add-one (record {
-    rest = l.rest ∙ ap (λ (y : List A). i + first f y) (drop-cons x i d h) ∙ ap (λ (b : Bool). i + pick b 0 (suc (first f (drop (suc i) x)))) t
-        ∙ (let e : i + suc (first f (drop (suc i) x)) ≡ suc i + first f (drop (suc i) x) = omega arith in e);
-    upto = h;
-  })
-
-  pub look_end : {x : List A} {i : ℕ} → Looking x i → length x ≤ i → i ≡ first f x
-  unfolding first
-  look_end {x} {i} l h = sym (l.rest ∙ ap (λ (y : List A). i + first f y) (drop_of_length-le x h) ∙ add-zero i)
 
 -- ---- orders
 
@@ -81,9 +51,9 @@ module _ {K : Type 0} (O : Order K) where
     pub place : i ≡ place O k ks
 
   -- the same, of any answer
-  Told : K → List K → Found → Type 0
-  Told k ks (At i) = Hit k ks i
-  Told k ks (Absent i) = Miss k ks i
+  Told : K → List K → Result ℕ ℕ → Type 0
+  Told k ks (Ok i) = Hit k ks i
+  Told k ks (Err i) = Miss k ks i
 
   not_of : (b : Bool) {c : Bool} → b ≡ c → not b ≡ not c
   not_of b e = ap not e
@@ -93,108 +63,108 @@ module _ {K : Type 0} (O : Order K) where
   told k [] = record { upto = omega arith; place = refl }
   told k (a ∷ ks) = by (O.before a k) refl (O.before k a) refl (find O k ks) (told k ks)
     where
-      by : (p : Bool) → O.before a k ≡ p → (q : Bool) → O.before k a ≡ q → (r : Found) → Told k ks r → Told k (a ∷ ks) (pick p (later r) (pick q (Absent 0) (At 0)))
-      by true e q f (At i) h = record { inside = omega (arith, h.inside); place = ap suc h.place ∙ rw e; is = h.is }
-      by true e q f (Absent i) h = record { upto = omega (arith, h.upto); place = ap suc h.place ∙ rw e }
+      by : (p : Bool) → O.before a k ≡ p → (q : Bool) → O.before k a ≡ q → (r : Result ℕ ℕ) → Told k ks r → Told k (a ∷ ks) (pick p (later r) (pick q (Err 0) (Ok 0)))
+      by true e q f (Ok i) h = record { inside = omega (arith, h.inside); place = ap suc h.place ∙ rw e; is = h.is }
+      by true e q f (Err i) h = record { upto = omega (arith, h.upto); place = ap suc h.place ∙ rw e }
       by false e true f r h = record { upto = omega arith; place = rw e }
       by false e false f r h = record { inside = omega arith; place = rw e; is = λ d. O.total a k e f }
 
-  pub find_at : (k : K) (ks : List K) (i : ℕ) → find O k ks ≡ At i → Hit k ks i
+  pub find_at : (k : K) (ks : List K) (i : ℕ) → find O k ks ≡ Ok i → Hit k ks i
   unfolding Told
   find_at k ks i e = subst (Told k ks) e (told k ks)
 
-  pub find_absent : (k : K) (ks : List K) (i : ℕ) → find O k ks ≡ Absent i → Miss k ks i
+  pub find_absent : (k : K) (ks : List K) (i : ℕ) → find O k ks ≡ Err i → Miss k ks i
   unfolding Told
   find_absent k ks i e = subst (Told k ks) e (told k ks)
 
   -- how an answer is made of the place: past the end, before a key that is above, at a key that is not
-  find_from : (k : K) (ks : List K) (d : K) → find O k ks ≡ pick (ltb (place O k ks) (length ks)) (pick (O.before k (get_or ks (place O k ks) d)) (Absent (place O k ks)) (At (place O k ks))) (Absent (place O k ks))
+  find_from : (k : K) (ks : List K) (d : K) → find O k ks ≡ pick (ltb (place O k ks) (length ks)) (pick (O.before k (get_or ks (place O k ks) d)) (Err (place O k ks)) (Ok (place O k ks))) (Err (place O k ks))
   unfolding find first not_below
   find_from k [] d = refl
   find_from k (a ∷ ks) d = by (O.before a k) (first (not_below O k) ks) (find_from k ks d)
     where
-      shift : (t u : Bool) (m : ℕ) → later (pick t (pick u (Absent m) (At m)) (Absent m)) ≡ pick t (pick u (Absent (suc m)) (At (suc m))) (Absent (suc m))
+      shift : (t u : Bool) (m : ℕ) → later (pick t (pick u (Err m) (Ok m)) (Err m)) ≡ pick t (pick u (Err (suc m)) (Ok (suc m))) (Err (suc m))
       shift true true m = refl
       shift true false m = refl
       shift false u m = refl
 
-      by : (p : Bool) (m : ℕ) → find O k ks ≡ pick (ltb m (length ks)) (pick (O.before k (get_or ks m d)) (Absent m) (At m)) (Absent m)
-          → pick p (later (find O k ks)) (pick (O.before k a) (Absent 0) (At 0))
-          ≡ (let j = pick (not p) 0 (suc m) in pick (ltb j (suc (length ks))) (pick (O.before k (get_or (a ∷ ks) j d)) (Absent j) (At j)) (Absent j))
+      by : (p : Bool) (m : ℕ) → find O k ks ≡ pick (ltb m (length ks)) (pick (O.before k (get_or ks m d)) (Err m) (Ok m)) (Err m)
+          → pick p (later (find O k ks)) (pick (O.before k a) (Err 0) (Ok 0))
+          ≡ (let j = pick (not p) 0 (suc m) in pick (ltb j (suc (length ks))) (pick (O.before k (get_or (a ∷ ks) j d)) (Err j) (Ok j)) (Err j))
       by true m h =
           ap later h ∙ shift (ltb m (length ks)) (O.before k (get_or ks m d)) m
-          ∙ ap (λ (t : Bool). pick t (pick (O.before k (get_or ks m d)) (Absent (suc m)) (At (suc m))) (Absent (suc m))) (sym (leb-suc-suc (suc m) (length ks)))
+          ∙ ap (λ (t : Bool). pick t (pick (O.before k (get_or ks m d)) (Err (suc m)) (Ok (suc m))) (Err (suc m))) (sym (leb-suc-suc (suc m) (length ks)))
       by false m h = rw (lt-ltb 0 (suc (length ks)) (omega arith))
 
   module _ (k : K) (ks : List K) (i : ℕ) (e : i ≡ place O k ks) where
-    pub found_end : length ks ≤ i → (d : K) → Absent i ≡ find O k ks
+    pub found_end : length ks ≤ i → (d : K) → Err i ≡ find O k ks
     found_end h d =
         let m : length ks ≤ place O k ks = omega (arith, e) in
-        sym (find_from k ks d ∙ ap (λ (t : Bool). pick t (pick (O.before k (get_or ks (place O k ks) d)) (Absent (place O k ks)) (At (place O k ks))) (Absent (place O k ks))) (le-ltb (place O k ks) (length ks) m)
-        ∙ ap Absent (sym e))
+        sym (find_from k ks d ∙ ap (λ (t : Bool). pick t (pick (O.before k (get_or ks (place O k ks) d)) (Err (place O k ks)) (Ok (place O k ks))) (Err (place O k ks))) (le-ltb (place O k ks) (length ks) m)
+        ∙ ap Err (sym e))
 
     module _ (h : i < length ks) (d : K) where
-      at_place : find O k ks ≡ pick (O.before k (get_or ks i d)) (Absent i) (At i)
+      at_place : find O k ks ≡ pick (O.before k (get_or ks i d)) (Err i) (Ok i)
       at_place =
           let m : place O k ks < length ks = omega (arith, e) in
-          find_from k ks d ∙ ap (λ (t : Bool). pick t (pick (O.before k (get_or ks (place O k ks) d)) (Absent (place O k ks)) (At (place O k ks))) (Absent (place O k ks))) (lt-ltb (place O k ks) (length ks) m)
-          ∙ ap (λ (j : ℕ). pick (O.before k (get_or ks j d)) (Absent j) (At j)) (sym e)
+          find_from k ks d ∙ ap (λ (t : Bool). pick t (pick (O.before k (get_or ks (place O k ks) d)) (Err (place O k ks)) (Ok (place O k ks))) (Err (place O k ks))) (lt-ltb (place O k ks) (length ks) m)
+          ∙ ap (λ (j : ℕ). pick (O.before k (get_or ks j d)) (Err j) (Ok j)) (sym e)
 
-      pub found_above : O.before k (get_or ks i d) ≡ true → Absent i ≡ find O k ks
-      found_above t = sym (at_place ∙ ap (λ (b : Bool). pick b (Absent i) (At i)) t)
+      pub found_above : O.before k (get_or ks i d) ≡ true → Err i ≡ find O k ks
+      found_above t = sym (at_place ∙ ap (λ (b : Bool). pick b (Err i) (Ok i)) t)
 
-      pub found_here : O.before k (get_or ks i d) ≡ false → At i ≡ find O k ks
-      found_here t = sym (at_place ∙ ap (λ (b : Bool). pick b (Absent i) (At i)) t)
+      pub found_here : O.before k (get_or ks i d) ≡ false → Ok i ≡ find O k ks
+      found_here t = sym (at_place ∙ ap (λ (b : Bool). pick b (Err i) (Ok i)) t)
 
   -- ---- a row put in and taken out
 
   module _ {T : Type 0} (key : T → K) where
     -- what y is, made of x by what was found
-    Inserted : T → List T → List T → Found → Type 0
-    Inserted a x y (At i) = y ≡ x
-    Inserted a x y (Absent i) = y ≡ insert_at i a x
+    Inserted : T → List T → List T → Result ℕ ℕ → Type 0
+    Inserted a x y (Ok i) = y ≡ x
+    Inserted a x y (Err i) = y ≡ insert_at i a x
 
     inserted : (a : T) (x : List T) → Inserted a x (insert_by O key a x) (find O (key a) (map key x))
     unfolding Inserted find insert_by insert_at
     inserted a [] = refl
     inserted a (b ∷ x) = by (O.before (key b) (key a)) (O.before (key a) (key b)) (find O (key a) (map key x)) (inserted a x)
       where
-        by : (p q : Bool) (r : Found) → Inserted a x (insert_by O key a x) r
-            → Inserted a (b ∷ x) (pick p (b ∷ insert_by O key a x) (pick q (a ∷ b ∷ x) (b ∷ x))) (pick p (later r) (pick q (Absent 0) (At 0)))
-        by true q (At i) h = ap (λ (l : List T). b ∷ l) h
-        by true q (Absent i) h = ap (λ (l : List T). b ∷ l) h
+        by : (p q : Bool) (r : Result ℕ ℕ) → Inserted a x (insert_by O key a x) r
+            → Inserted a (b ∷ x) (pick p (b ∷ insert_by O key a x) (pick q (a ∷ b ∷ x) (b ∷ x))) (pick p (later r) (pick q (Err 0) (Ok 0)))
+        by true q (Ok i) h = ap (λ (l : List T). b ∷ l) h
+        by true q (Err i) h = ap (λ (l : List T). b ∷ l) h
         by false true r h = refl
         by false false r h = refl
 
-    pub insert_there : (a : T) (x : List T) (i : ℕ) → find O (key a) (map key x) ≡ At i → insert_by O key a x ≡ x
+    pub insert_there : (a : T) (x : List T) (i : ℕ) → find O (key a) (map key x) ≡ Ok i → insert_by O key a x ≡ x
     unfolding Inserted
     insert_there a x i e = subst (Inserted a x (insert_by O key a x)) e (inserted a x)
 
-    pub insert_absent : (a : T) (x : List T) (i : ℕ) → find O (key a) (map key x) ≡ Absent i → insert_by O key a x ≡ insert_at i a x
+    pub insert_absent : (a : T) (x : List T) (i : ℕ) → find O (key a) (map key x) ≡ Err i → insert_by O key a x ≡ insert_at i a x
     unfolding Inserted
     insert_absent a x i e = subst (Inserted a x (insert_by O key a x)) e (inserted a x)
 
-    Removed : List T → List T → Found → Type 0
-    Removed x y (At i) = y ≡ remove_at i x
-    Removed x y (Absent i) = y ≡ x
+    Removed : List T → List T → Result ℕ ℕ → Type 0
+    Removed x y (Ok i) = y ≡ remove_at i x
+    Removed x y (Err i) = y ≡ x
 
     removed : (k : K) (x : List T) → Removed x (remove_by O key k x) (find O k (map key x))
     unfolding Removed find remove_by remove_at
     removed k [] = refl
     removed k (b ∷ x) = by (O.before (key b) k) (O.before k (key b)) (find O k (map key x)) (removed k x)
       where
-        by : (p q : Bool) (r : Found) → Removed x (remove_by O key k x) r
-            → Removed (b ∷ x) (pick p (b ∷ remove_by O key k x) (pick q (b ∷ x) x)) (pick p (later r) (pick q (Absent 0) (At 0)))
-        by true q (At i) h = ap (λ (l : List T). b ∷ l) h
-        by true q (Absent i) h = ap (λ (l : List T). b ∷ l) h
+        by : (p q : Bool) (r : Result ℕ ℕ) → Removed x (remove_by O key k x) r
+            → Removed (b ∷ x) (pick p (b ∷ remove_by O key k x) (pick q (b ∷ x) x)) (pick p (later r) (pick q (Err 0) (Ok 0)))
+        by true q (Ok i) h = ap (λ (l : List T). b ∷ l) h
+        by true q (Err i) h = ap (λ (l : List T). b ∷ l) h
         by false true r h = refl
         by false false r h = refl
 
-    pub remove_there : (k : K) (x : List T) (i : ℕ) → find O k (map key x) ≡ At i → remove_by O key k x ≡ remove_at i x
+    pub remove_there : (k : K) (x : List T) (i : ℕ) → find O k (map key x) ≡ Ok i → remove_by O key k x ≡ remove_at i x
     unfolding Removed
     remove_there k x i e = subst (Removed x (remove_by O key k x)) e (removed k x)
 
-    pub remove_absent : (k : K) (x : List T) (i : ℕ) → find O k (map key x) ≡ Absent i → remove_by O key k x ≡ x
+    pub remove_absent : (k : K) (x : List T) (i : ℕ) → find O k (map key x) ≡ Err i → remove_by O key k x ≡ x
     unfolding Removed
     remove_absent k x i e = subst (Removed x (remove_by O key k x)) e (removed k x)
 
@@ -287,35 +257,35 @@ module _ {K : Type 0} (O : Order K) where
     unfolding lookup
     lookup_past k b x h = rw h
 
-    lookup_stop : (k : K) (b : T) (x : List T) → O.before k (key b) ≡ true → lookup O key k (b ∷ x) ≡ none
+    lookup_stop : (k : K) (b : T) (x : List T) → O.before k (key b) ≡ true → lookup O key k (b ∷ x) ≡ None
     unfolding lookup
     lookup_stop k b x h = rw (asymmetric k (key b) h, h)
 
-    lookup_here : (k : K) (b : T) (x : List T) → O.before (key b) k ≡ false → O.before k (key b) ≡ false → lookup O key k (b ∷ x) ≡ some b
+    lookup_here : (k : K) (b : T) (x : List T) → O.before (key b) k ≡ false → O.before k (key b) ≡ false → lookup O key k (b ∷ x) ≡ Some b
     unfolding lookup
     lookup_here k b x h l = rw (h, l)
 
     lookup_again : (k : K) (b : T) (x y : List T) → lookup O key k x ≡ lookup O key k y → lookup O key k (b ∷ x) ≡ lookup O key k (b ∷ y)
     unfolding lookup
-    lookup_again k b x y h = ap (λ (o : Option T). pick (O.before (key b) k) o (pick (O.before k (key b)) none (some b))) h
+    lookup_again k b x y h = ap (λ (o : Option T). pick (O.before (key b) k) o (pick (O.before k (key b)) None (Some b))) h
 
     -- rows that begin above k
-    lookup_below : (k : K) (x : List T) → next (below O) k (map key x) ≡ true → lookup O key k x ≡ none
+    lookup_below : (k : K) (x : List T) → next (below O) k (map key x) ≡ true → lookup O key k x ≡ None
     unfolding below lookup
     lookup_below k [] h = refl
     lookup_below k (b ∷ x) h = lookup_stop k b x h
 
     abbrev pub or_else : Option T → T → T
-    or_else none a = a
-    or_else (some b) a = b
+    or_else None a = a
+    or_else (Some b) a = b
 
-    pub lookup_inserted : (a : T) (x : List T) → lookup O key (key a) (insert_by O key a x) ≡ some (or_else (lookup O key (key a) x) a)
+    pub lookup_inserted : (a : T) (x : List T) → lookup O key (key a) (insert_by O key a x) ≡ Some (or_else (lookup O key (key a) x) a)
     unfolding insert_by lookup
     lookup_inserted a [] = lookup_here (key a) a [] (O.irreflexive (key a)) (O.irreflexive (key a))
     lookup_inserted a (b ∷ x) = by (O.before (key b) (key a)) refl (O.before (key a) (key b)) refl (lookup_inserted a x)
       where
-        by : (p : Bool) → O.before (key b) (key a) ≡ p → (q : Bool) → O.before (key a) (key b) ≡ q → lookup O key (key a) (insert_by O key a x) ≡ some (or_else (lookup O key (key a) x) a)
-            → lookup O key (key a) (pick p (b ∷ insert_by O key a x) (pick q (a ∷ b ∷ x) (b ∷ x))) ≡ some (or_else (pick p (lookup O key (key a) x) (pick q none (some b))) a)
+        by : (p : Bool) → O.before (key b) (key a) ≡ p → (q : Bool) → O.before (key a) (key b) ≡ q → lookup O key (key a) (insert_by O key a x) ≡ Some (or_else (lookup O key (key a) x) a)
+            → lookup O key (key a) (pick p (b ∷ insert_by O key a x) (pick q (a ∷ b ∷ x) (b ∷ x))) ≡ Some (or_else (pick p (lookup O key (key a) x) (pick q None (Some b))) a)
         by true e q f h = lookup_past (key a) b (insert_by O key a x) e ∙ h
         by false e true f h = lookup_here (key a) a (b ∷ x) (O.irreflexive (key a)) (O.irreflexive (key a))
         by false e false f h = lookup_here (key a) b x e f
@@ -331,13 +301,13 @@ module _ {K : Type 0} (O : Order K) where
         by false true f h = ⊎_elim (λ l. lookup_stop j a (b ∷ x) l ∙ sym (lookup_stop j b x (O.transitive j (key a) (key b) l f))) (λ l. lookup_past j a (b ∷ x) l) o
         by false false f h = refl
 
-    pub lookup_removed : (k : K) (x : List T) → rising O (map key x) ≡ true → lookup O key k (remove_by O key k x) ≡ none
+    pub lookup_removed : (k : K) (x : List T) → rising O (map key x) ≡ true → lookup O key k (remove_by O key k x) ≡ None
     unfolding remove_by chain lookup
     lookup_removed k [] r = refl
     lookup_removed k (b ∷ x) r = by (O.before (key b) k) refl (O.before k (key b)) refl (lookup_removed k x (and_right _ _ r))
       where
-        by : (p : Bool) → O.before (key b) k ≡ p → (q : Bool) → O.before k (key b) ≡ q → lookup O key k (remove_by O key k x) ≡ none
-            → lookup O key k (pick p (b ∷ remove_by O key k x) (pick q (b ∷ x) x)) ≡ none
+        by : (p : Bool) → O.before (key b) k ≡ p → (q : Bool) → O.before k (key b) ≡ q → lookup O key k (remove_by O key k x) ≡ None
+            → lookup O key k (pick p (b ∷ remove_by O key k x) (pick q (b ∷ x) x)) ≡ None
         by true e q f h = lookup_past k b (remove_by O key k x) e ∙ h
         by false e true f h = lookup_stop k b x f
         by false e false f h = lookup_below k x (subst (λ (j : K). next (below O) j (map key x) ≡ true) (O.total (key b) k e f) (and_left _ _ r))
@@ -360,27 +330,27 @@ module _ {K : Type 0} (O : Order K) where
             (λ l. sym (lookup_past j b x (ap (λ (z : K). O.before z j) same ∙ l))) o
 
     -- what a search found is the row
-    Looked : List T → Option T → Found → Type 0
-    Looked x o (At i) = (d : T) → o ≡ some (get_or x i d)
-    Looked x o (Absent i) = o ≡ none
+    Looked : List T → Option T → Result ℕ ℕ → Type 0
+    Looked x o (Ok i) = (d : T) → o ≡ Some (get_or x i d)
+    Looked x o (Err i) = o ≡ None
 
     looked : (k : K) (x : List T) → Looked x (lookup O key k x) (find O k (map key x))
     unfolding Looked lookup find
     looked k [] = refl
     looked k (b ∷ x) = by (O.before (key b) k) (O.before k (key b)) (find O k (map key x)) (looked k x)
       where
-        by : (p q : Bool) (f : Found) → Looked x (lookup O key k x) f
-            → Looked (b ∷ x) (pick p (lookup O key k x) (pick q none (some b))) (pick p (later f) (pick q (Absent 0) (At 0)))
-        by true q (At i) h = h
-        by true q (Absent i) h = h
+        by : (p q : Bool) (f : Result ℕ ℕ) → Looked x (lookup O key k x) f
+            → Looked (b ∷ x) (pick p (lookup O key k x) (pick q None (Some b))) (pick p (later f) (pick q (Err 0) (Ok 0)))
+        by true q (Ok i) h = h
+        by true q (Err i) h = h
         by false true f h = refl
         by false false f h = λ d. refl
 
-    pub lookup_there : (k : K) (x : List T) (i : ℕ) (d : T) → find O k (map key x) ≡ At i → lookup O key k x ≡ some (get_or x i d)
+    pub lookup_there : (k : K) (x : List T) (i : ℕ) (d : T) → find O k (map key x) ≡ Ok i → lookup O key k x ≡ Some (get_or x i d)
     unfolding Looked
     lookup_there k x i d e = subst (Looked x (lookup O key k x)) e (looked k x) d
 
-    pub lookup_absent : (k : K) (x : List T) (i : ℕ) → find O k (map key x) ≡ Absent i → lookup O key k x ≡ none
+    pub lookup_absent : (k : K) (x : List T) (i : ℕ) → find O k (map key x) ≡ Err i → lookup O key k x ≡ None
     unfolding Looked
     lookup_absent k x i e = subst (Looked x (lookup O key k x)) e (looked k x)
 

@@ -1,13 +1,10 @@
 -- Tables whose rows are in order by a key that stands in their first words: what a search, and a row put in or taken out at the place
 -- that it found, make of them. A table gives its `Keyed`, or `Queued`, once. Assumes nothing.
-use Rattle.std.specs.Prelude.{◌≡◌, true, false, List, map, ℕ, ◌+◌, ◌-◌, ◌*◌, ◌≤◌, ◌<◌, length, get_or}
+use Rattle.std.specs.Prelude.{◌≡◌, true, false, List, map, ℕ, ◌+◌, ◌-◌, ◌*◌, ◌≤◌, ◌<◌, length, get_or, Option, None, Some, Result, Ok, Err}
 use Rattle.std.proofs.Common.{sym, ap, ◌∙◌, subst, arith}
-use Rattle.std.proofs.Math.Option.{none, some}
 use Rattle.std.proofs.lemmas.List.Edits.{sets}
 use Rattle.laws.specs.Lists.{is_some}
 use Rattle.words.specs.Words.{bytes, W}
-use Rattle.layout.specs.declared.rows.Found.{Found}
-use Rattle.layout.specs.declared.rows.Found.TheVariants.{At, Absent}
 use Rattle.layout.specs.Code.{Code}
 use Rattle.layout.specs.Tables.{Table, Held, Becomes, rows_in, insert_at, remove_at, opened, removed}
 use Rattle.layout.specs.Rows.{length_insert_at}
@@ -18,34 +15,34 @@ use Rattle.layout.specs.Sorted.{find_at, find_absent, insert_there, insert_absen
 use Rattle.layout.specs.RowLaws.{heads_are, length_heads}
 
 -- what a search among n rows says of the place that it found
-module _ {K : Type 0} (O : Order K) (k : K) (g : List ℕ → K) (w n : ℕ) (ws : List ℕ) (f : Found) (i : ℕ) (e : f ≡ find O k (heads g w n ws)) where
-  pub found_inside : f ≡ At i → i < n
+module _ {K : Type 0} (O : Order K) (k : K) (g : List ℕ → K) (w n : ℕ) (ws : List ℕ) (f : Result ℕ ℕ) (i : ℕ) (e : f ≡ find O k (heads g w n ws)) where
+  pub found_inside : f ≡ Ok i → i < n
   found_inside t = omega (arith, (find_at O k (heads g w n ws) i (sym e ∙ t)).inside, length_heads g w n ws)
 
-  pub found_upto : f ≡ Absent i → i ≤ n
+  pub found_upto : f ≡ Err i → i ≤ n
   found_upto t = omega (arith, (find_absent O k (heads g w n ws) i (sym e ∙ t)).upto, length_heads g w n ws)
 
-  pub found_some : f ≡ At i → 1 ≤ n
+  pub found_some : f ≡ Ok i → 1 ≤ n
   found_some t = omega (arith, found_inside t)
 
 pub ruleset found = (found_inside, found_upto, found_some)
 
 -- and of the row of that key, where g reads a row's key in its first words
-module _ {K T : Type 0} (O : Order K) (k : K) (g : List ℕ → K) (c : Code T) (key : T → K) (n : ℕ) (b : List ℕ) (f : Found) (i : ℕ) (r : (ws : List ℕ) → g ws ≡ key (c.parse ws)) (e : f ≡ find O k (heads g c.size n (W b))) where
+module _ {K T : Type 0} (O : Order K) (k : K) (g : List ℕ → K) (c : Code T) (key : T → K) (n : ℕ) (b : List ℕ) (f : Result ℕ ℕ) (i : ℕ) (r : (ws : List ℕ) → g ws ≡ key (c.parse ws)) (e : f ≡ find O k (heads g c.size n (W b))) where
   of_rows : find O k (map key (rows_in c n b)) ≡ f
   of_rows = sym (e ∙ ap (find O k) (heads_are c g key r n b))
 
-  pub found_row : (d : T) → f ≡ At i → lookup O key k (rows_in c n b) ≡ some (get_or (rows_in c n b) i d)
+  pub found_row : (d : T) → f ≡ Ok i → lookup O key k (rows_in c n b) ≡ Some (get_or (rows_in c n b) i d)
   found_row d t = lookup_there O key k (rows_in c n b) i d (of_rows ∙ t)
 
-  pub found_none : f ≡ Absent i → lookup O key k (rows_in c n b) ≡ none
+  pub found_none : f ≡ Err i → lookup O key k (rows_in c n b) ≡ None
   found_none t = lookup_absent O key k (rows_in c n b) i (of_rows ∙ t)
 
   -- whether it is there
-  pub found_yes : T → f ≡ At i → true ≡ is_some (lookup O key k (rows_in c n b))
+  pub found_yes : T → f ≡ Ok i → true ≡ is_some (lookup O key k (rows_in c n b))
   found_yes d t = sym (ap is_some (found_row d t))
 
-  pub found_no : f ≡ Absent i → false ≡ is_some (lookup O key k (rows_in c n b))
+  pub found_no : f ≡ Err i → false ≡ is_some (lookup O key k (rows_in c n b))
   found_no t = sym (ap is_some (found_none t))
 
 -- the keys of t's rows are what g reads in their first words, and t's rule is that they rise
@@ -57,7 +54,7 @@ module _ {K T : Type 0} {t : Table T} {O : Order K} {key : T → K} {g : List �
   abbrev w : ℕ
   w = t.row.size
 
-  module _ (k : K) (f : Found) (e : f ≡ find O k (heads g w n (W b))) where
+  module _ (k : K) (f : Result ℕ ℕ) (e : f ≡ find O k (heads g w n (W b))) where
     -- a search of the words is one of the rows
     in_rows : f ≡ find O k (map key (rows_in t.row n b))
     in_rows = e ∙ ap (find O k) (heads_are t.row g key q.read n b)
@@ -65,7 +62,7 @@ module _ {K T : Type 0} {t : Table T} {O : Order K} {key : T → K} {g : List �
     in_held : (N : ℕ) (x : List T) → Held t N n b x → f ≡ find O k (map key x)
     in_held N x h = in_rows ∙ ap (λ (y : List T). find O k (map key y)) (rows_are h)
 
-    pub keyed_remove : (i : ℕ) (d : T) (b' : List ℕ) → f ≡ At i → b' ≡ removed w n i b → Becomes t n (n - 1) b b' (remove_by O key k)
+    pub keyed_remove : (i : ℕ) (d : T) (b' : List ℕ) → f ≡ Ok i → b' ≡ removed w n i b → Becomes t n (n - 1) b b' (remove_by O key k)
     keyed_remove i d b' a e' = record {
       to = λ N x h.
           let p : remove_by O key k x ≡ remove_at i x = remove_there O key k x i (sym (in_held N x h) ∙ a) in
@@ -73,11 +70,11 @@ module _ {K T : Type 0} {t : Table T} {O : Order K} {key : T → K} {g : List �
           subst (Held t N (n - 1) b') (sym p) (remove_held h i d b' (found_inside O k g w n (W b) f i e a) r e');
     }
 
-    pub keyed_removed : (i : ℕ) → f ≡ Absent i → Becomes t n n b b (remove_by O key k)
+    pub keyed_removed : (i : ℕ) → f ≡ Err i → Becomes t n n b b (remove_by O key k)
     keyed_removed i a = record { to = λ N x h. subst (Held t N n b) (sym (remove_absent O key k x i (sym (in_held N x h) ∙ a))) h }
 
-  module _ (a : T) (f : Found) (e : f ≡ find O (key a) (heads g w n (W b))) where
-    pub keyed_insert : (i : ℕ) (b₁ b₂ : List ℕ) → 8 * (n * w + w) ≤ length b → t.row.good a ≡ true → f ≡ Absent i
+  module _ (a : T) (f : Result ℕ ℕ) (e : f ≡ find O (key a) (heads g w n (W b))) where
+    pub keyed_insert : (i : ℕ) (b₁ b₂ : List ℕ) → 8 * (n * w + w) ≤ length b → t.row.good a ≡ true → f ≡ Err i
         → b₁ ≡ opened w n i b → b₂ ≡ sets b₁ (8 * (i * w)) (bytes (t.row.enc a))
         → Becomes t n (n + 1) b b₂ (insert_by O key a)
     keyed_insert i b₁ b₂ r g' u e₁ e₂ = record {
@@ -87,14 +84,14 @@ module _ {K T : Type 0} {t : Table T} {O : Order K} {key : T → K} {g : List �
           subst (Held t N (n + 1) b₂) (sym p) (insert_held h r i a b₁ b₂ (found_upto O (key a) g w n (W b) f i e u) g' s e₁ e₂);
     }
 
-    pub keyed_inserted : (i : ℕ) → f ≡ At i → Becomes t n n b b (insert_by O key a)
+    pub keyed_inserted : (i : ℕ) → f ≡ Ok i → Becomes t n n b b (insert_by O key a)
     keyed_inserted i u = record { to = λ N x h. subst (Held t N n b) (sym (insert_there O key a x i (sym (in_held (key a) f e N x h) ∙ u))) h }
 
     -- how many rows there are with it
-    pub keyed_known : {N : ℕ} {x : List T} → Held t N n b x → (i : ℕ) → f ≡ At i → length (insert_by O key a x) ≡ n
+    pub keyed_known : {N : ℕ} {x : List T} → Held t N n b x → (i : ℕ) → f ≡ Ok i → length (insert_by O key a x) ≡ n
     keyed_known {N} {x} h i u = ap length (insert_there O key a x i (sym (in_held (key a) f e N x h) ∙ u)) ∙ (held_rows h).count
 
-    pub keyed_more : {N : ℕ} {x : List T} → Held t N n b x → (i : ℕ) → f ≡ Absent i → length (insert_by O key a x) ≡ n + 1
+    pub keyed_more : {N : ℕ} {x : List T} → Held t N n b x → (i : ℕ) → f ≡ Err i → length (insert_by O key a x) ≡ n + 1
     keyed_more {N} {x} h i u =
         let l = found_upto O (key a) g w n (W b) f i e u in
         let c = (held_rows h).count in

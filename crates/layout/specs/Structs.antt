@@ -1,6 +1,6 @@
 -- The code of a struct of n words: its words as a literal list, and the struct read by place (`get_or ws 3 0`, as the program reads it). Assumes nothing.
-use Rattle.std.specs.Prelude.{◌≡◌, refl, Bool, true, List, [], ◌∷◌, ◌++◌, ℕ, zero, suc, ◌+◌, ◌^◌, ◌≤◌, length, drop, get_or}
-use Rattle.std.proofs.Common.{sym, ap, ◌∙◌, arith, Fits}
+use Rattle.std.specs.Prelude.{◌≡◌, refl, Bool, true, List, [], ◌∷◌, ◌++◌, ℕ, zero, suc, ◌≤◌, length, drop, get_or}
+use Rattle.std.proofs.Common.{ap, ◌∙◌, arith, Fits}
 use Rattle.std.specs.Int.{w64}
 use Rattle.laws.specs.Bools.{◌and◌, every, and_left}
 use Rattle.laws.proofs.BoolLaws.{and_right, and_both}

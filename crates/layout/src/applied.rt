@@ -20,9 +20,7 @@ pub fn push(s: &mut [u8], n: usize, p: usize, kind: u64, src: &[u8])
 {
     let w = 1 + (p + 7) / 8;
     let at = n * w;
-    let a = 8 * at;
-    let e = 8 * (at + w);
-    marked::put_payload(&mut s[a..e], kind, src);
+    marked::put_payload(&mut s[8 * at..8 * (at + w)], kind, src);
 }
 
 // Whether each row is a payload of up to p bytes.
@@ -31,15 +29,11 @@ fn payloads(s: &[u8], n: usize, p: usize) -> bool
     ensures { result ≡ ok_n (payload p) n (W s.now) }
 {
     let w = 1 + (p + 7) / 8;
-    let mut i = 0;
-    while i < n {
+    for i in 0..n {
         let at = rows::start_of(i, n, w);
-        let a = 8 * at;
-        let e = 8 * (at + w);
-        if !marked::check_payload(&s[a..e], p) {
+        if !marked::check_payload(&s[8 * at..8 * (at + w)], p) {
             return false;
         }
-        i += 1;
     }
     true
 }

@@ -11,47 +11,37 @@ ghost use Rattle.client.specs.Key.{key_of};
 ghost use Rattle.layout.specs.Keys.{key_row, keys, Inserts, Removes};
 
 use crate::rows;
-use crate::rows::Found;
 use client::ClientKey;
 
-// What putting a key in answers: how many keys there are then, or that there is no room for it.
+// There is no room for one more key.
 #[derive(Clone, Copy)]
-pub enum Inserting {
-    Inserted(usize),
-    Full,
-}
+pub struct Full;
 
 // Whether a key is there.
 pub fn contains(s: &[u8], n: usize, key: ClientKey) -> bool
     requires { 8 * (n * 2) ≤ length s.now }
     ensures { result ≡ is_some (lookup pairs key_of (key_of key) (rows_in key_row n s.now)) }
 {
-    let f = rows::find2(s, n, 2, key.client as u64, key.seq);
-    match f {
-        Found::At(_) => true,
-        Found::Absent(_) => false,
-    }
+    rows::find(s, n, 2, (key.client as u64, key.seq)).is_ok()
 }
 
-// Puts a key in, unless it is there; a key that is there needs no room.
-pub fn insert(s: &mut [u8], n: usize, room: usize, key: ClientKey) -> Inserting
+// Puts a key in, unless it is there, and answers how many there are then; a key that is there needs no room.
+pub fn insert(s: &mut [u8], n: usize, room: usize, key: ClientKey) -> Result<usize, Full>
     requires n_le_room { n ≤ room }
     requires room_in_bounds { 8 * (room * 2) ≤ length s.old }
     ensures { Inserts key n room result s.old s.new }
 {
     let client = key.client as u64;
-    let seq = key.seq;
-    let f = rows::find2(s, n, 2, client, seq);
-    match f {
-        Found::At(_) => Inserting::Inserted(n),
-        Found::Absent(i) => {
+    match rows::find(s, n, 2, (client, key.seq)) {
+        Ok(_) => Ok(n),
+        Err(i) => {
             if room <= n {
-                return Inserting::Full;
+                return Err(Full);
             }
             let at = rows::start(i, n, 2);
             rows::open_row(s, n, i, 2);
-            words::store_all(s, at, &[client, seq]);
-            Inserting::Inserted(n + 1)
+            words::store_all(s, at, &[client, key.seq]);
+            Ok(n + 1)
         }
     }
 }
@@ -61,13 +51,12 @@ pub fn remove(s: &mut [u8], n: usize, key: ClientKey) -> usize
     requires { 8 * (n * 2) ≤ length s.old }
     ensures { Removes key n result s.old s.new }
 {
-    let f = rows::find2(s, n, 2, key.client as u64, key.seq);
-    match f {
-        Found::At(i) => {
+    match rows::find(s, n, 2, (key.client as u64, key.seq)) {
+        Ok(i) => {
             rows::remove_row(s, n, i, 2);
             n - 1
         }
-        Found::Absent(_) => n,
+        Err(_) => n,
     }
 }
 
@@ -76,12 +65,10 @@ fn clients_below(s: &[u8], n: usize, clients: u64) -> bool
     requires { 8 * (n * 2) ≤ length s.now }
     ensures { result ≡ ok_n (keys clients).row n (W s.now) }
 {
-    let mut i = 0;
-    while i < n {
+    for i in 0..n {
         if clients <= words::load(s, i * 2) {
             return false;
         }
-        i += 1;
     }
     true
 }
@@ -96,5 +83,5 @@ pub fn check(s: &[u8], n: usize, clients: u64) -> bool
     if !clients_below(s, n, clients) {
         return false;
     }
-    rows::rising2(s, n, 2)
+    rows::rising::<(u64, u64)>(s, n, 2)
 }

@@ -53,7 +53,7 @@ pub fn put_payload(s: &mut [u8], kind: u64, src: &[u8])
 fn used(mark: u64) -> usize
     ensures { result ≡ mark - 2 }
 {
-    if mark < 2 { 0 } else { (mark - 2) as usize }
+    mark.saturating_sub(2) as usize
 }
 
 // Reads a payload's kind; the bytes of a command go to the front of buf.

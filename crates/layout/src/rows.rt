@@ -1,10 +1,11 @@
 // A table of n rows of w words in a slice of bytes, for any row type: where a row starts, the moves that make room for a row and that
-// take one out, the place of a key that stands in the first one or two words of a row, and the tests of order and padding. The caller
+// take one out, the place of a key that stands in the first words of a row, and the tests of order and padding. The caller
 // keeps n. Every word after the rows is zero.
-ghost use Rattle.std.specs.Prelude.{◌≡◌, ◌+◌, ◌*◌, ◌/◌, ◌^◌, ◌≤◌, ◌<◌, length};
+// (d) The bytes, n and w are no struct: nearly every caller makes one call with them, and would build it for that one.
+ghost use Rattle.std.specs.Prelude.{◌≡◌, List, ℕ, ◌+◌, ◌*◌, ◌/◌, ◌^◌, ◌≤◌, ◌<◌, length, drop};
 ghost use Rattle.words.specs.Words.{W};
 ghost use Rattle.layout.specs.Tables.{opened, removed, padded};
-ghost use Rattle.laws.specs.Order.{numbers, pairs, rising, sorted};
+ghost use Rattle.laws.specs.Order.{Order, numbers, pairs, rising, sorted};
 ghost use Rattle.layout.specs.Order.{place, last_place, find, one, two, heads};
 
 // The word at which row i starts, for i up to n. A product of two unknowns is beyond `omega`; what a caller wants of it comes with the call.
@@ -15,7 +16,7 @@ pub fn start(i: usize, n: usize, w: usize) -> usize
     i * w
 }
 
-// The same for a row that is there: it ends by the end of the n rows.
+// The same for a row that is there: it ends by the end of the n rows. (d) In one function that would stand under a condition.
 pub fn start_of(i: usize, n: usize, w: usize) -> usize
     requires { (i < n) × (n * w < 2 ^ 64) }
     ensures { (result ≡ i * w) × (result + w ≤ n * w) }
@@ -71,176 +72,128 @@ pub fn padding(s: &[u8], n: usize, w: usize) -> bool
 
 // ---- keys
 
-// Whether (a, b) is before (c, d).
-fn below2(a: u64, b: u64, c: u64, d: u64) -> bool
-    ensures { result ≡ pairs.before (a, b) (c, d) }
-{
-    if a < c {
-        true
-    } else {
-        if c < a { false } else { b < d }
+// What stands in the first words of a row, and its order.
+pub trait Key: Copy {
+    // How many words it takes.
+    ghost words: { ℕ };
+
+    // The key with which the words of a row begin.
+    ghost head: { List ℕ → Self };
+
+    // The order of keys.
+    ghost order: { Order Self };
+
+    // The key of the row that starts at word `at`.
+    fn read(s: &[u8], at: usize) -> Self
+        requires { 8 * (at + words) ≤ length s.now }
+        ensures { result ≡ head (drop at (W s.now)) };
+
+    // Whether it stands before another.
+    fn before(self, other: Self) -> bool
+        ensures { result ≡ order.before self other };
+}
+
+impl Key for u64 {
+    ghost words = { 1 };
+
+    ghost head = { one };
+
+    ghost order = { numbers };
+
+    fn read(s: &[u8], at: usize) -> u64 {
+        words::load(s, at)
+    }
+
+    fn before(self, other: u64) -> bool {
+        self < other
     }
 }
 
-// The place of a key of one number: before the first row whose first word is not below k.
-pub fn place1(s: &[u8], n: usize, w: usize, k: u64) -> usize
-    requires { (0 < w) × (8 * (n * w) ≤ length s.now) }
-    ensures { (result ≡ place numbers k (heads one w n (W s.now))) × (result ≤ n) }
-{
-    let mut i = 0;
-    while i < n {
-        let at = start_of(i, n, w);
-        if k <= words::load(s, at) {
-            return i;
+impl Key for (u64, u64) {
+    ghost words = { 2 };
+
+    ghost head = { two };
+
+    ghost order = { pairs };
+
+    fn read(s: &[u8], at: usize) -> (u64, u64) {
+        (words::load(s, at), words::load(s, at + 1))
+    }
+
+    // (b) The `<` of tuples takes up to twice as long: LLVM then looks at both words of every row.
+    fn before(self, other: (u64, u64)) -> bool {
+        if self.0 < other.0 {
+            true
+        } else if other.0 < self.0 {
+            false
+        } else {
+            self.1 < other.1
         }
-        i += 1;
     }
-    i
 }
 
-// The last place of a key of one number: before the first row whose first word is above k.
-pub fn last_place1(s: &[u8], n: usize, w: usize, k: u64) -> usize
-    requires { (0 < w) × (8 * (n * w) ≤ length s.now) }
-    ensures { (result ≡ last_place numbers k (heads one w n (W s.now))) × (result ≤ n) }
+// The key of row i.
+fn key_at<K: Key>(s: &[u8], n: usize, w: usize, i: usize) -> K
+    requires { (i < n) × (K.words ≤ w) × (8 * (n * w) ≤ length s.now) }
+    ensures { result ≡ K.head (drop (i * w) (W s.now)) }
 {
-    let mut i = 0;
-    while i < n {
-        let at = start_of(i, n, w);
-        if k < words::load(s, at) {
-            return i;
-        }
-        i += 1;
-    }
-    i
+    K::read(s, start_of(i, n, w))
 }
 
-// The place of a key of two numbers: before the first row whose first two words are not below (a, b).
-pub fn place2(s: &[u8], n: usize, w: usize, a: u64, b: u64) -> usize
-    requires { (1 < w) × (8 * (n * w) ≤ length s.now) }
-    ensures { (result ≡ place pairs (a, b) (heads two w n (W s.now))) × (result ≤ n) }
+// The place of a key: before the first row whose key is not below it.
+pub fn place<K: Key>(s: &[u8], n: usize, w: usize, k: K) -> usize
+    requires { (K.words ≤ w) × (8 * (n * w) ≤ length s.now) }
+    ensures { (result ≡ place K.order k (heads K.head w n (W s.now))) × (result ≤ n) }
 {
-    let mut i = 0;
-    while i < n {
-        let at = start_of(i, n, w);
-        if !below2(words::load(s, at), words::load(s, at + 1), a, b) {
-            return i;
-        }
-        i += 1;
-    }
-    i
+    (0..n)
+        .position(|i| !key_at::<K>(s, n, w, i).before(k))
+        .unwrap_or(n)
 }
 
-// Where a key is, or where it would be.
-#[derive(Clone, Copy)]
-pub enum Found {
-    At(usize),
-    Absent(usize),
-}
-
-// Looks for a key of one number among rows that rise.
-pub fn find1(s: &[u8], n: usize, w: usize, k: u64) -> Found
-    requires { (0 < w) × (8 * (n * w) ≤ length s.now) }
-    ensures { result ≡ find numbers k (heads one w n (W s.now)) }
+// The last place of a key: before the first row whose key is above it.
+pub fn last_place<K: Key>(s: &[u8], n: usize, w: usize, k: K) -> usize
+    requires { (K.words ≤ w) × (8 * (n * w) ≤ length s.now) }
+    ensures { (result ≡ last_place K.order k (heads K.head w n (W s.now))) × (result ≤ n) }
 {
-    let i = place1(s, n, w, k);
+    (0..n)
+        .position(|i| k.before(key_at(s, n, w, i)))
+        .unwrap_or(n)
+}
+
+// Looks for a key among rows that rise: where it is, or where it would be.
+pub fn find<K: Key>(s: &[u8], n: usize, w: usize, k: K) -> Result<usize, usize>
+    requires { (K.words ≤ w) × (8 * (n * w) ≤ length s.now) }
+    ensures { result ≡ find K.order k (heads K.head w n (W s.now)) }
+{
+    let i = place(s, n, w, k);
     if n <= i {
-        return Found::Absent(i);
+        return Err(i);
     }
-    let at = start_of(i, n, w);
-    if k < words::load(s, at) {
-        Found::Absent(i)
+    if k.before(key_at(s, n, w, i)) {
+        Err(i)
     } else {
-        Found::At(i)
-    }
-}
-
-// Looks for a key of two numbers among rows that rise.
-pub fn find2(s: &[u8], n: usize, w: usize, a: u64, b: u64) -> Found
-    requires { (1 < w) × (8 * (n * w) ≤ length s.now) }
-    ensures { result ≡ find pairs (a, b) (heads two w n (W s.now)) }
-{
-    let i = place2(s, n, w, a, b);
-    if n <= i {
-        return Found::Absent(i);
-    }
-    let at = start_of(i, n, w);
-    if below2(a, b, words::load(s, at), words::load(s, at + 1)) {
-        Found::Absent(i)
-    } else {
-        Found::At(i)
+        Ok(i)
     }
 }
 
 // ---- order
 
-// Whether the first words rise from row to row.
-pub fn rising1(s: &[u8], n: usize, w: usize) -> bool
-    requires { (0 < w) × (8 * (n * w) ≤ length s.now) }
-    ensures { result ≡ rising numbers (heads one w n (W s.now)) }
+// Whether the keys rise from row to row.
+pub fn rising<K: Key>(s: &[u8], n: usize, w: usize) -> bool
+    requires { (K.words ≤ w) × (8 * (n * w) ≤ length s.now) }
+    ensures { result ≡ rising K.order (heads K.head w n (W s.now)) }
 {
-    if n == 0 {
-        return true;
-    }
-    let zeroth = start_of(0, n, w);
-    let mut k = words::load(s, zeroth);
-    let mut i = 1;
-    while i < n {
-        let at = start_of(i, n, w);
-        let x = words::load(s, at);
-        if x <= k {
-            return false;
-        }
-        k = x;
-        i += 1;
-    }
-    true
+    (0..n)
+        .map(|i| key_at::<K>(s, n, w, i))
+        .is_sorted_by(|a, b| a.before(*b))
 }
 
-// Whether the first words never fall from row to row.
-pub fn sorted1(s: &[u8], n: usize, w: usize) -> bool
-    requires { (0 < w) × (8 * (n * w) ≤ length s.now) }
-    ensures { result ≡ sorted numbers (heads one w n (W s.now)) }
+// Whether the keys never fall from row to row.
+pub fn sorted<K: Key>(s: &[u8], n: usize, w: usize) -> bool
+    requires { (K.words ≤ w) × (8 * (n * w) ≤ length s.now) }
+    ensures { result ≡ sorted K.order (heads K.head w n (W s.now)) }
 {
-    if n == 0 {
-        return true;
-    }
-    let zeroth = start_of(0, n, w);
-    let mut k = words::load(s, zeroth);
-    let mut i = 1;
-    while i < n {
-        let at = start_of(i, n, w);
-        let x = words::load(s, at);
-        if x < k {
-            return false;
-        }
-        k = x;
-        i += 1;
-    }
-    true
-}
-
-// Whether the first two words rise from row to row.
-pub fn rising2(s: &[u8], n: usize, w: usize) -> bool
-    requires { (1 < w) × (8 * (n * w) ≤ length s.now) }
-    ensures { result ≡ rising pairs (heads two w n (W s.now)) }
-{
-    if n == 0 {
-        return true;
-    }
-    let zeroth = start_of(0, n, w);
-    let mut k = words::load(s, zeroth);
-    let mut l = words::load(s, zeroth + 1);
-    let mut i = 1;
-    while i < n {
-        let at = start_of(i, n, w);
-        let x = words::load(s, at);
-        let y = words::load(s, at + 1);
-        if !below2(k, l, x, y) {
-            return false;
-        }
-        k = x;
-        l = y;
-        i += 1;
-    }
-    true
+    (0..n)
+        .map(|i| key_at::<K>(s, n, w, i))
+        .is_sorted_by(|a, b| !b.before(*a))
 }

@@ -1,46 +1,38 @@
 -- The leader of a cluster (simulation.rs, leader): of the running servers that lead, the one with the highest term; among equals the last. Assumes nothing.
-use Rattle.std.specs.Prelude.{Bool, true, ◌&&◌, List, [], ◌∷◌, ℕ, leb}
+use Rattle.std.specs.Prelude.{Bool, true, ◌&&◌, List, [], ◌∷◌, ℕ, leb, Option, None, Some}
+use Rattle.std.specs.Option.{unwrap_or}
 use Rattle.laws.specs.Bools.{pick}
-use Rattle.units.specs.declared.NodeOption.TheVariants.{None as NoNode}
 use Rattle.protocol.specs.Numbers.{role_of, leads}
-use Rattle.protocol.specs.declared.Role.{Role}
 use Rattle.protocol.specs.declared.Role.TheVariants.{Follower}
-use Rattle.protocol.specs.declared.RoleOption.{RoleOption}
-use Rattle.protocol.specs.declared.RoleOption.TheVariants.{None as NoRole, Some as SomeRole}
 use Rattle.leader.specs.declared.Reported.{Reported}
-use Rattle.leader.specs.declared.LeaderOption.{LeaderOption}
-use Rattle.leader.specs.declared.LeaderOption.TheVariants.{None, Some}
+use Rattle.leader.specs.declared.Leading.{Leading}
 
 -- Whether a server's term is at least that of the leader so far, if there is one.
-abbrev pub not_below : LeaderOption → Reported → Bool
+abbrev pub not_below : Option Leading → Reported → Bool
 not_below None r = true
-not_below (Some id term) r = leb term.0 r.status.term.0
+not_below (Some l) r = leb l.term.0 r.status.term.0
 
 -- The leader so far, or the next server where it leads and its term is not below.
-unfoldable pub better : LeaderOption → Reported → LeaderOption
-better best r = pick (leads r.status.role && not_below best r) (Some r.id r.status.term) best
+unfoldable pub better : Option Leading → Reported → Option Leading
+better best r = pick (leads r.status.role && not_below best r) (Some (record { id = r.id; term = r.status.term })) best
 
 -- The leader so far after the servers that are left.
-unfoldable pub leader_from : LeaderOption → List Reported → LeaderOption
+unfoldable pub leader_from : Option Leading → List Reported → Option Leading
 leader_from best [] = best
 leader_from best (r ∷ rs) = leader_from (better best r) rs
 
 -- The leader of a list of servers.
-unfoldable pub leader : List Reported → LeaderOption
+unfoldable pub leader : List Reported → Option Leading
 leader reported = leader_from None reported
 
 -- ---- servers as numbers
 
--- A role read from its number; a number that is no role's counts as a follower's.
-abbrev pub or_follower : RoleOption → Role
-or_follower NoRole = Follower
-or_follower (SomeRole role) = role
-
--- A server from its id, its role's number and its term. What the choice of a leader does not look at is left out: it follows none, and has committed nothing.
+-- A server from its id, its role's number and its term; a number that is no role's counts as a follower's. What the choice of a leader does not
+-- look at is left out: it follows none, and has committed nothing.
 unfoldable pub reported_of : ℕ → ℕ → ℕ → Reported
 reported_of id role term = record {
   id = record { 0 = id };
-  status = record { role = or_follower (role_of role); term = record { 0 = term }; leader = NoNode; commit_index = record { 0 = 0 } };
+  status = record { role = unwrap_or (role_of role) Follower; term = record { 0 = term }; leader = None; commit_index = record { 0 = 0 } };
 }
 
 -- The servers of three lists of numbers, place by place.

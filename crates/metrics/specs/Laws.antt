@@ -1,24 +1,24 @@
 -- Laws of the measurements: which counters a step can carry past 64 bits, when all fit before it. Assumes nothing.
-use Rattle.std.specs.Prelude.{◌≡◌, Bool, true, false, ◌&&◌, ltb, leb, length, get_or, set, drop, replicate}
+use Rattle.std.specs.Prelude.{◌≡◌, Bool, true, false, ◌&&◌, ltb, length, get_or, set, drop, replicate, Option, None, Some}
 use Rattle.std.proofs.Math.Path.{refl, sym, ap}
 use Rattle.std.proofs.Common.{◌∙◌, arith}
 use mathlib.Core.List.{List, [], ◌∷◌, map}
 use Prim.Native.Nat.{ℕ, zero, suc, ◌+◌, ◌-◌, ◌^◌, ◌≤◌, ◌<◌}
+use Rattle.std.specs.Option.{is_some}
 use Rattle.std.specs.Int.{w64}
 use mir.Val.{Val, Fits}
 use denote.Array.{each}
 use denote.Laws.{Is}
 use Rattle.std.specs.Borrow.{RattleType}
 use denote.Shadow.{shadow}
-use borrow.Author.Tests.{lt-ltb, le-leb, eq-eqb, ltb-true, leb-true, eqb-true}
-use Rattle.laws.specs.Bools.{pick, ◌and◌, first_true, second_true, every, and_left, and_assoc, and_true}
-use Rattle.laws.proofs.BoolLaws.{and_right, and_both, true_and, code_and}
+use borrow.Author.Tests.{lt-ltb, le-ltb, eq-eqb, eqb-true}
+use Rattle.laws.specs.Bools.{pick, ◌and◌, no_and, every, and_left, and_true}
+use Rattle.laws.proofs.BoolLaws.{and_right, and_both, and_no, true_and, code_and}
 use Rattle.laws.specs.Lists.{modify}
 use Rattle.units.specs.declared.NodeId.{NodeId}
 use Rattle.metrics.specs.declared.Counts.{Counts}
 use Rattle.metrics.specs.declared.Metrics.{Metrics}
-use Rattle.metrics.specs.declared.Counted.{Counted}
-use Rattle.metrics.specs.Metrics.{no_counts, no_metrics, add, totals_fit, counters_fit, none_counted, metrics_fit, counted, counted_number, record_send, sent_by, deliver_to_leader, record_sync, record_reply}
+use Rattle.metrics.specs.Metrics.{no_counts, no_metrics, add, totals_fit, counters_fit, none_counted, metrics_fit, checked, counted, record_send, sent_by, deliver_to_leader, record_sync, record_reply}
 
 -- What an array by value tells of its elements, from what each tells of itself.
 pub every_owned : (R : RattleType) {A : Type 0} (into : A → R.Denot) (test : A → Bool) → ((x : A) (vs : List Val) → Is R (into x) vs → test x ≡ true)
@@ -66,84 +66,81 @@ fitting m h =
       client_replies = and_right _ _ h₄;
     }
 
--- Whether a sum fits, by a test that computes no sum past 64 bits.
-same_test : (a b : Bool) → (a ≡ true → b ≡ true) → (b ≡ true → a ≡ true) → a ≡ b
-same_test true b f g = sym (f refl)
-same_test false true f g = g refl
-same_test false false f g = refl
+-- a sum that does not fit
+pub too_much : {n m : ℕ} → (n < m → ⊥) → ltb n m ≡ false
+too_much {n} {m} h = le-ltb n m (omega arith)
 
-pub sum_fits_is : (a b : ℕ) → Fits w64 a → leb b (18446744073709551615 - a) ≡ ltb (a + b) (2 ^ 64)
-sum_fits_is a b h =
-    same_test
-    (leb b (18446744073709551615 - a))
-    (ltb (a + b) (2 ^ 64))
-    (λ e. lt-ltb (a + b) (2 ^ 64) (omega (arith, leb-true b (18446744073709551615 - a) e)))
-    (λ e. le-leb b (18446744073709551615 - a) (omega (arith, ltb-true (a + b) (2 ^ 64) e)))
+-- What passes a test is given, and only that.
+module _ {A : Type 0} (fits : A → Bool) (x : A) where
+  pub checked_true : (y : A) → fits x ≡ true → y ≡ x → Some y ≡ checked fits x
+  unfolding checked
+  checked_true y h e = rw (e, h)
 
-pub sum_below : (a b : ℕ) (t : Bool) → t ≡ ltb (a + b) (2 ^ 64) → t ≡ true → Fits w64 (a + b)
-sum_below a b t e h = record { fits = ltb-true (a + b) (2 ^ 64) (sym e ∙ h) }
+  pub checked_false : (r : Option A) → fits x ≡ false → r ≡ None → r ≡ checked fits x
+  unfolding checked
+  checked_false r h e = rw (e, h)
 
-pub first_below : (a b : ℕ) (t u : Bool) → t ≡ ltb (a + b) (2 ^ 64) → (t && u) ≡ true → Fits w64 (a + b)
-first_below a b t u e h = sum_below a b t e (first_true t u h)
+  pub given_passes : (y : A) → Some y ≡ checked fits x → fits x ≡ true
+  unfolding checked
+  given_passes y = by (fits x)
+    where
+      by : (t : Bool) → Some y ≡ pick t (Some x) None → t ≡ true
+      by true e = refl
+      by false e = cc
 
-pub second_below : (a b : ℕ) (t u : Bool) → u ≡ ltb (a + b) (2 ^ 64) → (t && u) ≡ true → Fits w64 (a + b)
-second_below a b t u e h = sum_below a b u e (second_true t u h)
+  pub given_is : (y : A) → Some y ≡ checked fits x → y ≡ x
+  unfolding checked
+  given_is y = by (fits x)
+    where
+      by : (t : Bool) → Some y ≡ pick t (Some x) None → y ≡ x
+      by true e = cc
+      by false e = cc
 
--- One message more in a server's or the cluster's totals.
+  pub withheld : None ≡ checked fits x → fits x ≡ false
+  unfolding checked
+  withheld = by (fits x)
+    where
+      by : (t : Bool) → None ≡ pick t (Some x) None → t ≡ false
+      by true e = cc
+      by false e = refl
+
+  checked_is_some : is_some (checked fits x) ≡ fits x
+  unfolding checked
+  checked_is_some = by (fits x)
+    where
+      by : (t : Bool) → is_some (pick t (Some x) None) ≡ t
+      by true = refl
+      by false = refl
+
+-- whether an answer is accepted is whether what it counts fits
+pub counted_fits : (next : Metrics) → is_some (counted next) ≡ counters_fit next
+counted_fits next = checked_is_some counters_fit next
+
+-- One message more in a server's or the cluster's totals, from the sums that fit or do not.
 module _ (c : Counts) (bytes entries : ℕ) where
-  pub room_is : (t u v : Bool) → t ≡ ltb (c.messages + 1) (2 ^ 64) → u ≡ ltb (c.bytes + bytes) (2 ^ 64) → v ≡ ltb (c.entries + entries) (2 ^ 64)
-      → ((t && u) && v) ≡ totals_fit (add bytes entries c)
+  pub messages_full : (r : Option Counts) → (c.messages + 1 < 2 ^ 64 → ⊥) → r ≡ None → r ≡ checked totals_fit (add bytes entries c)
   unfolding totals_fit add
-  room_is t u v e₀ e₁ e₂ = rw (e₀, e₁, e₂) (simp (code_and, and_assoc))
+  messages_full r h = checked_false _ _ r (no_and _ _ (too_much h))
 
-  pub messages_below : totals_fit (add bytes entries c) ≡ true → Fits w64 (c.messages + 1)
+  pub bytes_full : (r : Option Counts) → (c.bytes + bytes < 2 ^ 64 → ⊥) → r ≡ None → r ≡ checked totals_fit (add bytes entries c)
   unfolding totals_fit add
-  messages_below h = record { fits = ltb-true _ _ (and_left _ _ h) }
+  bytes_full r h = checked_false _ _ r (and_no _ _ (no_and _ _ (too_much h)))
 
-  pub bytes_below : totals_fit (add bytes entries c) ≡ true → Fits w64 (c.bytes + bytes)
+  pub entries_full : (r : Option Counts) → (c.entries + entries < 2 ^ 64 → ⊥) → r ≡ None → r ≡ checked totals_fit (add bytes entries c)
   unfolding totals_fit add
-  bytes_below h = record { fits = ltb-true _ _ (and_left _ _ (and_right _ _ h)) }
+  entries_full r h = checked_false _ _ r (and_no _ _ (and_no _ _ (too_much h)))
 
-  pub entries_below : totals_fit (add bytes entries c) ≡ true → Fits w64 (c.entries + entries)
+  pub added : (m n k : ℕ) → (c.messages + 1 < 2 ^ 64) × (m ≡ c.messages + 1) → (c.bytes + bytes < 2 ^ 64) × (n ≡ c.bytes + bytes)
+      → (c.entries + entries < 2 ^ 64) × (k ≡ c.entries + entries) → Some (record { messages = m; bytes = n; entries = k }) ≡ checked totals_fit (add bytes entries c)
   unfolding totals_fit add
-  entries_below h = record { fits = ltb-true _ _ (and_right _ _ (and_right _ _ h)) }
-
-  module _ (d : Counts) (t u : Bool) (e : t ≡ totals_fit (add bytes entries c)) (e' : u ≡ totals_fit (add bytes entries d)) (h : (t && u) ≡ true) where
-    pub first_room : totals_fit (add bytes entries c) ≡ true
-    first_room = sym e ∙ first_true t u h
-
-    pub second_room : totals_fit (add bytes entries d) ≡ true
-    second_room = sym e' ∙ second_true t u h
+  added m n k p q r =
+      checked_true _ _ _
+      (and_both _ _ (lt-ltb _ _ p.0) (and_both _ _ (lt-ltb _ _ q.0) (lt-ltb _ _ r.0)))
+      (rw (p.1, q.1, r.1))
 
 fits_alone : (bytes entries : ℕ) → Fits w64 bytes → Fits w64 entries → totals_fit (add bytes entries no_counts) ≡ true
 unfolding totals_fit add
 fits_alone bytes entries h k = simp (lt-ltb (0 + bytes) (2 ^ 64) (omega arith), lt-ltb (0 + entries) (2 ^ 64) (omega arith), true_and)
-
--- What counting answers, by the test of what it adds.
-pub counted_true : (m next new : Metrics) (t : Bool) → counters_fit next ≡ t → t ≡ true → new ≡ next → record { fits = true; metrics = new } ≡ counted m next
-unfolding counted
-counted_true m next new t e h n = rw (e, h, n)
-
-pub counted_false : (m next : Metrics) (t : Bool) → counters_fit next ≡ t → t ≡ false → record { fits = false; metrics = m } ≡ counted m next
-unfolding counted
-counted_false m next t e h = rw (e, h)
-
-pub number_true : (next new : Metrics) (t : Bool) → counters_fit next ≡ t → t ≡ true → counted_number (record { fits = true; metrics = new }) ≡ pick (counters_fit next) 0 10
-unfolding counted_number
-number_true next new t e h = rw (e, h)
-
-pub number_false : (m next : Metrics) (t : Bool) → counters_fit next ≡ t → t ≡ false → counted_number (record { fits = false; metrics = m }) ≡ pick (counters_fit next) 0 10
-unfolding counted_number
-number_false m next t e h = rw (e, h)
-
--- whether an answer is accepted is whether what it counts fits
-pub counted_fits : (m next : Metrics) → (counted m next).fits ≡ counters_fit next
-unfolding counted
-counted_fits m next = by (counters_fit next)
-  where
-    by : (t : Bool) → (pick {A = Counted} t (record { fits = true; metrics = next }) (record { fits = false; metrics = m })).fits ≡ t
-    by true = refl
-    by false = refl
 
 pub sent_is : (m : Metrics) (from : NodeId) (bytes entries : ℕ) (sent sender : Counts) → sent ≡ add bytes entries m.sent → sender ≡ add bytes entries (sent_by m from)
     → record {
@@ -167,24 +164,23 @@ module _ (m : Metrics) (h : counters_fit m ≡ true) where
       let e = every_modify (add bytes entries) no_counts totals_fit (fits_alone bytes entries fb fe) (from.0 - 1) m.by_sender p.by_sender in
       simp (p.entries_to_leaders, p.fsyncs, p.storage_bytes, p.client_replies, true_and, and_true, e, code_and, e₀, e₁)
 
-  pub delivered_fits : (entries : ℕ) (t : Bool) → t ≡ ltb (m.entries_to_leaders + entries) (2 ^ 64) → counters_fit (deliver_to_leader m entries) ≡ t
+  pub delivered_fits : (entries : ℕ) → counters_fit (deliver_to_leader m entries) ≡ ltb (m.entries_to_leaders + entries) (2 ^ 64)
   unfolding counters_fit deliver_to_leader
-  delivered_fits entries t e =
+  delivered_fits entries =
       let p = fitting m h in
-      simp (p.sent, p.by_sender, p.fsyncs, p.storage_bytes, p.client_replies, true_and, and_true, e)
+      simp (p.sent, p.by_sender, p.fsyncs, p.storage_bytes, p.client_replies, true_and, and_true)
 
-  pub synced_fits : (bytes : ℕ) (t u : Bool) → t ≡ ltb (m.fsyncs + 1) (2 ^ 64) → u ≡ ltb (m.storage_bytes + bytes) (2 ^ 64)
-      → counters_fit (record_sync m bytes) ≡ (t && u)
+  pub synced_fits : (bytes : ℕ) → counters_fit (record_sync m bytes) ≡ (ltb (m.fsyncs + 1) (2 ^ 64) and ltb (m.storage_bytes + bytes) (2 ^ 64))
   unfolding counters_fit record_sync
-  synced_fits bytes t u e₀ e₁ =
+  synced_fits bytes =
       let p = fitting m h in
-      simp (p.sent, p.by_sender, p.entries_to_leaders, p.client_replies, true_and, and_true, code_and, e₀, e₁)
+      simp (p.sent, p.by_sender, p.entries_to_leaders, p.client_replies, true_and, and_true)
 
-  pub replied_fits : (t : Bool) → t ≡ ltb (m.client_replies + 1) (2 ^ 64) → counters_fit (record_reply m) ≡ t
+  pub replied_fits : counters_fit (record_reply m) ≡ ltb (m.client_replies + 1) (2 ^ 64)
   unfolding counters_fit record_reply
-  replied_fits t e =
+  replied_fits =
       let p = fitting m h in
-      simp (p.sent, p.by_sender, p.entries_to_leaders, p.fsyncs, p.storage_bytes, true_and, e)
+      simp (p.sent, p.by_sender, p.entries_to_leaders, p.fsyncs, p.storage_bytes, true_and)
 
 -- ---- the ranges in a cluster of S servers
 
@@ -252,14 +248,4 @@ module _ (S : ℕ) (m : Metrics) (h : metrics_fit S m ≡ true) where
   unfolding record_reply
   replied_in_range = with_senders (record_reply m) refl refl
 
-pub ruleset sums_below = (messages_below, bytes_below, entries_below)
-
-pub ruleset answers = (refl, counted_true, counted_false, number_true, number_false)
-
-pub ruleset sending = (answers, sent_is, sent_fits)
-
-pub ruleset delivering = (answers, sum_below, delivered_fits)
-
-pub ruleset syncing = (answers, first_below, second_below, synced_fits)
-
-pub ruleset replying = (answers, sum_below, replied_fits)
+pub ruleset adding = (messages_full, bytes_full, entries_full, added)

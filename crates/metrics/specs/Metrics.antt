@@ -1,11 +1,10 @@
 -- Measurements (metrics.rs), over numbers without limit. Assumes nothing.
-use Rattle.std.specs.Prelude.{Bool, true, false, ℕ, ◌+◌, ◌-◌, ◌^◌, ltb, eqb, length, get_or, drop, replicate}
+use Rattle.std.specs.Prelude.{◌≡◌, Bool, ℕ, ◌+◌, ◌-◌, ◌^◌, ltb, eqb, length, get_or, drop, replicate, Option, None, Some}
 use Rattle.laws.specs.Bools.{pick, every, ◌and◌}
 use Rattle.laws.specs.Lists.{modify}
 use Rattle.units.specs.declared.NodeId.{NodeId}
 use Rattle.metrics.specs.declared.Counts.{Counts}
 use Rattle.metrics.specs.declared.Metrics.{Metrics}
-use Rattle.metrics.specs.declared.Counted.{Counted}
 
 -- Nothing counted (Counts::default).
 abbrev pub no_counts : Counts
@@ -94,10 +93,20 @@ none_counted c = eqb c.messages 0 and eqb c.bytes 0 and eqb c.entries 0
 unfoldable pub metrics_fit : ℕ → Metrics → Bool
 metrics_fit S m = eqb (length m.by_sender) 8 and every none_counted (drop S m.by_sender) and counters_fit m
 
--- What counting answers: the next metrics if every counter fits, else those before.
-unfoldable pub counted : Metrics → Metrics → Counted
-counted m next = pick (counters_fit next) (record { fits = true; metrics = next }) (record { fits = false; metrics = m })
+-- A value if it passes a test.
+unfoldable pub checked : {A : Type 0} → (A → Bool) → A → Option A
+checked fits x = pick (fits x) (Some x) None
+
+-- What counting answers: the next metrics if every counter fits.
+abbrev pub counted : Metrics → Option Metrics
+counted next = checked counters_fit next
 
 -- Document 01's number for what counting answers: 0 where every counter fits, else question 10's.
-unfoldable pub counted_number : Counted → ℕ
-counted_number c = pick c.fits 0 10
+unfoldable pub counted_number : Option Metrics → ℕ
+counted_number (Some next) = 0
+counted_number None = 10
+
+-- An answer to counting up to some metrics, with its number.
+pub record Counting (next : Metrics) (answer : Option Metrics) : Type 0 where
+  pub value : answer ≡ counted next
+  pub number : counted_number answer ≡ pick (counters_fit next) 0 10

@@ -1,9 +1,8 @@
 // Measurements (metrics.rs).
 #![tactic(auto)]
 
-ghost use Rattle.std.specs.Prelude.{◌≡◌, true, ◌+◌, ◌^◌, ◌≤◌, ltb};
-ghost use Rattle.laws.specs.Bools.{pick};
-ghost use Rattle.metrics.specs.Metrics.{no_metrics, add, totals_fit, record_send, sent_by, deliver_to_leader, record_sync, record_reply, counted, counters_fit, counted_number};
+ghost use Rattle.std.specs.Prelude.{◌≡◌, ◌≤◌};
+ghost use Rattle.metrics.specs.Metrics.{no_metrics, add, totals_fit, record_send, sent_by, deliver_to_leader, record_sync, record_reply, checked, Counting};
 
 use units::NodeId;
 
@@ -33,38 +32,17 @@ pub struct Metrics {
     pub client_replies: u64,
 }
 
-// The metrics with something more counted; unchanged where a counter would pass 64 bits.
-#[derive(Clone, Copy)]
-pub struct Counted {
-    pub fits: bool,
-    pub metrics: Metrics,
-}
-
-// Whether a sum fits 64 bits.
-fn sum_fits(a: u64, b: u64) -> bool
-    ensures { result ≡ ltb (a + b) (2 ^ 64) }
-{
-    b <= 18446744073709551615 - a
-}
-
 impl Counts {
-    // Whether one message more fits 64 bits.
-    fn has_room(self, bytes: u64, entries: u64) -> bool
-        ensures { result ≡ totals_fit (add bytes entries self) }
+    // One message more, where that fits 64 bits.
+    #[tactic(auto, using(crate::specs::Laws::adding))]
+    fn add(self, bytes: u64, entries: u64) -> Option<Counts>
+        ensures { result ≡ checked totals_fit (add bytes entries self) }
     {
-        sum_fits(self.messages, 1) & sum_fits(self.bytes, bytes) & sum_fits(self.entries, entries)
-    }
-
-    // One message more.
-    fn add(self, bytes: u64, entries: u64) -> Counts
-        requires { totals_fit (add bytes entries self) ≡ true }
-        ensures { result ≡ add bytes entries self }
-    {
-        Counts {
-            messages: self.messages + 1,
-            bytes: self.bytes + bytes,
-            entries: self.entries + entries,
-        }
+        Some(Counts {
+            messages: self.messages.checked_add(1)?,
+            bytes: self.bytes.checked_add(bytes)?,
+            entries: self.entries.checked_add(entries)?,
+        })
     }
 }
 
@@ -88,29 +66,15 @@ impl Metrics {
         }
     }
 
-    // A message sent by a server.
-    pub fn record_send(self, from: NodeId, bytes: u64, entries: u64) -> Counted
+    // The metrics with a message sent by a server; none where a counter would pass 64 bits, as of each count below.
+    pub fn record_send(mut self, from: NodeId, bytes: u64, entries: u64) -> Option<Metrics>
         requires { (1 ≤ from.0) × (from.0 ≤ 8) }
-        ensures value { result ≡ counted self (record_send self from bytes entries) }
-        ensures result_value { counted_number result ≡ pick (counters_fit (record_send self from bytes entries)) 0 10 }
+        ensures { Counting (record_send self from bytes entries) result }
     {
         let at = (from.0 - 1) as usize;
-        let sent = self.sent;
-        let sender = self.by_sender[at];
-        if sent.has_room(bytes, entries) & sender.has_room(bytes, entries) {
-            let mut next = self;
-            next.sent = sent.add(bytes, entries);
-            next.by_sender[at] = sender.add(bytes, entries);
-            Counted {
-                fits: true,
-                metrics: next,
-            }
-        } else {
-            Counted {
-                fits: false,
-                metrics: self,
-            }
-        }
+        self.sent = self.sent.add(bytes, entries)?;
+        self.by_sender[at] = self.by_sender[at].add(bytes, entries)?;
+        Some(self)
     }
 
     // The totals for messages sent by a server.
@@ -118,68 +82,31 @@ impl Metrics {
         requires { (1 ≤ server.0) × (server.0 ≤ 8) }
         ensures { result ≡ sent_by self server }
     {
-        let at = (server.0 - 1) as usize;
-        self.by_sender[at]
+        self.by_sender[(server.0 - 1) as usize]
     }
 
     // Entries delivered to a candidate or leader.
-    pub fn deliver_to_leader(self, entries: u64) -> Counted
-        ensures value { result ≡ counted self (deliver_to_leader self entries) }
-        ensures result_value { counted_number result ≡ pick (counters_fit (deliver_to_leader self entries)) 0 10 }
+    pub fn deliver_to_leader(mut self, entries: u64) -> Option<Metrics>
+        ensures { Counting (deliver_to_leader self entries) result }
     {
-        if sum_fits(self.entries_to_leaders, entries) {
-            let mut next = self;
-            next.entries_to_leaders = self.entries_to_leaders + entries;
-            Counted {
-                fits: true,
-                metrics: next,
-            }
-        } else {
-            Counted {
-                fits: false,
-                metrics: self,
-            }
-        }
+        self.entries_to_leaders = self.entries_to_leaders.checked_add(entries)?;
+        Some(self)
     }
 
     // A sync that wrote so many bytes.
-    pub fn record_sync(self, bytes: u64) -> Counted
-        ensures value { result ≡ counted self (record_sync self bytes) }
-        ensures result_value { counted_number result ≡ pick (counters_fit (record_sync self bytes)) 0 10 }
+    pub fn record_sync(mut self, bytes: u64) -> Option<Metrics>
+        ensures { Counting (record_sync self bytes) result }
     {
-        if sum_fits(self.fsyncs, 1) & sum_fits(self.storage_bytes, bytes) {
-            let mut next = self;
-            next.fsyncs = self.fsyncs + 1;
-            next.storage_bytes = self.storage_bytes + bytes;
-            Counted {
-                fits: true,
-                metrics: next,
-            }
-        } else {
-            Counted {
-                fits: false,
-                metrics: self,
-            }
-        }
+        self.fsyncs = self.fsyncs.checked_add(1)?;
+        self.storage_bytes = self.storage_bytes.checked_add(bytes)?;
+        Some(self)
     }
 
     // A command acknowledged to its client.
-    pub fn record_reply(self) -> Counted
-        ensures value { result ≡ counted self (record_reply self) }
-        ensures result_value { counted_number result ≡ pick (counters_fit (record_reply self)) 0 10 }
+    pub fn record_reply(mut self) -> Option<Metrics>
+        ensures { Counting (record_reply self) result }
     {
-        if sum_fits(self.client_replies, 1) {
-            let mut next = self;
-            next.client_replies = self.client_replies + 1;
-            Counted {
-                fits: true,
-                metrics: next,
-            }
-        } else {
-            Counted {
-                fits: false,
-                metrics: self,
-            }
-        }
+        self.client_replies = self.client_replies.checked_add(1)?;
+        Some(self)
     }
 }

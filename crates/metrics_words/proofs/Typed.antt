@@ -1,9 +1,9 @@
 -- What the type Metrics tells of a value: eight senders. Assumes nothing.
-use mathlib.Core.Path.{◌≡◌, ◌∙◌, sym}
+use mathlib.Core.Path.{◌≡◌}
 use mathlib.Core.List.{List}
 use mir.Val.{Val}
 use denote.Laws.{Is}
-use lib.ListN.{length, length-map}
+use lib.ListN.{length}
 use Rattle.metrics.specs.declared.Metrics.{Metrics}
 use Rattle.metrics.specs.contracts.Metrics as Metrics'
 

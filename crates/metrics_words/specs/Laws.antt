@@ -1,18 +1,19 @@
 -- What the proofs cite. Assumes nothing.
-use Rattle.std.specs.Prelude.{◌≡◌, refl, Bool, true, false, List, [], ◌∷◌, ◌++◌, ℕ, zero, suc, ◌+◌, ◌-◌, ◌*◌, ◌≤◌, ◌<◌, length, get_or, set, take, drop, replicate}
+use Rattle.std.specs.Prelude.{◌≡◌, refl, Bool, false, List, [], ◌∷◌, ◌++◌, ℕ, zero, suc, ◌+◌, ◌-◌, ◌*◌, ◌≤◌, ◌<◌, length, get_or, take, drop}
 use Rattle.std.proofs.Math.Path.{sym, ap}
-use Rattle.std.proofs.Common.{ap₂, ◌∙◌, append_assoc, append-nil, add-zero, add-one, length-append, length-set, length-take-le, take_all, take-suc, take-suc-set, get_or-drop, drop-drop}
+use Rattle.std.proofs.Common.{ap₂, ◌∙◌, append_assoc, add-zero, add-one, length-append, length-take-le, take_all, take-suc, get_or-drop, drop-drop}
 use native.Mathlib.Omega.{arith}
 use Rattle.std.proofs.Math.ListN.{length-drop}
 use Rattle.std.proofs.lemmas.List.Edits.{sets}
 use Rattle.std.proofs.Math.Seq.{length-sets}
 use Rattle.laws.specs.Bools.{◌and◌, every, and_assoc}
 use Rattle.laws.specs.Decides.{Decides, fails}
+use Rattle.laws.specs.Lists.{list_from}
 use Rattle.words.specs.Words.{bytes, W, allz, Bytes}
 use Rattle.words.specs.Sets.{sets_append}
 use Rattle.words.specs.Lift.{bytes_append, length_bytes, length_w}
 use Rattle.layout.specs.Code.{flat, parse_n}
-use Rattle.layout.specs.Tables.{Holds, Content}
+use Rattle.layout.specs.Tables.{Content}
 use Rattle.layout.specs.Regions.{Loads, Stores, store_whole}
 use Rattle.layout.specs.Contents.{holds_length, holds_parse, decides_ok}
 use Rattle.layout.specs.Rows.{flat_append}
@@ -23,10 +24,6 @@ use Rattle.metrics_words.specs.MetricsCode.{counts_code, counts_at, metrics_code
 
 -- ---- load
 
-pub counts_read : (ws : List ℕ) (i m n e : ℕ) → m ≡ get_or ws i 0 → n ≡ get_or ws (i + 1) 0 → e ≡ get_or ws (i + 2) 0 → record { messages = m; bytes = n; entries = e } ≡ counts_at ws i
-unfolding counts_at
-counts_read ws i m n e e₀ e₁ e₂ = rw (e₀, e₁, e₂)
-
 -- what the code reads is what the words say
 parse_at : (ws : List ℕ) (i : ℕ) → counts_code.parse (drop i ws) ≡ counts_at ws i
 unfolding counts_at
@@ -34,38 +31,17 @@ parse_at ws i =
     let e : i + 1 + 1 ≡ i + 2 = omega arith in
     simp (get_or-drop, drop-drop, add-zero, e)
 
--- the loop of `load_senders`: the first k totals are read
-pub record Read (ws : List ℕ) (k : ℕ) (senders : List Counts) : Type 0 where
-  pub is : parse_n counts_code 8 (drop 3 ws) ≡ take k senders ++ parse_n counts_code (8 - k) (drop (3 + k * 3) ws)
-  pub long : length senders ≡ 8
-  pub upto : k ≤ 8
+-- the totals of the senders, place by place
+senders_from : (ws : List ℕ) (i n : ℕ) → list_from i n (λ k. counts_at ws (3 + k * 3)) ≡ parse_n counts_code n (drop (3 + i * 3) ws)
+unfolding list_from
+senders_from ws i zero = refl
+senders_from ws i (suc n) =
+    let m : 3 + i * 3 + 3 ≡ 3 + suc i * 3 = omega arith in
+    ap₂ (λ (x : Counts) (xs : List Counts). x ∷ xs) (sym (parse_at ws (3 + i * 3)))
+    (senders_from ws (suc i) n ∙ ap (parse_n counts_code n) (sym (drop-drop 3 (3 + i * 3) ws ∙ ap (λ (j : ℕ). drop j ws) m)))
 
-pub read_start : (ws : List ℕ) → Read ws 0 (replicate 8 no_counts)
-read_start ws = record { is = refl; long = refl; upto = omega arith }
-
-module _ (ws : List ℕ) (k : ℕ) (senders : List Counts) (r : Read ws k senders) where
-  pub read_turn : (c : Counts) → k < 8 → c ≡ counts_at ws (3 + k * 3) → Read ws (k + 1) (set senders k c)
-  read_turn c h e =
-      let n : 8 - k ≡ suc (8 - suc k) = omega arith in
-      let m : 3 + k * 3 + 3 ≡ 3 + suc k * 3 = omega arith in
-      let s : take (suc k) (set senders k c) ≡ take k senders ++ c ∷ [] = take-suc-set senders k c (omega (arith, r.long)) in
-      let p : counts_code.parse (drop (3 + k * 3) ws) ≡ c = parse_at ws (3 + k * 3) ∙ sym e in
-      let d : drop 3 (drop (3 + k * 3) ws) ≡ drop (3 + suc k * 3) ws = drop-drop 3 (3 + k * 3) ws ∙ ap (λ (j : ℕ). drop j ws) m in
-      rw add-one (record {
-        is = r.is ∙ ap (λ (j : ℕ). take k senders ++ parse_n counts_code j (drop (3 + k * 3) ws)) n
-            ∙ ap₂ (λ (x : Counts) (v : List ℕ). take k senders ++ x ∷ parse_n counts_code (8 - suc k) v) p d
-            ∙ sym (ap (λ (l : List Counts). l ++ parse_n counts_code (8 - suc k) (drop (3 + suc k * 3) ws)) s
-            ∙ append_assoc (take k senders) (c ∷ []) (parse_n counts_code (8 - suc k) (drop (3 + suc k * 3) ws)));
-        long = length-set senders k c ∙ r.long;
-        upto = omega arith;
-      })
-
-  pub read_done : 8 ≤ k → senders ≡ parse_n counts_code 8 (drop 3 ws)
-  read_done h =
-      let z : 8 - k ≡ 0 = omega arith in
-      sym (r.is ∙ ap (λ (j : ℕ). take k senders ++ parse_n counts_code j (drop (3 + k * 3) ws)) z ∙ append-nil (take k senders) ∙ take_all k senders (omega (arith, r.long)))
-
-pub ruleset reading = (read_start, read_turn, read_done)
+pub senders_at : (ws : List ℕ) → list_from 0 8 (λ k. counts_at ws (3 + k * 3)) ≡ parse_n counts_code 8 (drop 3 ws)
+senders_at ws = senders_from ws 0 8
 
 pub loads_metrics : (b : List ℕ) (sent : Counts) (senders : List Counts) (e f s c : ℕ)
     → sent ≡ counts_at (W b) 0 → senders ≡ parse_n counts_code 8 (drop 3 (W b))

@@ -13,8 +13,10 @@ ghost use Rattle.metrics.specs.Metrics.{metrics_fit};
 ghost use Rattle.metrics_words.specs.MetricsCode.{counts_code, counts_at, metrics_code};
 
 use metrics::{Counts, Metrics};
+use std::array;
 
 // The totals in three words from word i on.
+#[tactic(auto, unfolding(crate::specs::MetricsCode::counts_at))]
 fn load_counts(s: &[u8], i: usize) -> Counts
     requires { 8 * i + 24 ≤ length s.now }
     ensures { result ≡ counts_at (W s.now) i }
@@ -31,18 +33,7 @@ fn load_senders(s: &[u8]) -> [Counts; 8]
     requires { length s.now ≡ 248 }
     ensures { result ≡ parse_n counts_code 8 (drop 3 (W s.now)) }
 {
-    let none = Counts {
-        messages: 0,
-        bytes: 0,
-        entries: 0,
-    };
-    let mut senders = [none; 8];
-    let mut k: usize = 0;
-    while k < 8 {
-        senders[k] = load_counts(s, 3 + k * 3);
-        k += 1;
-    }
-    senders
+    array::from_fn(|k| load_counts(s, 3 + k * 3))
 }
 
 // The metrics whose content the region is.
@@ -74,10 +65,8 @@ fn store_senders(s: &mut [u8], senders: [Counts; 8])
     requires { length s.old ≡ 248 }
     ensures { s.new ≡ sets s.old (8 * 3) (bytes (flat counts_code.enc senders)) }
 {
-    let mut k: usize = 0;
-    while k < 8 {
-        store_counts(s, 3 + k * 3, senders[k]);
-        k += 1;
+    for (k, sender) in senders.iter().enumerate() {
+        store_counts(s, 3 + k * 3, *sender);
     }
 }
 

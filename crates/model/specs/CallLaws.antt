@@ -1,6 +1,6 @@
 -- The calls' readings of numbers and bytes are the modules' own: timers and roles as `protocol` reads them, payloads as they lie in
 -- words; and the faults that are scheduled are in range. Assumes nothing.
-use Rattle.std.specs.Prelude.{◌≡◌, refl, Bool, true, false, List, [], ◌∷◌, ℕ, zero, suc, ◌+◌, ◌*◌, ◌/◌, ◌%◌, ◌^◌, ◌≤◌, ◌<◌, leb, ltb, eqb, length}
+use Rattle.std.specs.Prelude.{◌≡◌, refl, Bool, true, false, List, [], ◌∷◌, ℕ, zero, suc, ◌+◌, ◌*◌, ◌/◌, ◌%◌, ◌^◌, ◌≤◌, ◌<◌, leb, ltb, eqb, length, None, Some}
 use Rattle.std.proofs.Common.{sym, ap, ◌∙◌, subst, pow-suc, div-lt_iff_lt-mul, arith, pow_pos, pow_mono, lt-ltb, le-leb, eq-eqb, ne_eqb, ltb-true, leb-true, leb-false, eqb-true}
 use Rattle.std.proofs.Math.Nat.{pow-zero, pow-le-pow_right}
 use Rattle.laws.specs.Bools.{pick, cases, ◌and◌, every, and_left}
@@ -11,39 +11,36 @@ use Rattle.units.specs.Types.{noop, command, payload_of}
 use Rattle.layout.specs.Marked.{is_byte}
 use Rattle.layout.specs.Payload.{payload}
 use Rattle.protocol.specs.Numbers as protocol
-use Rattle.protocol.specs.declared.TimerOption.TheVariants as timer
-use Rattle.protocol.specs.declared.RoleOption.TheVariants as role
 use Rattle.faults.specs.Fault as faults
-use Rattle.faults.specs.Fault.{only, fault_of, groups_in, fault_in_range, within_limits}
+use Rattle.faults.specs.Fault.{fault_of, groups_in, fault_in_range, within_limits}
 use Rattle.faults.specs.declared.Fault.{Fault}
 use Rattle.faults.specs.declared.Fault.TheVariants.{Partition}
-use Rattle.faults.specs.declared.FaultOption.TheVariants.{Some}
 use Rattle.model.specs.State.{State}
 use Rattle.model.specs.Calls.{is_flag, timer_of, role_of, is_payload, groups_word, fault_given, targets_known, members_known}
 use Rattle.model.specs.FitsLaws.{payload_fits}
 
 -- ---- timers and roles
 
-pub timer_known : (n : ℕ) → is_flag n ≡ true → protocol.timer_of n ≡ timer.Some (timer_of n)
+pub timer_known : (n : ℕ) → is_flag n ≡ true → protocol.timer_of n ≡ Some (timer_of n)
 unfolding protocol.timer_of kind_of
 timer_known zero h = refl
 timer_known (suc zero) h = refl
 timer_known (suc (suc n)) h = absurd (omega (arith, leb-true (suc (suc n)) 1 h))
 
-pub timer_unknown : (n : ℕ) → is_flag n ≡ false → protocol.timer_of n ≡ timer.None
+pub timer_unknown : (n : ℕ) → is_flag n ≡ false → protocol.timer_of n ≡ None
 unfolding protocol.timer_of kind_of
 timer_unknown n h =
     let l = leb-false n 1 h in
     rw (ne_eqb n 0 (λ e. omega (arith, l)), ne_eqb n 1 (λ e. omega (arith, l))) refl
 
-pub role_known : (n : ℕ) → leb n 2 ≡ true → protocol.role_of n ≡ role.Some (role_of n)
+pub role_known : (n : ℕ) → leb n 2 ≡ true → protocol.role_of n ≡ Some (role_of n)
 unfolding protocol.role_of kind_of
 role_known zero h = refl
 role_known (suc zero) h = refl
 role_known (suc (suc zero)) h = refl
 role_known (suc (suc (suc n))) h = absurd (omega (arith, leb-true (suc (suc (suc n))) 2 h))
 
-pub role_unknown : (n : ℕ) → leb n 2 ≡ false → protocol.role_of n ≡ role.None
+pub role_unknown : (n : ℕ) → leb n 2 ≡ false → protocol.role_of n ≡ None
 unfolding protocol.role_of kind_of
 role_unknown n h =
     let l = leb-false n 2 h in
@@ -102,7 +99,7 @@ groups_word_fits groups b l =
 partition_known : (s : State) (kind a b : ℕ) (groups : List ℕ) (f : Fault) → length s.servers ≤ 8
     → fault_given kind a b groups ≡ Some f → kind ≡ 4
     → members_known s groups ≡ true → faults.targets_known (length s.servers) f ≡ true
-unfolding fault_given fault_of only
+unfolding fault_given fault_of
 partition_known s kind a b groups f h e k m =
     let e' : Some (Partition (groups_word groups)) ≡ Some f = subst (λ (n : ℕ). fault_given n a b groups ≡ Some f) k e in
     let p : Partition (groups_word groups) ≡ f = cc in

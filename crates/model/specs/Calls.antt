@@ -1,12 +1,9 @@
 -- Every call (document 01): the questions that it meets, in order, and what it does. Of the questions, 4 and 5 are asked of the area's bytes and 10 of the state
 -- that a call gives; here are 6 to 9. A refused call gives the number of the first question answered no. Assumes nothing.
-use Rattle.std.specs.Prelude.{Bool, true, false, List, [], ◌∷◌, ℕ, suc, ◌+◌, ◌-◌, ◌*◌, ◌^◌, max, leb, ltb, eqb, length, get_or}
-use Rattle.std.proofs.Math.Option.{none, some}
+use Rattle.std.specs.Prelude.{Bool, true, false, List, [], ◌∷◌, ℕ, suc, ◌+◌, ◌-◌, ◌*◌, ◌^◌, max, leb, ltb, eqb, length, get_or, Option, None, Some}
 use Rattle.laws.specs.Bools.{pick, every, ◌and◌}
 use Rattle.units.specs.Types.{payload_of}
 use Rattle.units.specs.declared.NodeId.{NodeId}
-use Rattle.units.specs.declared.NodeOption.{NodeOption}
-use Rattle.units.specs.declared.NodeOption.TheVariants.{None, Some}
 use Rattle.units.specs.declared.Term.{Term}
 use Rattle.units.specs.declared.LogIndex.{LogIndex}
 use Rattle.units.specs.declared.SimTime.{SimTime}
@@ -20,8 +17,6 @@ use Rattle.protocol.specs.declared.RequestId.{RequestId}
 use Rattle.protocol.specs.declared.Status.{Status}
 use Rattle.faults.specs.Fault as faults
 use Rattle.faults.specs.declared.Fault.{Fault}
-use Rattle.faults.specs.declared.FaultOption.{FaultOption}
-use Rattle.faults.specs.declared.FaultOption.TheVariants as Given
 use Rattle.config.specs.declared.SimConfig.{SimConfig}
 use Rattle.config.specs.declared.Limits.{Limits}
 use Rattle.config.specs.Limits.{judge, judged_number}
@@ -49,7 +44,7 @@ abbrev pub is_flag : ℕ → Bool
 is_flag n = leb n 1
 
 -- A server that may be absent, from a flag and an id; of an absent one the id is not looked at.
-abbrev pub node_option : ℕ → ℕ → NodeOption
+abbrev pub node_option : ℕ → ℕ → Option NodeId
 node_option present id = pick (eqb present 1) (Some (record { 0 = id })) None
 
 -- Kinds of timer and role by their numbers.
@@ -171,25 +166,25 @@ groups_word [] = 0
 groups_word (g ∷ gs) = g + 256 * groups_word gs
 
 -- The fault of a kind's number, two numbers and groups, as `faults` reads it; a number that the kind does not use is not looked at.
-unfoldable pub fault_given : ℕ → ℕ → ℕ → List ℕ → FaultOption
+unfoldable pub fault_given : ℕ → ℕ → ℕ → List ℕ → Option Fault
 fault_given kind a b groups =
     faults.fault_of kind
     (get_or (a ∷ a ∷ a ∷ a ∷ groups_word groups ∷ a ∷ a ∷ 0 ∷ a ∷ a ∷ a ∷ []) kind 0)
     (get_or (0 ∷ 0 ∷ 0 ∷ 0 ∷ 0 ∷ b ∷ b ∷ []) kind 0)
 
 -- Whether every target is in the cluster; numbers that are no fault's name none.
-abbrev pub targets_known : State → FaultOption → Bool
-targets_known s Given.None = true
-targets_known s (Given.Some fault) = faults.targets_known (length s.servers) fault
+abbrev pub targets_known : State → Option Fault → Bool
+targets_known s None = true
+targets_known s (Some fault) = faults.targets_known (length s.servers) fault
 
 -- Whether every member of every group is in the cluster, however many groups there are.
 abbrev pub members_known : State → List ℕ → Bool
 members_known s groups = every (λ g. ltb g (2 ^ length s.servers)) groups
 
 -- A fault with its numbers within limits, and what is done with it; all else is question 9's.
-abbrev pub with_fault : {A : Type 0} → FaultOption → (Fault → Out A) → Out A
-with_fault Given.None f = refused 9
-with_fault (Given.Some fault) f = ask (faults.within_limits fault) 9 (f fault)
+abbrev pub with_fault : {A : Type 0} → Option Fault → (Fault → Out A) → Out A
+with_fault None f = refused 9
+with_fault (Some fault) f = ask (faults.within_limits fault) 9 (f fault)
 
 -- A fault scheduled (schedule): kind 4 is a partition, with at most 8 groups.
 unfoldable pub schedule : SimTime → ℕ → ℕ → ℕ → List ℕ → State → Out (Unit {0})
@@ -295,11 +290,11 @@ output_apply index kind bytes s =
 
 -- Leadership confirmed, with the read index (Output::LeadershipConfirmed).
 unfoldable pub output_confirmed : RequestId → LogIndex → State → Out (Unit {0})
-output_confirmed request read_index s = output s.phase (λ slot. done tt (confirm s request (some read_index)))
+output_confirmed request read_index s = output s.phase (λ slot. done tt (confirm s request (Some read_index)))
 
 -- Leadership lost (Output::LeadershipLost).
 unfoldable pub output_lost : RequestId → State → Out (Unit {0})
-output_lost request s = output s.phase (λ slot. done tt (confirm s request none))
+output_lost request s = output s.phase (λ slot. done tt (confirm s request None))
 
 -- The end of an input gives the status; the start that is opened then, if one was owed, is the answer.
 unfoldable pub end : ℕ → Term → ℕ → ℕ → LogIndex → State → Out Opening

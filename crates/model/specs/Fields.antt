@@ -1,6 +1,5 @@
 -- A state, a server or a client with one field changed. Assumes nothing.
-use Rattle.std.specs.Prelude.{Bool, List, ℕ}
-use Rattle.std.proofs.Math.Option.{Option}
+use Rattle.std.specs.Prelude.{Bool, List, ℕ, Option}
 use Rattle.units.specs.declared.Term.{Term}
 use Rattle.units.specs.declared.SimTime.{SimTime}
 use Rattle.rng.specs.declared.Rng.{Rng}

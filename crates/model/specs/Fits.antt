@@ -1,10 +1,7 @@
 -- The state fits: every field in its range and every table within its limit. Question 5 asks it of the state that an area's bytes lay out, reachable or not, and question 10 of
 -- the state that a call gives. Assumes nothing.
-use Rattle.std.specs.Prelude.{Bool, true, false, List, [], ◌∷◌, ℕ, ◌+◌, ◌^◌, leb, ltb, eqb, length}
-use Rattle.std.proofs.Math.Option.{Option, none, some}
+use Rattle.std.specs.Prelude.{Bool, true, false, List, [], ◌∷◌, ℕ, ◌+◌, ◌^◌, leb, ltb, eqb, length, Option, None, Some}
 use Rattle.laws.specs.Bools.{◌and◌, allb, every}
-use Rattle.units.specs.declared.NodeOption.{NodeOption}
-use Rattle.units.specs.declared.NodeOption.TheVariants.{None, Some}
 use Rattle.units.specs.declared.Term.{Term}
 use Rattle.config.specs.declared.SimConfig.{SimConfig}
 use Rattle.config.specs.declared.Limits.{Limits}
@@ -28,16 +25,17 @@ use Rattle.checks.specs.Entries.{seen_in}
 use Rattle.checks.specs.Violations.{violations}
 use Rattle.checks_durability.specs.Replies.{replies}
 use Rattle.model.specs.State.{State, Server, Client, Outstanding, Confirmation, direct, from_client, Input, start_input, message_input, timer_input, propose_input, confirm_input, Verdict, accepted, not_leader, Owed, nothing, construction, healing, Phase, closed, writing, sending}
+use Rattle.units.specs.declared.NodeId.{NodeId}
 
 -- ---- numbers
 
 -- What an option holds is in range.
 abbrev pub if_some : {A : Type 0} → (A → Bool) → Option A → Bool
-if_some f none = true
-if_some f (some a) = f a
+if_some f None = true
+if_some f (Some a) = f a
 
 -- Votes and leader hints may name anyone.
-abbrev pub node_fits : NodeOption → Bool
+abbrev pub node_fits : Option NodeId → Bool
 node_fits None = true
 node_fits (Some id) = word id.0
 

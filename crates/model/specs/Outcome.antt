@@ -1,6 +1,5 @@
 -- The calls as data, their answers, and what each answers of a state and makes of it. Assumes nothing.
-use Rattle.std.specs.Prelude.{Bool, true, false, ◌||◌, List, [], ◌∷◌, ℕ}
-use Rattle.std.proofs.Math.Option.{Option}
+use Rattle.std.specs.Prelude.{Bool, true, false, ◌||◌, List, [], ◌∷◌, ℕ, Option}
 use Rattle.laws.specs.Bools.{pick}
 use Rattle.units.specs.Types.{Payload, Entry}
 use Rattle.units.specs.declared.Term.{Term}
@@ -14,7 +13,6 @@ use Rattle.config.specs.declared.Limits.{Limits}
 use Rattle.metrics.specs.declared.Counts.{Counts}
 use Rattle.storage.specs.declared.HardState.{HardState}
 use Rattle.checks.specs.Checks.{Violation}
-use Rattle.leader.specs.declared.LeaderOption.{LeaderOption}
 use Rattle.checks_durability.specs.declared.replies.Reply.{Reply}
 use Rattle.model.specs.State.{State, Confirmation}
 use Rattle.model.specs.Simulation.{Opening}
@@ -22,6 +20,7 @@ use Rattle.model.specs.Calls as model
 use Rattle.model.specs.Calls.{Out, refused, done, Stepped, Asked, Sealed}
 use Rattle.model.specs.Reads as reads
 use Rattle.model.specs.Reads.{LogRead, MetricsRead, RunRead, SettingsRead}
+use Rattle.leader.specs.declared.Leading.{Leading}
 
 -- The writes of the open input.
 pub data WriteCall : Type 0 where
@@ -77,7 +76,7 @@ pub data Reading : Type 0 where
   got_hard_state : HardState → Reading
   got_log : LogRead → Reading
   got_entry : Option Entry → Reading
-  got_leader : LeaderOption → Reading
+  got_leader : Option Leading → Reading
   got_applied : ℕ → Reading
   got_applied_entry : Option Payload → Reading
   got_metrics : MetricsRead → Reading

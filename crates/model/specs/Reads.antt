@@ -1,6 +1,5 @@
 -- The calls that only read (document 01): what each answers of the state. A read belongs to every phase and leaves the state as it is. Assumes nothing.
-use Rattle.std.specs.Prelude.{List, [], ◌∷◌, ℕ, zero, suc, ◌+◌, ◌-◌, ◌^◌, leb, ltb, length}
-use Rattle.std.proofs.Math.Option.{Option, none}
+use Rattle.std.specs.Prelude.{List, [], ◌∷◌, ℕ, zero, suc, ◌+◌, ◌-◌, ◌^◌, leb, ltb, length, Option, None}
 use Rattle.laws.specs.Lists.{at}
 use Rattle.units.specs.Types.{Payload, Entry}
 use Rattle.units.specs.declared.SimTime.{SimTime}
@@ -12,11 +11,11 @@ use Rattle.metrics.specs.declared.Metrics.{Metrics}
 use Rattle.raft_log.specs.Log.{count, last_index, gaps, entry_at}
 use Rattle.storage.specs.declared.HardState.{HardState}
 use Rattle.checks.specs.Checks.{Violation}
-use Rattle.leader.specs.declared.LeaderOption.{LeaderOption}
 use Rattle.checks_durability.specs.declared.replies.Reply.{Reply}
 use Rattle.model.specs.State.{State, Server, Confirmation, Phase, server_at}
 use Rattle.model.specs.Simulation.{leader_of}
 use Rattle.model.specs.Calls.{Out, done, ask, in_cluster}
+use Rattle.leader.specs.declared.Leading.{Leading}
 
 -- The server of an id.
 abbrev pub named : State → ℕ → Server
@@ -50,7 +49,7 @@ read_entry id index buffer s =
     ask (in_cluster s id) 7 (ask (leb s.limits.payload buffer) 9 (done (entry_at (named s id).storage.current.log index) s))
 
 -- The running server that leads the highest term (leader).
-unfoldable pub read_leader : State → Out LeaderOption
+unfoldable pub read_leader : State → Out (Option Leading)
 read_leader s = done (leader_of s) s
 
 -- The highest index a server has applied since it last started (applied).
@@ -59,7 +58,7 @@ read_applied id = of_server id (λ v. v.next_apply - 1)
 
 -- The first payload that any server applied at an index, if one did.
 abbrev pub applied_at : List Payload → ℕ → Option Payload
-applied_at applied zero = none
+applied_at applied zero = None
 applied_at applied (suc place) = at applied place
 
 -- The same, into a lent buffer of so many bytes.

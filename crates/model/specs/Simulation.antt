@@ -1,13 +1,10 @@
 -- What happens in a simulation (simulation.rs), on the state without limits: one Rust function to one definition. Assumes nothing.
-use Rattle.std.specs.Prelude.{Bool, true, false, not, ◌&&◌, List, [], ◌∷◌, ◌++◌, ℕ, zero, suc, ◌+◌, ◌-◌, max, leb, ltb, eqb, length}
-use Rattle.std.proofs.Math.Option.{Option, none, some}
+use Rattle.std.specs.Prelude.{Bool, true, false, not, ◌&&◌, List, [], ◌∷◌, ◌++◌, ℕ, zero, suc, ◌+◌, ◌-◌, max, leb, ltb, eqb, length, Option, None, Some}
 use Rattle.laws.specs.Bools.{pick}
 use Rattle.laws.specs.Lists.{modify, is_some}
 use Rattle.laws.specs.Order.{pairs, lookup, insert_by, remove_by}
 use Rattle.units.specs.Types.{Payload, noop, command}
 use Rattle.units.specs.declared.NodeId.{NodeId}
-use Rattle.units.specs.declared.NodeOption.{NodeOption}
-use Rattle.units.specs.declared.NodeOption.TheVariants.{None, Some}
 use Rattle.units.specs.declared.LogIndex.{LogIndex}
 use Rattle.units.specs.declared.SimTime.{SimTime}
 use Rattle.units.specs.declared.Duration.{Duration}
@@ -20,8 +17,6 @@ use Rattle.config.specs.declared.SimConfig.{SimConfig}
 use Rattle.config.specs.declared.Limits.{Limits}
 use Rattle.client.specs.Key.{decode, key_of}
 use Rattle.client.specs.Key as client
-use Rattle.client.specs.declared.Decoded.{Decoded}
-use Rattle.client.specs.declared.Decoded.TheVariants as decoded
 use Rattle.protocol.specs.declared.Timer.{Timer}
 use Rattle.protocol.specs.declared.Timer.TheVariants.{Election, Heartbeat}
 use Rattle.protocol.specs.declared.Role.{Role}
@@ -32,8 +27,6 @@ use Rattle.faults.specs.declared.Fault.{Fault}
 use Rattle.faults.specs.declared.Fault.TheVariants.{Crash, CrashDuringNextInput, Restart, CrashLeader, Partition, Block, Unblock, HealLinks, SetLoss, SetDuplication, SetDelayFactor, HealAll}
 use Rattle.network.specs.Network as network
 use Rattle.network.specs.declared.Network.{Network}
-use Rattle.network.specs.declared.Duplicate.{Duplicate}
-use Rattle.network.specs.declared.Duplicate.TheVariants as duplicate
 use Rattle.network.specs.declared.Route.{Route}
 use Rattle.network.specs.declared.Route.TheVariants.{Dropped, Delivered}
 use Rattle.metrics.specs.Metrics.{no_metrics, record_send, deliver_to_leader, record_sync, record_reply}
@@ -46,11 +39,11 @@ use Rattle.queue.specs.declared.Event.TheVariants as event
 use Rattle.checks.specs.Checks.{new_checker, on_apply, on_writes, on_status}
 use Rattle.leader.specs.Leader.{leader}
 use Rattle.leader.specs.declared.Reported.{Reported}
-use Rattle.leader.specs.declared.LeaderOption.{LeaderOption}
-use Rattle.leader.specs.declared.LeaderOption.TheVariants as led
 use Rattle.checks_durability.specs.declared.replies.Reply.{Reply}
 use Rattle.model.specs.State.{State, Server, new_server, Client, Outstanding, direct, from_client, Input, start_input, message_input, timer_input, propose_input, confirm_input, Verdict, accepted, not_leader, Owed, nothing, construction, healing, closed, writing, sending, server_at, client_at, id_of, slot_of}
 use Rattle.model.specs.Fields.{with_queue, with_servers, with_network, with_clients, with_workload, with_metrics, with_checker, with_replies, with_confirmations, with_max_log_gaps, with_phase, with_status, with_storage, with_incarnation, with_election, with_heartbeat, with_crash_on_next_input, with_next_apply, with_pending, with_leading, with_target, with_attempt, with_outstanding}
+use Rattle.leader.specs.declared.Leading.{Leading}
+use Rattle.client.specs.declared.ClientKey.{ClientKey}
 
 -- ---- parts of the state
 
@@ -123,7 +116,7 @@ start_server s slot owed =
 unfoldable pub stop_server : State → ℕ → State
 stop_server s slot =
     on_server s slot
-    (λ v. with_leading (with_crash_on_next_input (with_pending (with_storage (with_status v none) (storage.crash v.storage)) []) false) none)
+    (λ v. with_leading (with_crash_on_next_input (with_pending (with_storage (with_status v None) (storage.crash v.storage)) []) false) None)
 
 -- A stopped server starts again: incarnation and timer generations rise (restart_server).
 unfoldable pub restart_server : State → ℕ → Owed → Moved
@@ -165,8 +158,8 @@ close_input s (healing slot) = heal_from s slot (length s.servers - slot)
 
 -- The running servers from a place on, with their status.
 abbrev pub reported_status : ℕ → Option Status → List Reported → List Reported
-reported_status slot none more = more
-reported_status slot (some status) more = record { id = id_of slot; status = status } ∷ more
+reported_status slot None more = more
+reported_status slot (Some status) more = record { id = id_of slot; status = status } ∷ more
 
 -- The running servers of a list, the first of which has this place.
 unfoldable pub reported_from : ℕ → List Server → List Reported
@@ -174,7 +167,7 @@ reported_from slot [] = []
 reported_from slot (v ∷ vs) = reported_status slot v.status (reported_from (suc slot) vs)
 
 -- The running server that leads the highest term, with that term, if any (leader).
-abbrev pub leader_of : State → LeaderOption
+abbrev pub leader_of : State → Option Leading
 leader_of s = leader (reported_from 0 s.servers)
 
 -- A fault scheduled; a time before now becomes now (schedule).
@@ -182,9 +175,9 @@ abbrev pub schedule_fault : State → SimTime → Fault → State
 schedule_fault s time fault = push_event s (record { 0 = max time.0 s.now.0 }) (event.Fault fault)
 
 -- The leader stopped, and its restart scheduled.
-abbrev pub crash_leader : State → LeaderOption → Duration → State
-crash_leader s led.None downtime = s
-crash_leader s (led.Some id term) downtime = schedule_fault (stop_server s (slot_of id)) (later s.now downtime) (Restart id)
+abbrev pub crash_leader : State → Option Leading → Duration → State
+crash_leader s None downtime = s
+crash_leader s (Some l) downtime = schedule_fault (stop_server s (slot_of l.id)) (later s.now downtime) (Restart l.id)
 
 -- A fault happens (apply_fault).
 unfoldable pub apply_fault : State → Fault → Moved
@@ -217,8 +210,8 @@ random_server s =
 
 -- The outstanding command sent to the client's target, to arrive at a time, with its timeout; without one nothing is sent.
 abbrev pub send_outstanding : State → ℕ → Option Outstanding → SimTime → State
-send_outstanding s c none time = s
-send_outstanding s c (some o) time =
+send_outstanding s c None time = s
+send_outstanding s c (Some o) time =
     let attempt = (client_at s c).attempt + 1 in
     let sent = on_client s c (λ k. with_attempt k attempt) in
     push_event
@@ -236,7 +229,7 @@ client_attempt s c =
 unfoldable pub client_send : State → ℕ → State
 client_send s c =
     let k = client_at s c in
-    let begun : Client = record { target = k.target; next_seq = k.next_seq + 1; attempt = k.attempt; outstanding = some (record { seq = k.next_seq; first_sent = s.now }) } in
+    let begun : Client = record { target = k.target; next_seq = k.next_seq + 1; attempt = k.attempt; outstanding = Some (record { seq = k.next_seq; first_sent = s.now }) } in
     pick (is_some k.outstanding) s (client_attempt (on_client s c (λ _. begun)) c)
 
 -- A command reaches a server (client_arrive): where it runs its key is registered, and a proposal opens.
@@ -253,14 +246,14 @@ client_arrive s slot c seq attempt =
     (idle s)
 
 -- The place of a named server, if it is in the cluster.
-abbrev pub known_slot : State → NodeOption → Option ℕ
-known_slot s None = none
-known_slot s (Some id) = pick (leb 1 id.0 && leb id.0 (length s.servers)) (some (slot_of id)) none
+abbrev pub known_slot : State → Option NodeId → Option ℕ
+known_slot s None = None
+known_slot s (Some id) = pick (leb 1 id.0 && leb id.0 (length s.servers)) (Some (slot_of id)) None
 
 -- A redirect: to a known leader at once; else to a random server after the backoff, under the same attempt number.
 abbrev pub follow : State → ℕ → ℕ → Option ℕ → State
-follow s c attempt (some slot) = client_attempt (on_client s c (λ k. with_target k slot)) c
-follow s c attempt none =
+follow s c attempt (Some slot) = client_attempt (on_client s c (λ k. with_target k slot)) c
+follow s c attempt None =
     let t = random_server s in
     push_event (on_client t.state c (λ k. with_target k t.slot)) (later s.now s.config.client_backoff) (event.ClientRetry c attempt)
 
@@ -269,7 +262,7 @@ abbrev pub latest : State → ℕ → ℕ → Bool
 latest s c attempt = eqb (client_at s c).attempt attempt
 
 -- A redirect reaches its client (client_redirect); an old one, or one with nothing outstanding, is ignored.
-unfoldable pub client_redirect : State → ℕ → ℕ → NodeOption → State
+unfoldable pub client_redirect : State → ℕ → ℕ → Option NodeId → State
 client_redirect s c attempt hint =
     pick (latest s c attempt && is_some (client_at s c).outstanding) (follow s c attempt (known_slot s hint)) s
 
@@ -283,12 +276,12 @@ client_timeout s c attempt =
 
 -- A reply that answers the outstanding command: it is recorded, and the client goes on; its attempt rises, so that the timeout is old.
 abbrev pub take_reply : State → ℕ → ℕ → LogIndex → Option Outstanding → State
-take_reply s c seq index none = s
-take_reply s c seq index (some o) =
+take_reply s c seq index None = s
+take_reply s c seq index (Some o) =
     let reply : Reply = record { sent = o.first_sent; received = s.now; index = index; client = c; seq = seq } in
     let replied = with_metrics (with_replies s (s.replies ++ (reply ∷ []))) (record_reply s.metrics) in
     pick (eqb o.seq seq)
-    (push_event (on_client replied c (λ k. with_attempt (with_outstanding k none) (k.attempt + 1))) s.now (event.ClientSend c))
+    (push_event (on_client replied c (λ k. with_attempt (with_outstanding k None) (k.attempt + 1))) s.now (event.ClientSend c))
     s
 
 -- A reply reaches its client (client_reply).
@@ -299,8 +292,8 @@ client_reply s c seq index = take_reply s c seq index (client_at s c).outstandin
 
 -- Whether a server takes part in an election or leads.
 abbrev pub contends : Option Status → Bool
-contends none = false
-contends (some status) = not (is_follower status.role)
+contends None = false
+contends (Some status) = not (is_follower status.role)
   where
     is_follower : Role → Bool
     is_follower Follower = true
@@ -353,7 +346,7 @@ draw_targets servers zero g = record { clients = []; next = g }
 draw_targets servers (suc n) g =
     let d = under g servers in
     let more = draw_targets servers n d.next in
-    record { clients = record { target = d.value; next_seq = 0; attempt = 0; outstanding = none } ∷ more.clients; next = more.next }
+    record { clients = record { target = d.value; next_seq = 0; attempt = 0; outstanding = None } ∷ more.clients; next = more.next }
 
 -- A Start event for each of so many servers from a place on, at a time drawn below the spread.
 unfoldable pub spread_starts : State → ℕ → ℕ → ℕ → Rng → State
@@ -433,9 +426,9 @@ sync_input s slot input verdict owed =
     (sending slot input verdict owed)
 
 -- A message sent (send): counted, then routed, a second copy pushed before the first.
-abbrev pub push_copy : State → NodeId → NodeId → ℕ → List ℕ → Duplicate → State
-push_copy s from to entries message duplicate.None = s
-push_copy s from to entries message (duplicate.After delay) =
+abbrev pub push_copy : State → NodeId → NodeId → ℕ → List ℕ → Option Duration → State
+push_copy s from to entries message None = s
+push_copy s from to entries message (Some delay) =
     with_queue s (push s.queue (later s.now delay) (event.Deliver from to entries) message)
 
 -- A routed message pushed, its copy first; a dropped one is not.
@@ -468,9 +461,9 @@ unfoldable pub cancel_timer : State → ℕ → Timer → State
 cancel_timer s slot timer = on_server s slot (λ v. raised v timer)
 
 -- A client's command applied by a server that had accepted it: its key goes, a delay is drawn and the reply pushed.
-abbrev pub reply_to : State → ℕ → LogIndex → Decoded → State
-reply_to s slot index decoded.None = s
-reply_to s slot index (decoded.Key k) =
+abbrev pub reply_to : State → ℕ → LogIndex → Option ClientKey → State
+reply_to s slot index None = s
+reply_to s slot index (Some k) =
     let a = arrival (on_server s slot (λ v. with_pending v (remove_by pairs key_of (key_of k) v.pending))) in
     pick (is_some (lookup pairs key_of (key_of k) (server_at s slot).pending))
     (push_event a.state a.time (event.ClientReply k.client k.seq index))
@@ -497,5 +490,5 @@ end_input s slot input verdict owed status =
     let v = server_at s slot in
     let log = v.storage.current.log in
     let checked = on_status (eqb s.config.raft_checks 1) s.checker s.now (id_of slot) status log v.leading in
-    let ended = on_server (with_checker s checked.checker) slot (λ v. with_leading (with_status v (some status)) checked.leading) in
+    let ended = on_server (with_checker s checked.checker) slot (λ v. with_leading (with_status v (Some status)) checked.leading) in
     close_input (redirect (with_max_log_gaps ended (max s.max_log_gaps (gaps log))) slot input verdict) owed

@@ -1,5 +1,5 @@
 -- What document 01 lists as slips to catch in a simulation, as claims about the definitions. Assumes nothing.
-use Rattle.std.specs.Prelude.{◌≡◌, length, get_or}
+use Rattle.std.specs.Prelude.{◌≡◌, length, get_or, Some}
 use Rattle.std.proofs.Math.Path.{refl, ap}
 use Rattle.std.proofs.Common.{◌∙◌, arith}
 use mathlib.Core.List.{List, [], ◌∷◌}
@@ -8,7 +8,6 @@ use Rattle.laws.specs.Lists.{modify}
 use Rattle.units.specs.declared.NodeId.{NodeId}
 use Rattle.units.specs.declared.Duration.{Duration}
 use Rattle.network.specs.declared.Route.TheVariants.{Delivered}
-use Rattle.network.specs.declared.Duplicate.TheVariants as duplicate
 use Rattle.queue.specs.Queue.{push}
 use Rattle.queue.specs.declared.Event.TheVariants as event
 use Rattle.model.specs.State.{State, Server, Owed, server_at}
@@ -58,6 +57,6 @@ module _ (s : State) (slot : ℕ) where
 
 -- A second copy is pushed before the original.
 pub copy_before_original : (s : State) (from to : NodeId) (entries : ℕ) (message : List ℕ) (delay second : Duration)
-    → (push_routed s from to entries message (Delivered delay (duplicate.After second))).queue
+    → (push_routed s from to entries message (Delivered delay (Some second))).queue
     ≡ push (push s.queue (later s.now second) (event.Deliver from to entries) message) (later s.now delay) (event.Deliver from to entries) message
 copy_before_original s from to entries message delay second = refl

@@ -1,8 +1,6 @@
 -- The state of a simulation (simulation.rs Simulation, without observers, drop rules and the flag of stop_clients), with the open input added. Assumes nothing.
-use Rattle.std.specs.Prelude.{Bool, false, List, [], ℕ, ◌+◌, ◌-◌, get_or}
-use Rattle.std.proofs.Math.Option.{Option, none}
+use Rattle.std.specs.Prelude.{Bool, false, List, [], ℕ, ◌+◌, ◌-◌, get_or, Option, None}
 use Rattle.units.specs.declared.NodeId.{NodeId}
-use Rattle.units.specs.declared.NodeOption.{NodeOption}
 use Rattle.units.specs.declared.Term.{Term}
 use Rattle.units.specs.declared.LogIndex.{LogIndex}
 use Rattle.units.specs.declared.SimTime.{SimTime}
@@ -18,8 +16,9 @@ use Rattle.storage.specs.Storage.{Storage, empty_storage}
 use Rattle.queue.specs.Queue.{Queue}
 use Rattle.checks.specs.Checks.{Checker}
 use Rattle.checks_durability.specs.declared.replies.Reply.{Reply}
-pub use Rattle.clients.specs.Clients.{Outstanding, Client}
-pub use Rattle.clients.specs.Confirmations.{Confirmation}
+pub use Rattle.clients.specs.declared.Outstanding.{Outstanding}
+pub use Rattle.clients.specs.declared.Client.{Client}
+pub use Rattle.clients.specs.declared.confirmations.Confirmation.{Confirmation}
 
 -- ---- servers
 
@@ -46,7 +45,7 @@ pub record Server : Type 0 where
 abbrev pub new_server : ℕ → Server
 new_server indexes =
     record {
-      status = none;
+      status = None;
       storage = empty_storage indexes;
       incarnation = 0;
       election = 0;
@@ -54,7 +53,7 @@ new_server indexes =
       crash_on_next_input = false;
       next_apply = 1;
       pending = [];
-      leading = none;
+      leading = None;
     }
 
 -- ---- the open input
@@ -75,7 +74,7 @@ pub data Input : Type 0 where
 -- Whether the server took the input, or refused it and named a leader or none (NotLeader).
 pub data Verdict : Type 0 where
   accepted : Verdict
-  not_leader : NodeOption → Verdict
+  not_leader : Option NodeId → Verdict
 
 -- What is left of a loop over the servers once the open input is closed: nothing; the construction, or a HealAll, from a place on.
 pub data Owed : Type 0 where
@@ -120,7 +119,7 @@ server_at s slot = get_or s.servers slot (new_server 0)
 
 -- The client at a place.
 abbrev pub client_at : State → ℕ → Client
-client_at s c = get_or s.clients c (record { target = 0; next_seq = 0; attempt = 0; outstanding = none })
+client_at s c = get_or s.clients c (record { target = 0; next_seq = 0; attempt = 0; outstanding = None })
 
 -- The id of the server at a place, and the place of a server.
 abbrev pub id_of : ℕ → NodeId

@@ -1,12 +1,11 @@
 -- What the type Network tells of a value: rates of 32 bits and 64 links. Assumes nothing.
-use mathlib.Core.Path.{◌≡◌, ◌∙◌, sym}
+use mathlib.Core.Path.{◌≡◌}
 use mathlib.Core.Bool.{Bool, ◌&&◌}
 use mathlib.Core.List.{List}
 use Prim.Native.Nat.{ℕ}
 use mir.Val.{Val}
 use denote.Laws.{Is}
 use lib.Dec.{leb}
-use lib.ListN.{length-map}
 use Rattle.network.specs.declared.Network.{Network}
 use Rattle.network.specs.Network.{links_within, network_in_range}
 use Rattle.network.specs.Ranges.{in_range_is}

@@ -1,5 +1,5 @@
 -- The simulated network (network.rs). Assumes nothing.
-use Rattle.std.specs.Prelude.{Bool, true, false, not, ◌&&◌, ◌||◌, List, [], ◌∷◌, ◌≡◌, ℕ, zero, suc, ◌+◌, ◌-◌, ◌*◌, ◌/◌, ◌%◌, ◌^◌, ◌≤◌, max, leb, ltb, eqb, length, get_or, set, replicate}
+use Rattle.std.specs.Prelude.{Bool, true, false, not, ◌&&◌, ◌||◌, List, [], ◌∷◌, ◌≡◌, ℕ, zero, suc, ◌+◌, ◌-◌, ◌*◌, ◌/◌, ◌%◌, ◌^◌, ◌≤◌, max, leb, ltb, eqb, length, get_or, set, replicate, None, Some}
 use Rattle.laws.specs.Bools.{pick, ◌and◌}
 use Rattle.laws.specs.Lists.{list_from}
 use Rattle.units.specs.declared.NodeId.{NodeId}
@@ -7,7 +7,6 @@ use Rattle.units.specs.declared.Duration.{Duration}
 use Rattle.rng.specs.Rng.{under}
 use Rattle.rng.specs.declared.Rng.{Rng}
 use Rattle.network.specs.declared.Network.{Network}
-use Rattle.network.specs.declared.Duplicate.TheVariants.{None, After}
 use Rattle.network.specs.declared.Route.{Route}
 use Rattle.network.specs.declared.Route.TheVariants.{Dropped, Delivered}
 use Rattle.network.specs.declared.Routed.{Routed}
@@ -88,7 +87,7 @@ delivered n draws =
     let twice = chance first.network n.duplicate_ppm in
     let second = delay twice.network in
     pick twice.happens
-    (record { route = Delivered first.delay (After second.delay); draws = draws + 1 + twice.draws + 1; network = second.network })
+    (record { route = Delivered first.delay (Some second.delay); draws = draws + 1 + twice.draws + 1; network = second.network })
     (record { route = Delivered first.delay None; draws = draws + 1 + twice.draws; network = twice.network })
 
 -- The fate of a message (route): a blocked link drops it without a draw; then loss, delay, duplication, second delay.
@@ -188,7 +187,7 @@ pub record DelaysFit (n : Network) : Type 0 where
 abbrev pub delays_below : Route → Bool
 delays_below Dropped = true
 delays_below (Delivered d None) = ltb d.0 (2 ^ 57)
-delays_below (Delivered d (After e)) = ltb d.0 (2 ^ 57) and ltb e.0 (2 ^ 57)
+delays_below (Delivered d (Some e)) = ltb d.0 (2 ^ 57) and ltb e.0 (2 ^ 57)
 
 -- The bounds of a route for its caller.
 pub record Bounds (r : Routed) : Type 0 where

@@ -1,16 +1,16 @@
 -- The ranges of a network's fields in a cluster of S servers: the code's test of them, and that every step keeps them. Assumes nothing.
 use Rattle.std.specs.Prelude.{◌≡◌, Bool, not, ◌&&◌, ◌||◌, leb, ltb, eqb, length, set}
-use Rattle.std.proofs.Math.Path.{refl, sym, ap, subst}
+use Rattle.std.proofs.Math.Path.{refl, sym, subst}
 use Rattle.std.proofs.Common.{◌∙◌, add-one, length-set}
 use Rattle.std.proofs.Math.Bool.{true, false}
 use mathlib.Core.List.{List, [], ◌∷◌}
 use Prim.Native.Nat.{ℕ, zero, suc, ◌+◌, ◌-◌, ◌*◌, ◌/◌, ◌%◌, ◌^◌, ◌≤◌, ◌<◌, max}
 use native.Mathlib.Omega.{arith}
-use Rattle.std.proofs.Math.ListN.{get_or, drop, drop_of_length-le}
-use Rattle.std.proofs.Math.Seq.{drop-cons}
+use Rattle.std.proofs.Math.ListN.{get_or}
+use Rattle.std.specs.List.{list_all, enumerate_from}
 use borrow.Author.Tests.{lt-ltb, le-leb, eq-eqb, ltb-true, ltb-false, leb-true, eqb-true}
-use Rattle.laws.specs.Bools.{pick, ◌and◌, cases, pick_both, and_left, no_and, and_true, and_assoc}
-use Rattle.laws.proofs.BoolLaws.{and_right, and_both, and_no, true_and, code_and}
+use Rattle.laws.specs.Bools.{pick, ◌and◌, cases, pick_both, and_left, and_true, and_assoc}
+use Rattle.laws.proofs.BoolLaws.{and_right, and_both, true_and, code_and}
 use Rattle.laws.specs.Decides.{false_true}
 use Rattle.laws.specs.Lists.{list_from}
 use Rattle.units.specs.declared.NodeId.{NodeId}
@@ -29,56 +29,17 @@ pub within_test : (S k : ℕ) → (ltb (k / 8) S && ltb (k % 8) S) ≡ link_with
 unfolding link_within
 within_test S k = code_and _ _
 
--- the loop of `links_within`: the first k links are within
-pub record Within (S : ℕ) (links : List Bool) (k : ℕ) : Type 0 where
-  pub upto : k ≤ 64
-  pub long : length links ≡ 64
-  pub rest : links_within S 0 links ≡ links_within S k (drop k links)
-
-pub within_start : (S : ℕ) (links : List Bool) → length links ≡ 64 → Within S links 0
-within_start S links l = record { upto = omega arith; long = l; rest = refl }
-
-module _ (S : ℕ) (links : List Bool) (k : ℕ) (l : Within S links k) where
-  within_here : k < 64
-      → links_within S 0 links ≡ (pick (get_or links k false) (link_within S k) true and links_within S (k + 1) (drop (k + 1) links))
-  unfolding links_within
-  within_here h =
-      let c : drop k links ≡ get_or links k false ∷ drop (k + 1) links =
-      drop-cons links k false (omega (arith, l.long)) ∙ ap (λ (j : ℕ). get_or links k false ∷ drop j links) (sym (add-one k)) in
-      l.rest ∙ ap (links_within S k) c
-      ∙ ap (λ (j : ℕ). pick (get_or links k false) (link_within S k) true and links_within S j (drop (k + 1) links)) (sym (add-one k))
-
-  pub within_next : (w : Bool) → k < 64 → w ≡ link_within S k → (get_or links k false && not w) ≡ false → Within S links (k + 1)
-  within_next w h e t = record {
-    upto = omega arith;
-    long = l.long;
-    rest = within_here h
-        ∙ ap (λ (u : Bool). u and links_within S (k + 1) (drop (k + 1) links)) (ap (λ (u : Bool). pick (get_or links k false) u true)
-        (sym e) ∙ fine (get_or links k false) w t)
-        ∙ true_and _;
-  }
-    where
-      fine : (b w : Bool) → (b && not w) ≡ false → pick b w true ≡ true
-      fine true true t = refl
-      fine true false t = absurd (false_true (sym t))
-      fine false w t = refl
-
-  pub within_outside : (w : Bool) → k < 64 → w ≡ link_within S k → (get_or links k false && not w) ≡ true → false ≡ links_within S 0 links
-  within_outside w h e t = sym (within_here h ∙ no_and _ _ (ap (λ (u : Bool). pick (get_or links k false) u true) (sym e)
-      ∙ outside (get_or links k false) w t))
-    where
-      outside : (b w : Bool) → (b && not w) ≡ true → pick b w true ≡ false
-      outside true true t = absurd (false_true t)
-      outside true false t = refl
-      outside false w t = absurd (false_true t)
-
-  pub within_done : 64 ≤ k → true ≡ links_within S 0 links
-  unfolding links_within
-  within_done h =
-      let none : drop k links ≡ [] = drop_of_length-le links {i = k} (omega (arith, l.long)) in
-      sym (l.rest ∙ ap (links_within S k) none)
-
-pub ruleset within = (within_start, within_next, within_outside, within_done)
+-- each blocked link is within, over the links with their places
+pub list_all_within : (S k : ℕ) (links : List Bool)
+    → list_all (λ (p : ℕ × Bool). not p.1 || link_within S p.0) (enumerate_from k links) ≡ links_within S k links
+unfolding links_within ◌and◌
+list_all_within S k [] = refl
+list_all_within S k (true ∷ links) = rw add-one (by (link_within S k) (list_all_within S (suc k) links))
+  where
+    by : (w : Bool) {r t : Bool} → r ≡ t → (w && r) ≡ (w and t)
+    by true e = e
+    by false e = refl
+list_all_within S k (false ∷ links) = rw add-one (list_all_within S (suc k) links)
 
 module _ (S : ℕ) where
   -- a link set or cleared

@@ -2,12 +2,15 @@
 #![tactic(auto)]
 
 ghost use Rattle.std.specs.Prelude.{◌≡◌, ◌+◌, ◌-◌, ◌*◌, ◌^◌, ◌≤◌, ◌<◌};
-ghost use Rattle.network.specs.Network.{new, delay, chance, link, route, delivered, in_group, elsewhere, separated, partition, block, unblock, heal_links, set_loss, set_duplication, set_delay_factor, heal_all, link_within, links_within, network_in_range, DelaysFit, Bounds};
+ghost use Rattle.network.specs.Network.{new, delay, chance, route, delivered, in_group, elsewhere, separated, partition, block, unblock, heal_links, set_loss, set_duplication, set_delay_factor, heal_all, link_within, links_within, network_in_range, DelaysFit, Bounds};
 
+pub use links::Link;
 use rng::Rng;
 use units::{Duration, NodeId};
 
-// Network conditions between servers.
+pub mod links; // a link between two servers
+
+// Network conditions between servers. `DelaysFit` is no invariant of it: a network is made with any delay and takes any factor.
 #[derive(Clone, Copy)]
 pub struct Network {
     pub base_delay: Duration,
@@ -19,24 +22,18 @@ pub struct Network {
     pub rng: Rng,
 }
 
-// The delay of a second copy, if the network delivers one.
-#[derive(Clone, Copy)]
-pub enum Duplicate {
-    None,
-    After(Duration),
-}
-
 // What happens to a message.
 #[derive(Clone, Copy)]
 pub enum Route {
     Dropped,
     Delivered {
         delay: Duration,
-        duplicate: Duplicate,
+        duplicate: Option<Duration>,
     },
 }
 
-// A route, the number of draws that it took, and the network after them.
+// A route, the number of draws that it took, and the network after them. By value, as the two below: what is proved of a step then takes
+// one premise for the answer and the network, as `r ≡ route n from to`.
 #[derive(Clone, Copy)]
 pub struct Routed {
     pub route: Route,
@@ -59,22 +56,6 @@ pub struct Chance {
     pub network: Network,
 }
 
-// The place of a link among the blocked ones.
-fn link(from: NodeId, to: NodeId) -> usize
-    requires { ((1 ≤ from.0) × (from.0 ≤ 8)) × ((1 ≤ to.0) × (to.0 ≤ 8)) }
-    ensures { (result ≡ link from to) × (result < 64) }
-{
-    (8 * (from.0 - 1) + (to.0 - 1)) as usize
-}
-
-// A delay times the factor, which fits 64 bits.
-fn scaled(sample: u64, factor: u64) -> u64
-    requires { (sample ≤ 3 * 2 ^ 39) × (factor ≤ 65536) }
-    ensures { (result ≡ sample * factor) × (result < 2 ^ 57) }
-{
-    sample * factor
-}
-
 // Whether a server is in a group of a partition.
 fn in_group(groups: u64, i: u64, server: u64) -> bool
     requires { (i < 8) × (1 ≤ server) × (server ≤ 8) }
@@ -88,32 +69,18 @@ fn elsewhere(groups: u64, i: u64, server: u64) -> bool
     requires { (1 ≤ server) × (server ≤ 8) }
     ensures { result ≡ elsewhere groups i server }
 {
-    let mut j: u64 = 0;
-    while j < 8 {
-        if (i != j) & in_group(groups, j, server) {
-            return true;
-        }
-        j += 1;
-    }
-    false
+    (0..8).any(|j| i != j && in_group(groups, j, server))
 }
 
-// Whether two servers are in different groups.
-fn separated(groups: u64, a: u64, b: u64) -> bool
-    requires { ((1 ≤ a) × (a ≤ 8)) × ((1 ≤ b) × (b ≤ 8)) }
-    ensures { result ≡ separated groups a b }
+// Whether the servers of a link are in different groups.
+fn separated(groups: u64, link: Link) -> bool
+    ensures { result ≡ separated groups link.from.0 link.to.0 }
 {
-    let mut i: u64 = 0;
-    while i < 8 {
-        if in_group(groups, i, a) & elsewhere(groups, i, b) {
-            return true;
-        }
-        i += 1;
-    }
-    false
+    (0..8).any(|i| in_group(groups, i, link.from.0) && elsewhere(groups, i, link.to.0))
 }
 
 // Whether the link at a place has both ends in the cluster.
+#[tactic(auto, using(crate::specs::Ranges::within_test))]
 fn link_within(k: usize, servers: u64) -> bool
     ensures { result ≡ link_within servers k }
 {
@@ -124,14 +91,10 @@ fn link_within(k: usize, servers: u64) -> bool
 pub fn links_within(links: [bool; 64], servers: u64) -> bool
     ensures { result ≡ links_within servers 0 links }
 {
-    let mut k: usize = 0;
-    while k < 64 {
-        if links[k] & !link_within(k, servers) {
-            return false;
-        }
-        k += 1;
-    }
-    true
+    links
+        .iter()
+        .enumerate()
+        .all(|(k, blocked)| !*blocked || link_within(k, servers))
 }
 
 impl Network {
@@ -150,32 +113,29 @@ impl Network {
     }
 
     // Draws one message delay.
-    pub fn delay(self) -> Delayed
+    #[tactic(auto, unfolding(crate::specs::Network::delay))]
+    pub fn delay(mut self) -> Delayed
         requires { DelaysFit self }
         ensures value { result ≡ delay self }
         ensures delay_bound { (result.delay.0 < 2 ^ 57) × DelaysFit result.network }
     {
         let d = self.base_delay.0;
-        let sample = rng::drawn_under(self.rng, d + 1);
-        let delay = scaled(d / 2 + sample.value, self.delay_factor);
-        let mut next = self;
-        let g = sample.next;
-        next.rng = g;
+        let sample = self.rng.drawn_under(d + 1);
+        self.rng = sample.next;
         Delayed {
-            delay: Duration(delay),
-            network: next,
+            delay: Duration((d / 2 + sample.value) * self.delay_factor),
+            network: self,
         }
     }
 
     // Decides the fate of a message from one server to another.
-    pub fn route(self, from: NodeId, to: NodeId) -> Routed
-        requires delays_fit { DelaysFit self }
-        requires le_from { ((1 ≤ from.0) × (from.0 ≤ 8)) × ((1 ≤ to.0) × (to.0 ≤ 8)) }
-        ensures value { result ≡ route self from to }
+    #[tactic(auto, unfolding(crate::specs::Network::route))]
+    pub fn route(self, link: Link) -> Routed
+        requires { DelaysFit self }
+        ensures value { result ≡ route self link.from link.to }
         ensures bounds { Bounds result }
     {
-        let at = link(from, to);
-        if self.blocked[at] {
+        if self.blocked[link.place()] {
             return Routed {
                 route: Route::Dropped,
                 draws: 0,
@@ -183,101 +143,89 @@ impl Network {
             };
         }
         let lost = self.chance(self.loss_ppm);
-        let network = lost.network;
         if lost.happens {
             return Routed {
                 route: Route::Dropped,
                 draws: lost.draws,
-                network,
+                network: lost.network,
             };
         }
-        network.delivered(lost.draws)
+        lost.network.delivered(lost.draws)
     }
 
     // A delivered message after so many draws: its delay, and perhaps a second copy with its own.
+    #[tactic(auto, unfolding(crate::specs::Network::delivered))]
     fn delivered(self, draws: u64) -> Routed
         requires delays_fit { DelaysFit self }
         requires draws_bound { draws ≤ 1 }
-        ensures { result ≡ delivered self draws }
+        ensures value { result ≡ delivered self draws }
+        ensures bounds { Bounds result }
     {
         let first = self.delay();
         let twice = first.network.chance(self.duplicate_ppm);
-        let network = twice.network;
-        let delay = first.delay;
         if twice.happens {
-            let second = network.delay();
-            let after = second.delay;
-            let last = second.network;
+            let second = twice.network.delay();
             Routed {
                 route: Route::Delivered {
-                    delay,
-                    duplicate: Duplicate::After(after),
+                    delay: first.delay,
+                    duplicate: Some(second.delay),
                 },
                 draws: draws + 1 + twice.draws + 1,
-                network: last,
+                network: second.network,
             }
         } else {
             Routed {
                 route: Route::Delivered {
-                    delay,
-                    duplicate: Duplicate::None,
+                    delay: first.delay,
+                    duplicate: None,
                 },
                 draws: draws + 1 + twice.draws,
-                network,
+                network: twice.network,
             }
         }
     }
 
     // Blocks every link between servers in different groups, in both directions.
-    pub fn partition(self, groups: u64) -> Network
+    pub fn partition(mut self, groups: u64) -> Network
         ensures { result ≡ partition self groups }
     {
-        let mut links = self.blocked;
-        let mut k: usize = 0;
-        while k < 64 {
-            let from = (k / 8) as u64 + 1;
-            let to = (k % 8) as u64 + 1;
-            links[k] = links[k] | separated(groups, from, to);
-            k += 1;
+        for (k, blocked) in self.blocked.iter_mut().enumerate() {
+            let link = Link {
+                from: NodeId((k / 8) as u64 + 1),
+                to: NodeId((k % 8) as u64 + 1),
+            };
+            *blocked |= separated(groups, link);
         }
-        let mut next = self;
-        next.blocked = links;
-        next
+        self
     }
 
     // Blocks one link, in that direction only.
-    pub fn block(self, from: NodeId, to: NodeId) -> Network
-        requires { ((1 ≤ from.0) × (from.0 ≤ 8)) × ((1 ≤ to.0) × (to.0 ≤ 8)) }
-        ensures { result ≡ block self from to }
+    pub fn block(mut self, link: Link) -> Network
+        ensures { result ≡ block self link.from link.to }
     {
-        let at = link(from, to);
-        let mut next = self;
-        next.blocked[at] = true;
-        next
+        self.blocked[link.place()] = true;
+        self
     }
 
     // Unblocks one link.
-    pub fn unblock(self, from: NodeId, to: NodeId) -> Network
-        requires { ((1 ≤ from.0) × (from.0 ≤ 8)) × ((1 ≤ to.0) × (to.0 ≤ 8)) }
-        ensures { result ≡ unblock self from to }
+    pub fn unblock(mut self, link: Link) -> Network
+        ensures { result ≡ unblock self link.from link.to }
     {
-        let at = link(from, to);
-        let mut next = self;
-        next.blocked[at] = false;
-        next
+        self.blocked[link.place()] = false;
+        self
     }
 
     // Unblocks every link.
-    pub fn heal_links(self) -> Network
+    pub fn heal_links(mut self) -> Network
         ensures { result ≡ heal_links self }
     {
-        let mut next = self;
-        next.blocked = [false; 64];
-        next
+        self.blocked = [false; 64];
+        self
     }
 
     // Whether something of this probability, in parts per million, happens.
-    fn chance(self, rate: u32) -> Chance
+    #[tactic(auto, unfolding(crate::specs::Network::chance))]
+    fn chance(mut self, rate: u32) -> Chance
         requires { DelaysFit self }
         ensures value { result ≡ chance self rate }
         ensures draws_bound { (result.draws ≤ 1) × DelaysFit result.network }
@@ -289,14 +237,12 @@ impl Network {
                 network: self,
             };
         }
-        let sample = rng::drawn_under(self.rng, 1000000);
-        let mut next = self;
-        let g = sample.next;
-        next.rng = g;
+        let sample = self.rng.drawn_under(1000000);
+        self.rng = sample.next;
         Chance {
-            happens: sample.value < rate as u64,
+            happens: sample.value < u64::from(rate),
             draws: 1,
-            network: next,
+            network: self,
         }
     }
 
@@ -320,11 +266,7 @@ impl Network {
     pub fn set_delay_factor(mut self, factor: u64) -> Network
         ensures { result ≡ set_delay_factor self factor }
     {
-        if factor == 0 {
-            self.delay_factor = 1;
-        } else {
-            self.delay_factor = factor;
-        }
+        self.delay_factor = factor.max(1);
         self
     }
 
@@ -343,11 +285,9 @@ impl Network {
     pub fn in_range(self, servers: u64) -> bool
         ensures { result ≡ network_in_range servers self }
     {
-        let links = self.blocked;
-        let within = links_within(links, servers);
         (self.base_delay.0 <= 1099511627776)
             & (1 <= self.delay_factor)
             & (self.delay_factor <= 65536)
-            & within
+            & links_within(self.blocked, servers)
     }
 }

@@ -1,6 +1,6 @@
 -- What the proofs cite. Assumes nothing.
-use Rattle.std.specs.Prelude.{◌≡◌, refl, Bool, true, false, ◌&&◌, List, [], ◌∷◌, ℕ, ◌*◌, ◌%◌, ◌^◌, ◌<◌, ltb, leb, length, get_or}
-use Rattle.std.proofs.Common.{sym, ap, ◌∙◌, arith, Fits, lt-ltb, eq-eqb}
+use Rattle.std.specs.Prelude.{◌≡◌, refl, Bool, false, ◌&&◌, List, [], ◌∷◌, ℕ, ◌*◌, ◌%◌, ◌^◌, ◌<◌, ltb, leb, length, get_or}
+use Rattle.std.proofs.Common.{ap, ◌∙◌, arith, Fits, lt-ltb, eq-eqb}
 use Rattle.std.proofs.lemmas.List.Edits.{sets}
 use Rattle.std.proofs.Math.Seq.{get_or-drop, drop-drop}
 use Rattle.std.specs.Int.{w64}
@@ -9,7 +9,7 @@ use Rattle.laws.proofs.BoolLaws.{and_right, and_both, true_and, code_and}
 use Rattle.laws.specs.Decides.{Decides, fails}
 use Rattle.units.specs.declared.Duration.{Duration}
 use Rattle.words.specs.Words.{bytes, W, Bytes}
-use Rattle.layout.specs.Tables.{Holds, Content}
+use Rattle.layout.specs.Tables.{Content}
 use Rattle.layout.specs.Regions.{Loads, Stores, store_whole}
 use Rattle.layout.specs.Contents.{holds_length, holds_w, decides_ok}
 use Rattle.network.specs.declared.Network.{Network}

@@ -1,18 +1,24 @@
 -- What the proofs of the two loops over the links cite: how each starts, one turn, and how it ends. Assumes nothing.
-use Rattle.std.specs.Prelude.{◌≡◌, refl, length, set, replicate}
+use Rattle.std.specs.Prelude.{◌≡◌, refl, length}
 use Rattle.std.proofs.Math.Path.{sym, ap}
 use Rattle.std.proofs.Common.{◌∙◌, length-drop, drop_of_length-le, pow_mono, Fits}
-use Rattle.std.proofs.Math.Bool.{Bool, false}
-use mathlib.Core.List.{List, [], ◌∷◌, ◌++◌, append_assoc, append-nil}
-use Prim.Native.Nat.{ℕ, suc, ◌+◌, ◌-◌, ◌*◌, ◌/◌, ◌%◌, ◌^◌, ◌≤◌, ◌<◌}
-use Rattle.std.proofs.Math.Numerals.{add-one}
+use Rattle.std.proofs.Math.Bool.{Bool, true, false}
+use Rattle.std.proofs.Math.Nat.{div-div-eq-div-mul, pow-suc}
+use mathlib.Core.List.{List, ◌∷◌}
+use Prim.Native.Nat.{ℕ, zero, suc, ◌+◌, ◌-◌, ◌*◌, ◌/◌, ◌%◌, ◌^◌, ◌≤◌, ◌<◌}
 use native.Mathlib.Omega.{arith}
 use Rattle.std.proofs.Math.Dec.{eqb}
-use Rattle.std.proofs.Math.ListN.{get_or, take, drop, length-set}
-use Rattle.std.proofs.Math.Seq.{take_all, take-suc-set, drop-cons}
-use Rattle.std.specs.Int.{w64}
+use Rattle.std.proofs.Math.ListN.{get_or, drop}
+use Rattle.std.proofs.Math.Seq.{drop-cons}
+use Rattle.std.specs.Int.{w64, from_bool}
 use Rattle.laws.specs.Bools.{pick}
-use Rattle.network_words.specs.Links.{from_bits, bits, from_bits_lt}
+use Rattle.laws.specs.Lists.{list_from}
+use Rattle.network_words.specs.Links.{from_bits, bits, from_bits_lt, bit_small}
+
+-- a link as a number
+bool_bit : (b : Bool) → from_bool b ≡ pick b 1 0
+bool_bit true = refl
+bool_bit false = refl
 
 -- ---- word_of, from the last link down: the word is the number of the links from k on
 
@@ -38,9 +44,12 @@ module _ (links : List Bool) (k word : ℕ) (g : Gathered links k word) where
     pub twice_fits : Fits w64 (2 * word)
     twice_fits = record { fits = omega (arith, half) }
 
-    module _ (r : ℕ) (e : r ≡ pick (get_or links (k - 1) false) 1 0) where
-      pub sum_fits : r ≤ 1 → Fits w64 (r + 2 * word)
-      sum_fits l = record { fits = omega (arith, half) }
+    module _ (r : ℕ) (e : r ≡ from_bool (get_or links (k - 1) false)) where
+      bit : r ≡ pick (get_or links (k - 1) false) 1 0
+      bit = e ∙ bool_bit (get_or links (k - 1) false)
+
+      pub sum_fits : Fits w64 (r + 2 * word)
+      sum_fits = record { fits = omega (arith, half, bit, bit_small (get_or links (k - 1) false)) }
 
       pub gathered_turn : Gathered links (k - 1) (r + 2 * word)
       unfolding from_bits
@@ -48,33 +57,18 @@ module _ (links : List Bool) (k word : ℕ) (g : Gathered links k word) where
           let s : suc (k - 1) ≡ k = omega arith in
           let c : drop (k - 1) links ≡ get_or links (k - 1) false ∷ drop k links =
           drop-cons links (k - 1) false (omega (arith, g.long, g.upto)) ∙ ap (λ (j : ℕ). get_or links (k - 1) false ∷ drop j links) s in
-          record { is = rw (e, g.is, c) refl; long = g.long; upto = omega (arith, g.upto) }
+          record { is = rw (bit, g.is, c) refl; long = g.long; upto = omega (arith, g.upto) }
 
 pub ruleset gathered = (gathered_start, gathered_done, twice_fits, sum_fits, gathered_turn)
 
--- ---- links_of, from the first bit up: the first k links are the word's bits before k, and the rest is the word without them
+-- ---- links_of: each link is the bit at its place
 
-pub record Parted (word k rest : ℕ) (links : List Bool) : Type 0 where
-  pub is : bits 64 word ≡ take k links ++ bits (64 - k) rest
-  pub long : length links ≡ 64
-  pub upto : k ≤ 64
+bits_from_place : (n a v : ℕ) → bits n (v / 2 ^ a) ≡ list_from a n (λ k. eqb (v / 2 ^ k % 2) 1)
+unfolding bits list_from
+bits_from_place zero a v = refl
+bits_from_place (suc n) a v =
+    let e : v / 2 ^ a / 2 ≡ v / 2 ^ suc a = div-div-eq-div-mul v (2 ^ a) 2 ∙ ap (λ (m : ℕ). v / m) (sym (pow-suc 2 a)) in
+    ap (λ (bs : List Bool). eqb (v / 2 ^ a % 2) 1 ∷ bs) (ap (bits n) e ∙ bits_from_place n (suc a) v)
 
-pub parted_start : (word : ℕ) → Parted word 0 word (replicate 64 false)
-parted_start word = record { is = refl; long = refl; upto = omega arith }
-
-module _ (word k rest : ℕ) (links : List Bool) (p : Parted word k rest links) where
-  pub parted_turn : k < 64 → Parted word (k + 1) (rest / 2) (set links k (eqb (rest % 2) 1))
-  unfolding bits
-  parted_turn h =
-      let b : Bool = eqb (rest % 2) 1 in
-      let e : 64 - k ≡ suc (64 - suc k) = omega arith in
-      let s : take (suc k) (set links k b) ≡ take k links ++ b ∷ [] = take-suc-set links k b (omega (arith, p.long)) in
-      rw add-one (record { is = p.is ∙ rw (e, s) (sym (append_assoc (take k links) (b ∷ []) (bits (64 - suc k) (rest / 2)))); long = length-set links k b ∙ p.long; upto = omega arith })
-
-  pub parted_done : 64 ≤ k → links ≡ bits 64 word
-  unfolding bits
-  parted_done h =
-      let z : 64 - k ≡ 0 = omega arith in
-      sym (p.is ∙ rw z (append-nil (take k links)) ∙ take_all k links (omega (arith, p.long)))
-
-pub ruleset parted = (parted_start, parted_turn, parted_done)
+pub bits_by_place : (v : ℕ) → list_from 0 64 (λ k. eqb (v / 2 ^ k % 2) 1) ≡ bits 64 v
+bits_by_place v = let e : v / 2 ^ 0 ≡ v = omega arith in sym (bits_from_place 64 0 v) ∙ ap (bits 64) e

@@ -14,24 +14,16 @@ ghost use Rattle.network_words.specs.NetworkCode.{network_code};
 
 use network::Network;
 use rng::Rng;
+use std::array;
 use units::Duration;
-
-// One for a blocked link.
-fn bit_of(blocked: bool) -> u64
-    ensures { (result ≡ pick blocked 1 0) × (result ≤ 1) }
-{
-    if blocked { 1 } else { 0 }
-}
 
 // The links as the bits of a word: link k is bit k.
 fn word_of(links: [bool; 64]) -> u64
     ensures { result ≡ from_bits links }
 {
-    let mut word: u64 = 0;
-    let mut k: usize = 64;
-    while 0 < k {
-        k -= 1;
-        word = bit_of(links[k]) + 2 * word;
+    let mut word = 0;
+    for k in (0..64).rev() {
+        word = u64::from(links[k]) + 2 * word;
     }
     word
 }
@@ -40,15 +32,7 @@ fn word_of(links: [bool; 64]) -> u64
 fn links_of(word: u64) -> [bool; 64]
     ensures { result ≡ bits 64 word }
 {
-    let mut links = [false; 64];
-    let mut rest = word;
-    let mut k: usize = 0;
-    while k < 64 {
-        links[k] = rest % 2 == 1;
-        rest = rest / 2;
-        k += 1;
-    }
-    links
+    array::from_fn(|k| (word >> k) % 2 == 1)
 }
 
 // The rate in word i: a content has no more than 32 bits there.

@@ -2,9 +2,10 @@
 #![tactic(auto)]
 
 ghost use Rattle.std.specs.Prelude.{◌≡◌};
+ghost use Rattle.std.specs.Result.{result_ok};
 ghost use Rattle.protocol.specs.Numbers.{timer_number, timer_of, role_number, role_of, leads};
 
-use units::{LogIndex, NodeOption, Term};
+use units::{LogIndex, NodeId, Term};
 
 // The timers a server can set.
 #[derive(Clone, Copy)]
@@ -13,33 +14,31 @@ pub enum Timer {
     Heartbeat,
 }
 
-impl Timer {
-    // A timer's number.
-    pub fn number(self) -> u64
-        ensures { result ≡ timer_number self }
-    {
-        match self {
+// A timer's number.
+impl From<Timer> for u64 {
+    ghost from_gives = { λ timer n. n ≡ timer_number timer };
+
+    fn from(timer: Timer) -> u64 {
+        match timer {
             Timer::Election => 0,
             Timer::Heartbeat => 1,
         }
     }
 }
 
-// A timer, or none where a number is no timer's.
-#[derive(Clone, Copy)]
-pub enum TimerOption {
-    None,
-    Some(Timer),
-}
-
 // The timer with a number.
-pub fn timer_of(n: u64) -> TimerOption
-    ensures { result ≡ timer_of n }
-{
-    match n {
-        0 => TimerOption::Some(Timer::Election),
-        1 => TimerOption::Some(Timer::Heartbeat),
-        _ => TimerOption::None,
+impl TryFrom<u64> for Timer {
+    type Error = ();
+
+    ghost try_from_gives = { λ n timer. result_ok timer ≡ timer_of n };
+
+    #[tactic(auto, unfolding(crate::specs::Numbers::timer_of, laws::specs::Kinds::kind_of))]
+    fn try_from(n: u64) -> Result<Timer, ()> {
+        match n {
+            0 => Ok(Timer::Election),
+            1 => Ok(Timer::Heartbeat),
+            _ => Err(()),
+        }
     }
 }
 
@@ -56,45 +55,41 @@ pub enum Role {
 }
 
 impl Role {
-    // A role's number.
-    pub fn number(self) -> u64
-        ensures { result ≡ role_number self }
+    // Whether a role is that of a leader.
+    pub fn leads(self) -> bool
+        ensures { result ≡ leads self }
     {
-        match self {
+        matches!(self, Role::Leader)
+    }
+}
+
+// A role's number.
+impl From<Role> for u64 {
+    ghost from_gives = { λ role n. n ≡ role_number role };
+
+    fn from(role: Role) -> u64 {
+        match role {
             Role::Follower => 0,
             Role::Candidate => 1,
             Role::Leader => 2,
         }
     }
-
-    // Whether a role is that of a leader.
-    pub fn leads(self) -> bool
-        ensures { result ≡ leads self }
-    {
-        match self {
-            Role::Follower => false,
-            Role::Candidate => false,
-            Role::Leader => true,
-        }
-    }
-}
-
-// A role, or none where a number is no role's.
-#[derive(Clone, Copy)]
-pub enum RoleOption {
-    None,
-    Some(Role),
 }
 
 // The role with a number.
-pub fn role_of(n: u64) -> RoleOption
-    ensures { result ≡ role_of n }
-{
-    match n {
-        0 => RoleOption::Some(Role::Follower),
-        1 => RoleOption::Some(Role::Candidate),
-        2 => RoleOption::Some(Role::Leader),
-        _ => RoleOption::None,
+impl TryFrom<u64> for Role {
+    type Error = ();
+
+    ghost try_from_gives = { λ n role. result_ok role ≡ role_of n };
+
+    #[tactic(auto, unfolding(crate::specs::Numbers::role_of, laws::specs::Kinds::kind_of))]
+    fn try_from(n: u64) -> Result<Role, ()> {
+        match n {
+            0 => Ok(Role::Follower),
+            1 => Ok(Role::Candidate),
+            2 => Ok(Role::Leader),
+            _ => Err(()),
+        }
     }
 }
 
@@ -104,7 +99,7 @@ pub struct Status {
     pub role: Role,
     pub term: Term,
     // The leader it follows, if known. A leader reports itself.
-    pub leader: NodeOption,
+    pub leader: Option<NodeId>,
     // The highest index it knows to be committed.
     pub commit_index: LogIndex,
 }

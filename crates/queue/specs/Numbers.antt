@@ -1,23 +1,18 @@
 -- Events as numbers: the kind in order of declaration from 0 (simulation.rs), and four numbers, 0 where an event has fewer. Assumes nothing.
-use Rattle.std.specs.Prelude.{Bool, List, [], ◌∷◌, ℕ, eqb, get_or}
+use Rattle.std.specs.Prelude.{Bool, List, [], ◌∷◌, eqb, get_or, Option, None, Some}
+use Rattle.std.specs.Option.{unwrap_or}
 use Rattle.laws.specs.Bools.{pick, allb}
 pub use Rattle.units.specs.Types.{node_flag as presentOf, node_number as named_of}
 unfoldable pub use Rattle.units.specs.Types.{node_in as leader_of}
 use Rattle.protocol.specs.declared.Timer.{Timer}
 use Rattle.protocol.specs.declared.Timer.TheVariants.{Election}
-use Rattle.protocol.specs.declared.TimerOption.{TimerOption}
-use Rattle.protocol.specs.declared.TimerOption.TheVariants.{None as NoTimer, Some as SomeTimer}
 use Rattle.protocol.specs.Numbers.{timer_number, timer_of}
 use Rattle.faults.specs.declared.Fault.{Fault}
 use Rattle.faults.specs.declared.Fault.TheVariants.{HealAll}
-use Rattle.faults.specs.declared.FaultOption.{FaultOption}
-use Rattle.faults.specs.declared.FaultOption.TheVariants.{None as NoFault, Some as SomeFault}
 use Rattle.faults.specs.Fault.{fault_kind, fault_first, fault_second, fault_of}
 use Rattle.queue.specs.declared.Event.{Event}
 use Rattle.queue.specs.declared.Event.TheVariants as event
 use Rattle.queue.specs.declared.numbers.EventWords.{EventWords}
-use Rattle.queue.specs.declared.numbers.EventOption.{EventOption}
-use Rattle.queue.specs.declared.numbers.EventOption.TheVariants.{None, Some}
 
 -- An event's numbers.
 abbrev pub words_of : Event → EventWords
@@ -33,14 +28,12 @@ words_of (event.ClientReply client seq index) = record { kind = 8; a = client; b
 words_of (event.ClientTimeout client attempt) = record { kind = 9; a = client; b = attempt; c = 0; d = 0 }
 
 -- A timer that is there, or any.
-abbrev pub timer_or : TimerOption → Timer
-timer_or NoTimer = Election
-timer_or (SomeTimer timer) = timer
+abbrev pub timer_or : Option Timer → Timer
+timer_or timer = unwrap_or timer Election
 
 -- A fault that is there, or any.
-abbrev pub fault_or : FaultOption → Fault
-fault_or NoFault = HealAll
-fault_or (SomeFault fault) = fault
+abbrev pub fault_or : Option Fault → Fault
+fault_or fault = unwrap_or fault HealAll
 
 -- The events that may have four numbers, in order of their kinds.
 abbrev pub candidates : EventWords → List Event
@@ -65,5 +58,5 @@ unfoldable pub same_words : EventWords → EventWords → Bool
 same_words x y = allb (eqb x.kind y.kind ∷ eqb x.a y.a ∷ eqb x.b y.b ∷ eqb x.c y.c ∷ eqb x.d y.d ∷ [])
 
 -- The event with these numbers, if there is one.
-unfoldable pub event_of : EventWords → EventOption
+unfoldable pub event_of : EventWords → Option Event
 event_of w = pick (same_words (words_of (candidate w)) w) (Some (candidate w)) None

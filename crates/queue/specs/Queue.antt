@@ -1,6 +1,5 @@
 -- Future events, earliest first, equal times in the order of their pushes (queue.rs). Assumes nothing.
 use Rattle.std.specs.Prelude.{List, [], ◌∷◌, ℕ}
-use Rattle.std.proofs.Math.Option.{Option, none, some}
 use Rattle.laws.specs.Order.{numbers, push_by}
 use Rattle.units.specs.declared.SimTime.{SimTime}
 use Rattle.queue.specs.declared.Event.{Event}

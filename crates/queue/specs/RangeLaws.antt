@@ -1,18 +1,15 @@
 -- What the proofs of range.rt cite. Assumes nothing.
-use Rattle.std.specs.Prelude.{◌≡◌, refl, Bool, ◌&&◌, ℕ, ◌^◌, leb, ltb, eqb}
+use Rattle.std.specs.Prelude.{◌≡◌, Bool, ◌&&◌, ℕ, ◌^◌, leb, ltb}
 use Rattle.std.proofs.Math.Path.{sym, ap}
-use Rattle.std.proofs.Common.{◌∙◌, eq-eqb, ne_eqb}
-use Rattle.laws.specs.Bools.{pick, ◌and◌, and_assoc}
+use Rattle.std.proofs.Common.{◌∙◌}
+use Rattle.laws.specs.Bools.{◌and◌, and_assoc}
 use Rattle.laws.proofs.BoolLaws.{code_and}
 use Rattle.units.specs.declared.NodeId.{NodeId}
 use Rattle.units.specs.declared.LogIndex.{LogIndex}
-use Rattle.faults.specs.declared.Fault.{Fault}
-use Rattle.faults.specs.Fault.{in_cluster, fault_in_range}
+use Rattle.faults.specs.Fault.{in_cluster}
 use Rattle.queue.specs.declared.Event.{Event}
 use Rattle.queue.specs.declared.Event.TheVariants as event
-use Rattle.queue.specs.declared.numbers.EventWords.{EventWords}
-use Rattle.queue.specs.Numbers.{words_of}
-use Rattle.queue.specs.Range.{in_range, message_room}
+use Rattle.queue.specs.Range.{in_range}
 
 -- ---- the arms of in_range
 
@@ -29,20 +26,4 @@ module _ (S C L : ℕ) (e : Event) where
   pub range_reply : (client seq : ℕ) (index : LogIndex) → e ≡ event.ClientReply client seq index → (ltb client C && leb index.0 L) ≡ in_range S C L e
   range_reply client seq index p = range_arm (event.ClientReply client seq index) _ p (code_and _ _)
 
-  pub range_fault : (fault : Fault) (t : Bool) → e ≡ event.Fault fault → t ≡ fault_in_range S fault → t ≡ in_range S C L e
-  range_fault fault t p q = range_arm (event.Fault fault) t p q
-
-pub ruleset ranges = (range_deliver, range_arrive, range_reply, range_fault, range_arm, refl)
-
--- ---- the room of a message
-
-module _ (M : ℕ) (e : Event) (w : EventWords) (p : w ≡ words_of e) where
-  pub room_delivery : w.kind ≡ 1 → M ≡ message_room M e
-  unfolding message_room
-  room_delivery h = let k : (words_of e).kind ≡ 1 = ap (λ (v : EventWords). v.kind) (sym p) ∙ h in rw (eq-eqb (words_of e).kind 1 k)
-
-  pub room_none : (w.kind ≡ 1 → ⊥) → 0 ≡ message_room M e
-  unfolding message_room
-  room_none h = sym (ap (λ (b : Bool). pick b M 0) (ne_eqb (words_of e).kind 1 (λ k. h (ap (λ (v : EventWords). v.kind) p ∙ k))))
-
-pub ruleset rooms = (room_delivery, room_none)
+pub ruleset ranges = (range_deliver, range_arrive, range_reply)

@@ -1,16 +1,15 @@
 -- A queued event as a row of 7 + ⌈M/8⌉ words: its time, its five numbers, and its message under its length (D1). Assumes nothing.
-use Rattle.std.specs.Prelude.{refl, Bool, false, List, ℕ, ◌+◌, leb, length}
+use Rattle.std.specs.Prelude.{Bool, false, List, ℕ, ◌+◌, leb, length, Option, None, Some}
 use Rattle.std.proofs.Common.{arith}
 use Rattle.laws.specs.Bools.{◌and◌}
 use Rattle.layout.specs.Code.{Code, word, pair, sized}
 use Rattle.layout.specs.Marked.{words_for}
 use Rattle.layout.specs.Payload.{message}
 use Rattle.queue.specs.declared.numbers.EventWords.{EventWords}
-use Rattle.queue.specs.declared.numbers.EventOption.{EventOption}
-use Rattle.queue.specs.declared.numbers.EventOption.TheVariants.{None, Some}
 use Rattle.queue.specs.Queue.{Scheduled}
 use Rattle.queue.specs.Numbers.{words_of, candidate, event_of}
 use Rattle.queue.specs.Range.{in_range, message_room}
+use Rattle.queue.specs.declared.Event.{Event}
 
 -- The numbers of a row: the time, the kind, a, b, c, d, and the message.
 abbrev pub Parts : Type 0
@@ -37,7 +36,7 @@ abbrev pub scheduled_of : Parts → Scheduled
 scheduled_of p = record { time = record { 0 = p.0 }; event = candidate (words_in p); message = message_in p }
 
 -- Whether five numbers tell an event in range that may have a message of n bytes.
-abbrev pub told : ℕ → ℕ → ℕ → ℕ → EventOption → ℕ → Bool
+abbrev pub told : ℕ → ℕ → ℕ → ℕ → Option Event → ℕ → Bool
 told S C L M None n = false
 told S C L M (Some e) n = in_range S C L e and leb n (message_room M e)
 

@@ -1,11 +1,11 @@
 -- The code of a queued event and its laws. Assumes nothing.
-use Rattle.std.specs.Prelude.{◌≡◌, Bool, List, ℕ, ◌≤◌, leb, eqb}
+use Rattle.std.specs.Prelude.{◌≡◌, Bool, ℕ, ◌≤◌, leb, eqb, None, Some}
 use Rattle.std.proofs.Math.Path.{refl}
-use Rattle.std.proofs.Common.{sym, ap, ◌∙◌, arith}
+use Rattle.std.proofs.Common.{ap, ◌∙◌, arith}
 use Rattle.std.proofs.Math.Bool.{true, false}
 use Rattle.std.proofs.Math.ListN.{length}
 use borrow.Author.Tests.{leb-true, le-leb}
-use Rattle.laws.specs.Bools.{pick, ◌and◌, and_left}
+use Rattle.laws.specs.Bools.{pick, and_left}
 use Rattle.laws.proofs.BoolLaws.{and_right, and_both}
 use Rattle.laws.specs.Decides.{false_true}
 use Rattle.layout.specs.Code.{Code}
@@ -14,7 +14,6 @@ use Rattle.layout.specs.Coded.{Telling, coded}
 use Rattle.queue.specs.declared.Event.{Event}
 use Rattle.queue.specs.declared.Event.TheVariants as event
 use Rattle.queue.specs.declared.numbers.EventWords.{EventWords}
-use Rattle.queue.specs.declared.numbers.EventOption.TheVariants.{None, Some}
 use Rattle.queue.specs.Queue.{Scheduled}
 use Rattle.queue.specs.Numbers.{words_of, candidate, same_words, event_of}
 use Rattle.queue.specs.NumberLaws.{rates_fit, candidate_of_words, same_words_lem, event_of_words}

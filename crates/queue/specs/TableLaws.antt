@@ -1,21 +1,22 @@
 -- What the proofs of table.rt cite. Assumes nothing.
-use Rattle.std.specs.Prelude.{◌≡◌, refl, Bool, true, false, ◌&&◌, leb, get_or, take, drop}
-use Rattle.std.proofs.Common.{sym, ap₂, ◌∙◌, subst, arith, length-drop, length-append, get_or-drop, drop-drop, take_all, take_at, drop_at}
+use Rattle.std.specs.Prelude.{◌≡◌, refl, Bool, true, false, ◌&&◌, leb, get_or, take, drop, Option, Result, Ok, Err}
+use Rattle.std.specs.Result.{result_ok}
+use Rattle.std.proofs.Common.{sym, ap₂, ◌∙◌, subst, arith, length-drop, get_or-drop, drop-drop, take_all}
 use Rattle.std.proofs.Math.Path.{ap}
-use mathlib.Core.List.{List, [], ◌∷◌, ◌++◌, map, append_assoc}
-use Prim.Native.Nat.{ℕ, ◌+◌, ◌-◌, ◌*◌, ◌^◌, ◌≤◌, ◌<◌}
+use mathlib.Core.List.{List, [], ◌∷◌, ◌++◌, append_assoc}
+use Prim.Native.Nat.{ℕ, ◌+◌, ◌-◌, ◌*◌, ◌≤◌, ◌<◌}
 use Rattle.std.proofs.Math.ListN.{length}
 use Rattle.std.proofs.lemmas.List.Edits.{sets}
 use Rattle.std.proofs.Math.Seq.{length-sets}
 use Rattle.laws.specs.Bools.{◌and◌, and_left, and_assoc, no_and}
-use Rattle.laws.proofs.BoolLaws.{and_right, and_both, code_and, and_no, true_and}
-use Rattle.laws.specs.Order.{numbers, chain, sorted, push_by}
+use Rattle.laws.proofs.BoolLaws.{and_right, code_and, and_no, true_and}
+use Rattle.laws.specs.Order.{numbers, chain, sorted}
 use Rattle.words.specs.Words.{bytes, W, Bytes, Fit}
 use Rattle.words.specs.Sets.{length_part, part_at}
 use Rattle.words.specs.Numbers.{each_drop}
 use Rattle.words.specs.Lift.{bytes_append, length_bytes, length_w, W-fit, W-part}
-use Rattle.layout.specs.Code.{Code, zeros, flat}
-use Rattle.layout.specs.Tables.{Holds, Table, Held, Becomes, rows_in, remove_at, opened, removed}
+use Rattle.layout.specs.Code.{zeros, flat}
+use Rattle.layout.specs.Tables.{Holds, Held, rows_in, remove_at, opened, removed}
 use Rattle.layout.specs.Contents.{holds_length, holds_w}
 use Rattle.layout.specs.TableLaws.{held_rows, held_rule, remove_held, rowed_start, rowed_done}
 use Rattle.layout.specs.Order.{last_place, one, heads}
@@ -29,9 +30,6 @@ use Rattle.units.specs.declared.SimTime.{SimTime}
 use Rattle.queue.specs.declared.Event.{Event}
 use Rattle.queue.specs.declared.Event.TheVariants as event
 use Rattle.queue.specs.declared.numbers.EventWords.{EventWords}
-use Rattle.queue.specs.declared.numbers.EventOption.{EventOption}
-use Rattle.queue.specs.declared.numbers.EventOption.TheVariants.{None, Some}
-use Rattle.queue.specs.declared.table.Earliest.{Earliest}
 use Rattle.queue.specs.Queue.{Scheduled, Queue, time_of, push}
 use Rattle.queue.specs.Numbers.{words_of, candidate, event_of}
 use Rattle.queue.specs.Range.{in_range, message_room, scheduled_fits, in_order}
@@ -179,26 +177,29 @@ module _ (S C L M : ℕ) (ws : List ℕ) (f : Fit ws) (l : 7 + words_for M ≤ l
       by true k = ap (λ (n : ℕ). true and told S C L M (event_of (numbers_in ws)) n) (length_is k)
       by false k = no_and _ _ refl ∙ sym (no_and _ _ refl)
 
-module _ (S C L M : ℕ) (s : List ℕ) (w : EventWords) (n : ℕ) (t : Bool) (o : EventOption) (B : Bytes s) (l : length s ≡ 8 * (7 + words_for M)) (p : w ≡ numbers_in (W s)) (q : n ≡ get_or (W s) 6 0)
-    (r : t ≡ (message M).ok (W (take (length s - 48) (drop 48 s)))) (v : o ≡ event_of w) where
+module _ {E : Type 0} (S C L M : ℕ) (s : List ℕ) (w : EventWords) (n : ℕ) (t : Bool) (o : Result Event E) (B : Bytes s)
+    (l : length s ≡ 8 * (7 + words_for M))
+    (p : w ≡ numbers_in (W s)) (q : n ≡ get_or (W s) 6 0) (r : t ≡ (message M).ok (W (take (length s - 48) (drop 48 s))))
+    (v : result_ok o ≡ event_of w) where
   padded_is : t ≡ (message M).ok (drop 6 (W s))
   padded_is =
       let e : length s - 48 ≡ 8 * (7 + words_for M) - 8 * 6 = omega arith in
       r ∙ ap (λ (k : ℕ). (message M).ok (W (take k (drop 48 s)))) e
       ∙ ap (message M).ok (W-part s 6 (7 + words_for M) B (omega arith) (omega arith) ∙ take_all (7 + words_for M - 6) (drop 6 (W s)) (omega (arith, length-drop 6 (W s), length_w s)))
 
-  row_test : (event_row S C L M).ok (W s) ≡ (t and told S C L M o n)
+  row_test : (event_row S C L M).ok (W s) ≡ (t and told S C L M (result_ok o) n)
   row_test =
       row_ok S C L M (W s) (W-fit s B) (omega (arith, length_w s))
-      ∙ sym (ap₂ (λ (x : Bool) (y : EventOption). x and told S C L M y n) padded_is (v ∙ ap event_of p) ∙ ap (λ (k : ℕ). (message M).ok (drop 6 (W s)) and told S C L M (event_of (numbers_in (W s))) k) q)
+      ∙ sym (ap₂ (λ (x : Bool) (y : Option Event). x and told S C L M y n) padded_is (v ∙ ap event_of p) ∙ ap (λ (k : ℕ). (message M).ok (drop 6 (W s)) and told S C L M (event_of (numbers_in (W s))) k) q)
 
-  pub row_none : o ≡ None → false ≡ (event_row S C L M).ok (W s)
-  row_none e = sym (row_test ∙ ap (λ (y : EventOption). t and told S C L M y n) e ∙ and_no _ _ refl)
+  pub row_none : (x : E) → o ≡ Err x → false ≡ (event_row S C L M).ok (W s)
+  row_none x e = sym (row_test ∙ ap (λ (y : Result Event E). t and told S C L M (result_ok y) n) e ∙ and_no _ _ refl)
 
-  pub row_some : (e : Event) (x : Bool) (m : ℕ) → o ≡ Some e → x ≡ in_range S C L e → m ≡ message_room M e → ((t && x) && leb n m) ≡ (event_row S C L M).ok (W s)
+  pub row_some : (e : Event) (x : Bool) (m : ℕ) → o ≡ Ok e → x ≡ in_range S C L e → m ≡ message_room M e
+      → ((t && x) && leb n m) ≡ (event_row S C L M).ok (W s)
   row_some e x m h i j =
       code_and (t && x) (leb n m) ∙ ap (λ (y : Bool). y and leb n m) (code_and t x) ∙ and_assoc t x (leb n m) ∙ ap₂ (λ (y : Bool) (k : ℕ). t and y and leb n k) i j
-      ∙ sym (row_test ∙ ap (λ (y : EventOption). t and told S C L M y n) h)
+      ∙ sym (row_test ∙ ap (λ (y : Result Event E). t and told S C L M (result_ok y) n) h)
 
 pub queue_sorted : (S C L M n : ℕ) (b : List ℕ) (r : Bool) → r ≡ sorted numbers (heads one (7 + words_for M) n (W b)) → r ≡ (events S C L M).rule (rows_in (events S C L M).row n b)
 unfolding in_order

@@ -3,7 +3,7 @@
 
 use faults::Fault;
 use protocol::Timer;
-use units::{LogIndex, NodeId, NodeOption};
+use units::{LogIndex, NodeId};
 
 pub mod numbers; // events as numbers
 pub mod range; // the ranges of an event
@@ -38,7 +38,7 @@ pub enum Event {
     ClientRedirect {
         client: u64,
         attempt: u64,
-        leader: NodeOption,
+        leader: Option<NodeId>,
     },
     ClientRetry {
         client: u64,

@@ -1,51 +1,49 @@
-// The ranges of a queued event, in a cluster of so many servers with so many clients and log indexes.
-ghost use Rattle.std.specs.Prelude.{◌≡◌, ◌≤◌};
+// The ranges of a queued event.
+ghost use Rattle.std.specs.Prelude.{◌≡◌};
 ghost use Rattle.queue.specs.Range.{in_range, message_room};
 
-use crate::{Event, numbers};
+use crate::Event;
 
-// Whether an event is in range.
-pub fn in_range(servers: u64, clients: u64, indexes: u64, e: Event) -> bool
-    requires { servers ≤ 8 }
-    ensures { result ≡ in_range servers clients indexes e }
-{
-    match e {
-        Event::Start { slot } => slot < servers,
-        Event::Deliver { from, to, entries } => faults::in_cluster(servers, from)
-            & faults::in_cluster(servers, to)
-            & (entries < 4294967296),
-        Event::Timer {
-            slot,
-            timer: _,
-            generation: _,
-        } => slot < servers,
-        Event::Fault(fault) => faults::fault_in_range(servers, fault),
-        Event::ClientSend { client } => client < clients,
-        Event::ClientArrive {
-            slot,
-            client,
-            seq: _,
-            attempt: _,
-        } => (slot < servers) & (client < clients),
-        Event::ClientRedirect {
-            client,
-            attempt: _,
-            leader: _,
-        } => client < clients,
-        Event::ClientRetry { client, attempt: _ } => client < clients,
-        Event::ClientReply {
-            client,
-            seq: _,
-            index,
-        } => (client < clients) & (index.0 <= indexes),
-        Event::ClientTimeout { client, attempt: _ } => client < clients,
-    }
+// How many servers, clients and log indexes there are, and how many bytes the message of a delivery may have.
+#[derive(Clone, Copy)]
+pub struct Ranges {
+    pub servers: u64,
+    pub clients: u64,
+    pub indexes: u64,
+    pub message: usize,
 }
 
-// How many bytes the message of an event may have, where one of a delivery may have m.
-pub fn message_room(m: usize, e: Event) -> usize
-    ensures { result ≡ message_room m e }
-{
-    let w = numbers::words_of(e);
-    if w.kind == 1 { m } else { 0 }
+impl Ranges {
+    // Whether an event is in range.
+    #[tactic(auto, using(crate::specs::RangeLaws::ranges))]
+    pub fn in_range(self, event: Event) -> bool
+        ensures { result ≡ in_range self.servers self.clients self.indexes event }
+    {
+        match event {
+            Event::Start { slot } | Event::Timer { slot, .. } => slot < self.servers,
+            Event::Deliver { from, to, entries } => faults::in_cluster(self.servers, from)
+                & faults::in_cluster(self.servers, to)
+                & (entries < 4294967296),
+            Event::Fault(fault) => faults::fault_in_range(self.servers, fault),
+            Event::ClientArrive { slot, client, .. } => (slot < self.servers)
+                & (client < self.clients),
+            Event::ClientReply { client, index, .. } => (client < self.clients)
+                & (index.0 <= self.indexes),
+            Event::ClientSend { client }
+            | Event::ClientRedirect { client, .. }
+            | Event::ClientRetry { client, .. }
+            | Event::ClientTimeout { client, .. } => client < self.clients,
+        }
+    }
+
+    // How many bytes the message of an event may have.
+    #[tactic(auto, unfolding(crate::specs::Range::message_room))]
+    pub fn message_room(self, event: Event) -> usize
+        ensures { result ≡ message_room self.message event }
+    {
+        match event {
+            Event::Deliver { .. } => self.message,
+            _ => 0,
+        }
+    }
 }

@@ -9,8 +9,9 @@ ghost use Rattle.layout.specs.Marked.{words_for};
 ghost use Rattle.queue.specs.RowLaws.{event_row};
 ghost use Rattle.queue.specs.Table.{events, numbers_in, PutsRow, Pushes, Removes, GivesFirst, Copies};
 
-use crate::numbers::{EventOption, EventWords};
-use crate::{Event, numbers, range};
+use crate::Event;
+use crate::numbers::{EventWords, candidate};
+use crate::range::Ranges;
 use layout::{marked, rows};
 use units::SimTime;
 
@@ -19,19 +20,20 @@ fn put_row(s: &mut [u8], time: SimTime, event: Event, message: &[u8])
     requires { 56 + length message.now ≤ length s.old }
     ensures { PutsRow (record { time = time; event = event; message = message.now }) s.old s.new }
 {
-    let w = numbers::words_of(event);
+    let w = EventWords::from(event);
     let end = s.len();
     words::store_all(s, 0, &[time.0, w.kind, w.a, w.b, w.c, w.d]);
     marked::put_message(&mut s[48..end], message);
 }
 
 // One event more.
+#[tactic(auto, using(crate::specs::TableLaws::pushed))]
 pub fn push(s: &mut [u8], n: usize, m: usize, time: SimTime, event: Event, message: &[u8])
     requires { (m ≤ 4096) × (8 * (n * (7 + words_for m) + (7 + words_for m)) ≤ length s.old) × (length message.now ≤ m) }
     ensures { Pushes (record { time = time; event = event; message = message.now }) m n s.old s.new }
 {
     let w = 7 + (m + 7) / 8;
-    let i = rows::last_place1(s, n, w, time.0);
+    let i = rows::last_place(s, n, w, time.0);
     let at = rows::start(i, n, w);
     rows::open_row(s, n, i, w);
     let a = 8 * at;
@@ -62,19 +64,20 @@ pub struct Earliest {
 }
 
 // Reads the earliest event.
+#[tactic(auto, using(crate::specs::TableLaws::first_given))]
 pub fn first(s: &[u8]) -> Earliest
     requires { 56 ≤ length s.now }
     ensures { GivesFirst result s.now }
 {
-    let w = numbers_in(s);
     Earliest {
         time: SimTime(words::load(s, 0)),
-        event: numbers::candidate(w),
+        event: candidate(numbers_in(s)),
         length: words::load(s, 6),
     }
 }
 
 // Copies the message of the earliest event to the front of a buffer; count is the length that `first` gave.
+#[tactic(auto, using(crate::specs::TableLaws::first_copied))]
 pub fn first_message(s: &[u8], count: usize, buffer: &mut [u8])
     requires { (56 + count ≤ length s.now) × (count ≤ length buffer.old) }
     ensures { Copies count s.now buffer.old buffer.new }
@@ -84,6 +87,7 @@ pub fn first_message(s: &[u8], count: usize, buffer: &mut [u8])
 }
 
 // The earliest event is taken out.
+#[tactic(auto, using(crate::specs::TableLaws::first_removed))]
 pub fn remove_first(s: &mut [u8], n: usize, m: usize)
     requires { (m ≤ 4096) × (0 < n) × (8 * (n * (7 + words_for m)) ≤ length s.old) }
     ensures { Removes m n s.old s.new }
@@ -93,52 +97,45 @@ pub fn remove_first(s: &mut [u8], n: usize, m: usize)
 }
 
 // Whether a row is that of an event in range.
-fn check_row(s: &[u8], servers: u64, clients: u64, indexes: u64, m: usize) -> bool
-    requires { (servers ≤ 8) × (length s.now ≡ 8 * (7 + words_for m)) }
-    ensures { result ≡ (event_row servers clients indexes m).ok (W s.now) }
+fn check_row(s: &[u8], ranges: Ranges) -> bool
+    requires { length s.now ≡ 8 * (7 + words_for ranges.message) }
+    ensures { result ≡ (event_row ranges.servers ranges.clients ranges.indexes ranges.message).ok (W s.now) }
 {
     let end = s.len();
-    let w = numbers_in(s);
     let length = words::load(s, 6) as usize;
-    let padded = marked::check_message(&s[48..end], m);
-    match numbers::event_of(w) {
-        EventOption::None => false,
-        EventOption::Some(e) => padded
-            & range::in_range(servers, clients, indexes, e)
-            & (length <= range::message_room(m, e)),
+    let padded = marked::check_message(&s[48..end], ranges.message);
+    match Event::try_from(numbers_in(s)) {
+        Err(()) => false,
+        Ok(event) => padded & ranges.in_range(event) & (length <= ranges.message_room(event)),
     }
 }
 
 // Whether each row is that of an event in range.
-fn check_rows(s: &[u8], n: usize, servers: u64, clients: u64, indexes: u64, m: usize) -> bool
-    requires { (servers ≤ 8) × (m ≤ 4096) × (8 * (n * (7 + words_for m)) ≤ length s.now) }
-    ensures { result ≡ ok_n (event_row servers clients indexes m) n (W s.now) }
+fn check_rows(s: &[u8], n: usize, ranges: Ranges) -> bool
+    requires { (ranges.message ≤ 4096) × (8 * (n * (7 + words_for ranges.message)) ≤ length s.now) }
+    ensures { result ≡ ok_n (event_row ranges.servers ranges.clients ranges.indexes ranges.message) n (W s.now) }
 {
-    let w = 7 + (m + 7) / 8;
-    let mut i = 0;
-    while i < n {
+    let w = 7 + (ranges.message + 7) / 8;
+    for i in 0..n {
         let at = rows::start_of(i, n, w);
-        let a = 8 * at;
-        let e = 8 * (at + w);
-        if !check_row(&s[a..e], servers, clients, indexes, m) {
+        if !check_row(&s[8 * at..8 * (at + w)], ranges) {
             return false;
         }
-        i += 1;
     }
     true
 }
 
 // Whether the bytes are a queue of n events in range.
-pub fn check(s: &[u8], n: usize, servers: u64, clients: u64, indexes: u64, m: usize) -> bool
-    requires { (servers ≤ 8) × (m ≤ 4096) }
-    ensures { Decides result (Tabled (events servers clients indexes m) n s.now) }
+pub fn check(s: &[u8], n: usize, ranges: Ranges) -> bool
+    requires { ranges.message ≤ 4096 }
+    ensures { Decides result (Tabled (events ranges.servers ranges.clients ranges.indexes ranges.message) n s.now) }
 {
-    let w = 7 + (m + 7) / 8;
+    let w = 7 + (ranges.message + 7) / 8;
     if !rows::padding(s, n, w) {
         return false;
     }
-    if !check_rows(s, n, servers, clients, indexes, m) {
+    if !check_rows(s, n, ranges) {
         return false;
     }
-    rows::sorted1(s, n, w)
+    rows::sorted::<u64>(s, n, w)
 }

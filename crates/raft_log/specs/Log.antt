@@ -1,10 +1,8 @@
 -- A log by place: place i holds the entry at index i + 1, or none (the BTreeMap of consensus/storage.rs). Assumes nothing.
-use Rattle.std.specs.Prelude.{Bool, true, false, ◌&&◌, List, [], ◌∷◌, ◌++◌, ℕ, zero, suc, ◌+◌, ◌-◌, eqb, length, get_or, set, take, drop, replicate}
-use Rattle.std.proofs.Math.Option.{Option, none, some}
+use Rattle.std.specs.Prelude.{List, [], ◌∷◌, ◌++◌, ℕ, zero, suc, ◌+◌, ◌-◌, eqb, length, get_or, set, take, drop, replicate, Option, None, Some}
 use Rattle.laws.specs.Bools.{pick}
 use Rattle.laws.specs.Lists.{is_some}
 use Rattle.units.specs.Types.{Entry}
-use Rattle.units.specs.declared.LogIndex.{LogIndex}
 
 -- An entry or none at each index from 1 on.
 abbrev pub Log : Type 0
@@ -12,17 +10,17 @@ Log = List (Option Entry)
 
 -- No entry at any of so many indexes.
 abbrev pub empty_log : ℕ → Log
-empty_log n = replicate n none
+empty_log n = replicate n None
 
 -- The entry at an index, if there is one (entry).
 unfoldable pub entry_at : Log → ℕ → Option Entry
-entry_at log zero = none
-entry_at log (suc i) = get_or log i none
+entry_at log zero = None
+entry_at log (suc i) = get_or log i None
 
 -- The entry at an index replaced (put); the first index is 1.
 unfoldable pub put_at : Log → ℕ → Entry → Log
 put_at log zero e = log
-put_at log (suc i) e = set log i (some e)
+put_at log (suc i) e = set log i (Some e)
 
 -- Every entry at an index or later removed (truncate); from 0 everything.
 unfoldable pub truncate_at : Log → ℕ → Log

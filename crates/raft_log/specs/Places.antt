@@ -1,19 +1,16 @@
 -- How a log lies in a region of n places (lib.rt), and what its functions leave and answer. Payloads are of up to p bytes. Assumes nothing.
-use Rattle.std.specs.Prelude.{◌≡◌, refl, Bool, true, false, List, [], ◌++◌, ℕ, ◌+◌, ◌-◌, ◌*◌, ◌≤◌, ◌<◌, eqb, length, get_or}
-use Rattle.std.proofs.Math.Option.{Option, none, some}
+use Rattle.std.specs.Prelude.{◌≡◌, refl, Bool, true, false, List, [], ◌++◌, ℕ, ◌+◌, ◌-◌, ◌*◌, ◌≤◌, ◌<◌, eqb, length, get_or, Option, None, Some}
 use Rattle.std.proofs.Common.{arith}
 use Rattle.std.proofs.lemmas.List.Edits.{sets}
 use Rattle.laws.specs.Bools.{pick}
-use Rattle.units.specs.Types.{Payload, noop, command, Entry, same_payload}
+use Rattle.units.specs.Types.{Payload, noop, command, Entry, same_payload, shape_of, command_length}
 use Rattle.units.specs.declared.Term.{Term}
-use Rattle.units.specs.declared.TermOption.{TermOption}
-use Rattle.units.specs.declared.TermOption.TheVariants.{None as NoTerm, Some as SomeTerm}
+use Rattle.units.specs.declared.PayloadShape.TheVariants.{Noop, Command}
 use Rattle.layout.specs.Code.{Code, word, pair, iso, sized, optional}
 use Rattle.layout.specs.Tables.{Table, Held, Becomes, rows_in}
 use Rattle.layout.specs.Marked.{words_for}
 use Rattle.layout.specs.Payload.{payload, mark_of, body_of}
-use Rattle.raft_log.specs.declared.Place.{Place}
-use Rattle.raft_log.specs.declared.Place.TheVariants.{None, Noop, Command}
+use Rattle.raft_log.specs.declared.EntryShape.{EntryShape}
 use Rattle.raft_log.specs.Log.{Log, empty_log, entry_at, put_at, truncate_at, removed_by}
 
 -- An entry is its payload and its term.
@@ -52,40 +49,37 @@ places p = record { row = place p; rule = λ x. true }
 
 -- ---- answers
 
--- A payload's kind under a term.
-abbrev pub kind_in : Term → Payload → Place
-kind_in term noop = Noop term
-kind_in term (command bs) = Command term (length bs)
+-- The shape of an entry.
+abbrev pub entry_shape : Entry → EntryShape
+entry_shape e = record { term = e.term; payload = shape_of e.payload }
 
--- What stands at a place: kind, term and length.
-abbrev pub place_of : Option Entry → Place
-place_of none = None
-place_of (some e) = kind_in e.term e.payload
+-- What stands at a place: the shape of its entry.
+abbrev pub place_of : Option Entry → Option EntryShape
+place_of None = None
+place_of (Some e) = Some (entry_shape e)
 
 -- What stands at an index (entry).
-unfoldable pub place_at : ℕ → Log → Place
+unfoldable pub place_at : ℕ → Log → Option EntryShape
 place_at i log = place_of (entry_at log i)
 
 -- What a row says by its first word and its last.
-unfoldable pub said : ℕ → Term → Place
-said mark term = pick (eqb mark 0) None (pick (eqb mark 1) (Noop term) (Command term (mark - 2)))
+unfoldable pub said : ℕ → Term → Option EntryShape
+said mark term = pick (eqb mark 0) None (Some (record { term = term; payload = pick (eqb mark 1) Noop (Command (mark - 2)) }))
 
--- The length of a command.
-abbrev pub length_of : Place → ℕ
+-- The length of the command of an entry that may be absent.
+abbrev pub length_of : Option EntryShape → ℕ
 length_of None = 0
-length_of (Noop term) = 0
-length_of (Command term k) = k
+length_of (Some e) = command_length e.payload
 
 -- The term of what stands at a place.
-abbrev pub term_in : Place → TermOption
-term_in None = NoTerm
-term_in (Noop term) = SomeTerm term
-term_in (Command term k) = SomeTerm term
+abbrev pub term_in : Option EntryShape → Option Term
+term_in None = None
+term_in (Some e) = Some e.term
 
 -- The term of an entry that may be absent.
 abbrev pub entry_term : Option Entry → Option Term
-entry_term none = none
-entry_term (some e) = some e.term
+entry_term None = None
+entry_term (Some e) = Some e.term
 
 -- 1 where a row's first word says that an entry is there.
 unfoldable pub presence : ℕ → ℕ
@@ -93,11 +87,11 @@ presence mark = pick (eqb mark 0) 0 1
 
 -- The bytes of a command at a place.
 abbrev pub bytes_in : Option Entry → List ℕ
-bytes_in none = []
-bytes_in (some e) = body_of e.payload
+bytes_in None = []
+bytes_in (Some e) = body_of e.payload
 
 -- Where s holds a log, r is what stands at index i, and a command's bytes are at the front of the buffer.
-pub record ReadsEntry (p n i : ℕ) (r : Place) (s b b' : List ℕ) : Type 0 where
+pub record ReadsEntry (p n i : ℕ) (r : Option EntryShape) (s b b' : List ℕ) : Type 0 where
   pub place : (N : ℕ) (log : Log) → Held (places p) N n s log → r ≡ place_at i log
   pub copied : (N : ℕ) (log : Log) → Held (places p) N n s log → b' ≡ sets b 0 (bytes_in (entry_at log i))
 
@@ -116,8 +110,8 @@ pub record Clears (p n : ℕ) (b b' : List ℕ) : Type 0 where
 
 -- Whether an entry is there with this payload.
 abbrev pub is_payload : Option Entry → Payload → Bool
-is_payload none x = false
-is_payload (some e) x = same_payload e.payload x
+is_payload None x = false
+is_payload (Some e) x = same_payload e.payload x
 
 -- Whether a log has an entry with this payload at an index.
 unfoldable pub holds_at : ℕ → Payload → Log → Bool
@@ -125,10 +119,10 @@ holds_at i x log = is_payload (entry_at log i) x
 
 -- Whether two places hold the same payload, or both none.
 abbrev pub same_payloads : Option Entry → Option Entry → Bool
-same_payloads none none = true
-same_payloads none (some e) = false
-same_payloads (some d) none = false
-same_payloads (some d) (some e) = same_payload d.payload e.payload
+same_payloads None None = true
+same_payloads None (Some e) = false
+same_payloads (Some d) None = false
+same_payloads (Some d) (Some e) = same_payload d.payload e.payload
 
 -- Where s and t hold logs, r says whether the payloads at index i and at index j are the same.
 pub record Compares (p n i j : ℕ) (r : Bool) (s t : List ℕ) : Type 0 where

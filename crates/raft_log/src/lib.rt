@@ -5,78 +5,90 @@
 
 ghost use Rattle.std.specs.Prelude.{◌≡◌, ◌+◌, ◌-◌, ◌*◌, ◌≤◌, ◌<◌, length, drop};
 ghost use Rattle.laws.specs.Decides.{Decides};
-ghost use Rattle.units.specs.Types.{payload_of};
+ghost use Rattle.units.specs.Types.{payload_behind};
 ghost use Rattle.words.specs.Words.{W};
 ghost use Rattle.layout.specs.Code.{ok_n};
 ghost use Rattle.layout.specs.Tables.{Tabled, Becomes, Gives, rows_in};
 ghost use Rattle.layout.specs.Marked.{words_for};
+ghost use Rattle.layout.specs.Payload.{mark_of, body_of};
 ghost use Rattle.raft_log.specs.Log.{count, last_index, gaps, removed_by};
 ghost use Rattle.raft_log.specs.Places.{place, places, place_at, said, length_of, term_in, presence, ReadsEntry, put_entry, Truncates, Clears, Compares, holds_at};
 
 use layout::{marked, rows};
-use units::{LogIndex, Term, TermOption};
+use units::{LogIndex, PayloadRef, PayloadShape, Term};
 
-// What stands at an index: nothing, or an entry of either kind with its term, and the length of a command.
+// The shape of an entry: its term, and the shape of its payload.
 #[derive(Clone, Copy)]
-pub enum Place {
-    None,
-    Noop { term: Term },
-    Command { term: Term, length: usize },
+pub struct EntryShape {
+    pub term: Term,
+    pub payload: PayloadShape,
 }
 
 // What a row says whose first word is `mark`.
-fn said(mark: u64, term: Term) -> Place
+#[tactic(auto, unfolding(crate::specs::Places::said))]
+fn said(mark: u64, term: Term) -> Option<EntryShape>
     ensures { result ≡ said mark term }
 {
-    if mark < 1 {
-        return Place::None;
-    }
-    if mark < 2 {
-        Place::Noop { term }
-    } else {
-        Place::Command {
-            term,
+    let payload = match mark {
+        0 => return None,
+        1 => PayloadShape::Noop,
+        _ => PayloadShape::Command {
             length: (mark - 2) as usize,
-        }
+        },
+    };
+    Some(EntryShape { term, payload })
+}
+
+// The length of the command of an entry that may be absent.
+fn length_of(entry: Option<EntryShape>) -> usize
+    ensures { result ≡ length_of entry }
+{
+    entry.map_or(0, |e| e.payload.length())
+}
+
+// The term of an entry that may be absent.
+pub fn term_of(entry: Option<EntryShape>) -> Option<Term>
+    ensures { result ≡ term_in entry }
+{
+    entry.map(|e| e.term)
+}
+
+// ---- payloads
+
+// The first word of a payload's row.
+pub fn mark_of(payload: PayloadRef<'_>) -> u64
+    ensures { result ≡ mark_of (payload_behind payload.entry) }
+{
+    match payload {
+        PayloadRef::Noop => 1,
+        PayloadRef::Command(bytes) => 2 + bytes.len() as u64,
     }
 }
 
-// The length of a command.
-fn length_of(place: Place) -> usize
-    ensures { result ≡ length_of place }
+// The bytes of a command; a noop has none.
+pub fn bytes_of(payload: PayloadRef<'_>) -> &[u8]
+    ensures { result.now ≡ body_of (payload_behind payload.entry) }
 {
-    match place {
-        Place::None => 0,
-        Place::Noop { term: _ } => 0,
-        Place::Command { term: _, length } => length,
-    }
-}
-
-// The term of what stands at a place.
-pub fn term_of(place: Place) -> TermOption
-    ensures { result ≡ term_in place }
-{
-    match place {
-        Place::None => TermOption::None,
-        Place::Noop { term } => TermOption::Some(term),
-        Place::Command { term, length: _ } => TermOption::Some(term),
+    match payload {
+        PayloadRef::Noop => &[],
+        PayloadRef::Command(bytes) => bytes,
     }
 }
 
 // ---- reading
 
 // What stands at an index.
-pub fn entry(s: &[u8], n: usize, p: usize, index: LogIndex) -> Place
+pub fn entry(s: &[u8], n: usize, p: usize, index: LogIndex) -> Option<EntryShape>
     requires { (p ≤ 256) × (8 * (n * (2 + words_for p)) ≤ length s.now) }
     ensures { Gives (places p) n s.now result (place_at index.0) }
 {
     let w = 2 + (p + 7) / 8;
     let i = index.0 as usize;
     if i < 1 {
-        return Place::None;
+        return None;
     }
     if n < i {
-        return Place::None;
+        return None;
     }
     let at = rows::start_of(i - 1, n, w);
     let mark = words::load(s, at);
@@ -85,37 +97,44 @@ pub fn entry(s: &[u8], n: usize, p: usize, index: LogIndex) -> Place
 }
 
 // What stands at an index; the bytes of a command go to the front of buf.
-pub fn read_entry(s: &[u8], n: usize, p: usize, index: LogIndex, buf: &mut [u8]) -> Place
+pub fn read_entry(
+    s: &[u8],
+    n: usize,
+    p: usize,
+    index: LogIndex,
+    buf: &mut [u8],
+) -> Option<EntryShape>
     requires { (p ≤ 256) × (8 * (n * (2 + words_for p)) ≤ length s.now) × (p ≤ length buf.old) }
     ensures { ReadsEntry p n index.0 result s.now buf.old buf.new }
 {
     let w = 2 + (p + 7) / 8;
     let i = index.0 as usize;
     if i < 1 {
-        return Place::None;
+        return None;
     }
     if n < i {
-        return Place::None;
+        return None;
     }
     let at = rows::start_of(i - 1, n, w);
-    let place = entry(s, n, p, index);
-    let k = length_of(place);
+    let held = entry(s, n, p, index);
+    let k = length_of(held);
     if p < k {
-        return Place::None;
+        return None;
     }
     let from = 8 * (at + 1);
     let to = from + k;
     words::copy_from(buf, 0, &s[from..to]);
-    place
+    held
 }
 
 // ---- counting
 
 // 1 where a row's first word says that an entry is there.
+#[tactic(auto, unfolding(crate::specs::Places::presence))]
 fn presence(mark: u64) -> u64
     ensures { (result ≡ presence mark) × (result ≤ 1) }
 {
-    if mark < 1 { 0 } else { 1 }
+    u64::from(0 < mark)
 }
 
 // The number of entries from place `from` on.
@@ -125,11 +144,9 @@ fn count_from(s: &[u8], n: usize, p: usize, from: usize) -> u64
 {
     let w = 2 + (p + 7) / 8;
     let mut r: u64 = 0;
-    let mut i = from;
-    while i < n {
+    for i in from..n {
         let at = rows::start_of(i, n, w);
         r += presence(words::load(s, at));
-        i += 1;
     }
     r
 }
@@ -148,13 +165,11 @@ pub fn last_index(s: &[u8], n: usize, p: usize) -> LogIndex
     ensures { result.0 ≡ last_index (rows_in (place p) n s.now) }
 {
     let w = 2 + (p + 7) / 8;
-    let mut i = n;
-    while 0 < i {
-        let at = rows::start_of(i - 1, n, w);
+    for i in (0..n).rev() {
+        let at = rows::start_of(i, n, w);
         if 0 < words::load(s, at) {
-            return LogIndex(i as u64);
+            return LogIndex(i as u64 + 1);
         }
-        i -= 1;
     }
     LogIndex(0)
 }
@@ -170,17 +185,18 @@ pub fn gaps(s: &[u8], n: usize, p: usize) -> u64
 
 // ---- writing
 
-// Puts an entry at an index, in the place of what is there: its payload is that of a kind and the bytes of src, of which a noop has none.
-pub fn put(s: &mut [u8], n: usize, p: usize, index: LogIndex, term: Term, kind: u64, src: &[u8])
+// Puts an entry at an index, in the place of what is there.
+pub fn put(s: &mut [u8], n: usize, p: usize, index: LogIndex, term: Term, payload: PayloadRef<'_>)
     requires le_index { (1 ≤ index.0) × (index.0 ≤ n) × (p ≤ 256) × (8 * (n * (2 + words_for p)) ≤ length s.old) }
-    requires kind_bound { (kind ≤ 1) × (length src.now ≤ 256 * kind) × (length src.now ≤ p) }
-    ensures { Becomes (places p) n n s.old s.new (put_entry index.0 (record { term = term; payload = payload_of kind src.now })) }
+    requires payload_bound { length (body_of (payload_behind payload)) ≤ p }
+    ensures { Becomes (places p) n n s.old s.new (put_entry index.0 (record { term = term; payload = payload_behind payload.entry })) }
 {
     let w = 1 + (p + 7) / 8;
     let at = rows::start_of(index.0 as usize - 1, n, w + 1);
     let a = 8 * at;
     let e = 8 * (at + w);
-    marked::put_payload(&mut s[a..e], kind, src);
+    let bytes = bytes_of(payload);
+    marked::put(&mut s[a..e], mark_of(payload), bytes);
     words::store(s, at + w, term.0);
 }
 
@@ -188,11 +204,7 @@ pub fn put(s: &mut [u8], n: usize, p: usize, index: LogIndex, term: Term, kind: 
 fn first_removed(from: LogIndex, n: usize) -> usize
     ensures { (result ≤ n) × (result ≤ from.0 - 1) × (from.0 - 1 ≤ result + (from.0 - 1 - n)) }
 {
-    let f = from.0 as usize;
-    if f < 1 {
-        return 0;
-    }
-    if n < f { n } else { f - 1 }
+    n.min((from.0 as usize).saturating_sub(1))
 }
 
 // How many entries are at `from` or later.
@@ -229,11 +241,11 @@ pub fn clear(s: &mut [u8], n: usize, p: usize)
 
 // ---- comparing
 
-// Whether the payload of a kind and the bytes of src is at an index.
-pub fn holds(s: &[u8], n: usize, p: usize, index: LogIndex, kind: u64, src: &[u8]) -> bool
+// Whether a payload is at an index.
+pub fn holds(s: &[u8], n: usize, p: usize, index: LogIndex, payload: PayloadRef<'_>) -> bool
     requires p_bound { (p ≤ 256) × (8 * (n * (2 + words_for p)) ≤ length s.now) }
-    requires kind_bound { (kind ≤ 1) × (length src.now ≤ 256 * kind) × (length src.now ≤ p) }
-    ensures { Gives (places p) n s.now result (holds_at index.0 (payload_of kind src.now)) }
+    requires payload_bound { length (body_of (payload_behind payload)) ≤ p }
+    ensures { Gives (places p) n s.now result (holds_at index.0 (payload_behind payload.entry)) }
 {
     let w = 2 + (p + 7) / 8;
     let i = index.0 as usize;
@@ -244,13 +256,13 @@ pub fn holds(s: &[u8], n: usize, p: usize, index: LogIndex, kind: u64, src: &[u8
         return false;
     }
     let at = rows::start_of(i - 1, n, w);
-    let k = src.len();
-    if words::load(s, at) != 1 + kind + k as u64 {
+    if words::load(s, at) != mark_of(payload) {
         return false;
     }
+    let bytes = bytes_of(payload);
     let from = 8 * (at + 1);
-    let to = from + k;
-    words::equal(&s[from..to], src)
+    let to = from + bytes.len();
+    words::equal(&s[from..to], bytes)
 }
 
 // Whether the payloads at index i of one log and at index j of another are the same, or both absent.
@@ -288,15 +300,13 @@ fn check_places(s: &[u8], n: usize, p: usize) -> bool
     ensures { result ≡ ok_n (place p) n (W s.now) }
 {
     let w = 2 + (p + 7) / 8;
-    let mut i = 0;
-    while i < n {
+    for i in 0..n {
         let at = rows::start_of(i, n, w);
         let a = 8 * at;
         let e = 8 * (at + w);
         if !check_place(&s[a..e], p) {
             return false;
         }
-        i += 1;
     }
     true
 }

@@ -1,20 +1,18 @@
 -- The lengths of records: a varint's from the number of its bits, a record's from those of its parts. Assumes nothing.
-use Rattle.std.specs.Prelude.{◌≡◌, refl, Bool, true, false, [], ◌∷◌, ℕ, zero, suc, ◌+◌, ◌-◌, ◌*◌, ◌/◌, ◌%◌, ◌^◌, ◌≤◌, ◌<◌, ltb, length}
+use Rattle.std.specs.Prelude.{◌≡◌, refl, Bool, true, false, [], ◌∷◌, ℕ, zero, suc, ◌+◌, ◌-◌, ◌*◌, ◌/◌, ◌%◌, ◌^◌, ◌≤◌, ◌<◌, ltb, length, Option, None, Some}
 use Rattle.std.proofs.Common.{sym, ap, ◌∙◌, lt_of_not-le, not-le_of_lt, arith, Fits, pow_mono, pow-add, length-append, ltb-true, ltb-false}
 use Rattle.std.specs.Int.{w64}
 use Rattle.std.specs.Int.Count.{count_leading_zeros}
-use Rattle.std.proofs.lemmas.Nat.{leading_le, leading_length}
+use Rattle.std.proofs.lemmas.Nat.{leading_length}
 use Rattle.std.proofs.lemmas.List.{length-replicate}
 use Rattle.laws.specs.Bools.{pick}
 use Rattle.units.specs.declared.NodeId.{NodeId}
-use Rattle.units.specs.declared.NodeOption.{NodeOption}
-use Rattle.units.specs.declared.NodeOption.TheVariants.{None, Some}
 use Rattle.units.specs.declared.Term.{Term}
 use Rattle.units.specs.declared.LogIndex.{LogIndex}
 use Rattle.units.specs.Types.{Payload, noop, command, Entry}
-use Rattle.record.specs.declared.PayloadShape.{PayloadShape}
-use Rattle.record.specs.declared.PayloadShape.TheVariants.{Noop, Command}
-use Rattle.record.specs.Postcard.{varint_in, varint, option, payload, shape_of, zeros, command_length, hard_state_record, put_record, truncate_record, framed, record_bytes, put_bytes}
+use Rattle.units.specs.declared.PayloadShape.{PayloadShape}
+use Rattle.units.specs.declared.PayloadShape.TheVariants.{Noop, Command}
+use Rattle.record.specs.Postcard.{varint_in, varint, option, payload, shape_of, zeros, hard_state_record, put_record, truncate_record, framed, record_bytes, put_bytes}
 
 -- the bytes of a number of so many bits: 7 bits a byte, at least one byte
 abbrev pub bytes_of : ℕ → ℕ
@@ -65,24 +63,17 @@ varint_length n h =
     let bits : 64 - count_leading_zeros 64 n ≡ m = omega (arith, zeros) in
     rw bits (varint_in_lem 9 n m (record { below = below; above = above }) (omega (arith, zeros)))
 
--- as the code computes it
-pub varint_zero : (n : ℕ) → Fits w64 n → 64 - count_leading_zeros 64 n ≡ 0 → 1 ≡ length (varint n)
-varint_zero n h z = omega (arith, varint_length n h)
-
-pub varint_some : (n : ℕ) → Fits w64 n → (64 - count_leading_zeros 64 n ≡ 0 → ⊥) → (64 - count_leading_zeros 64 n + 6) / 7 ≡ length (varint n)
-varint_some n h z = omega (arith, varint_length n h)
-
 -- a number of at most 7 bits, as a variant's is, has one byte
 pub one_byte : (n : ℕ) → ltb n 128 ≡ true → length (varint n) ≡ 1
 unfolding varint_in varint
 one_byte n e = rw e
 
 -- an id that may be absent
-pub none_length : (id : NodeOption) → id ≡ None → 1 ≡ length (option id)
+pub none_length : (id : Option NodeId) → id ≡ None → 1 ≡ length (option id)
 unfolding option
 none_length id e = rw (e, one_byte 0 refl)
 
-pub some_length : (id : NodeOption) (node : NodeId) (a : ℕ) → id ≡ Some node → a ≡ length (varint node.0) → 1 + a ≡ length (option id)
+pub some_length : (id : Option NodeId) (node : NodeId) (a : ℕ) → id ≡ Some node → a ≡ length (varint node.0) → 1 + a ≡ length (option id)
 unfolding option
 some_length id node a e p = rw (e, p, length-append, one_byte 1 refl)
 
@@ -95,14 +86,8 @@ pub command_length_lem : (s : PayloadShape) (n a : ℕ) → s ≡ Command n → 
 unfolding payload
 command_length_lem s n a e p = rw (e, p) (simp (length-append, one_byte 1 refl, length-replicate) (omega arith))
 
-pub command_bound : (s : PayloadShape) (n a : ℕ) → s ≡ Command n → a ≤ 10 → 1 + a + n ≤ 11 + command_length s
-command_bound s n a e h = rw e (omega arith)
-
-pub command_fits : (s : PayloadShape) (n a : ℕ) → s ≡ Command n → command_length s ≤ 2 ^ 32 → a ≤ 10 → Fits w64 (1 + a + n)
-command_fits s n a e h k = let h' = rw e at h in omega arith
-
 -- the three records
-pub hard_state_bytes : (term : Term) (vote : NodeOption) (a b r : ℕ) → a ≡ length (varint term.0) → b ≡ length (option vote) → r ≡ framed (1 + a + b)
+pub hard_state_bytes : (term : Term) (vote : Option NodeId) (a b r : ℕ) → a ≡ length (varint term.0) → b ≡ length (option vote) → r ≡ framed (1 + a + b)
     → r ≡ record_bytes (hard_state_record term vote)
 unfolding record_bytes hard_state_record
 hard_state_bytes term vote a b r p q e = e ∙ ap framed (rw (p, q) (simp (length-append, one_byte 0 refl) (omega arith)))
@@ -126,6 +111,3 @@ shape_length (command bytes) = simp (length-append, length-replicate)
 pub put_bytes_is : (index : LogIndex) (entry : Entry) → put_bytes index entry.term (shape_of entry.payload) ≡ record_bytes (put_record index entry)
 unfolding record_bytes put_record put_bytes
 put_bytes_is index entry = simp (length-append, shape_length)
-
--- what the functions' proofs cite
-pub ruleset lengths = (leading_le, varint_zero, varint_some, none_length, some_length, noop_length, command_length_lem, command_bound, command_fits, hard_state_bytes, put_bytes_lem, truncate_bytes)

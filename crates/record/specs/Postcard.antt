@@ -1,13 +1,13 @@
 -- The records of a server's write-ahead log in postcard's wire format, as bytes, and the size of each (storage.rs). Assumes nothing.
-use Rattle.std.specs.Prelude.{List, [], ◌∷◌, ◌++◌, ℕ, zero, suc, ◌+◌, ◌/◌, ◌%◌, ltb, length, replicate}
+use Rattle.std.specs.Prelude.{List, [], ◌∷◌, ◌++◌, ℕ, zero, suc, ◌+◌, ◌/◌, ◌%◌, ltb, length, replicate, Option, None, Some}
 use Rattle.laws.specs.Bools.{pick}
 use Rattle.units.specs.Types.{Payload, noop, command, Entry}
-use Rattle.units.specs.declared.NodeOption.{NodeOption}
-use Rattle.units.specs.declared.NodeOption.TheVariants.{None, Some}
+pub use Rattle.units.specs.Types.{shape_of, command_length}
 use Rattle.units.specs.declared.Term.{Term}
 use Rattle.units.specs.declared.LogIndex.{LogIndex}
-use Rattle.record.specs.declared.PayloadShape.{PayloadShape}
-use Rattle.record.specs.declared.PayloadShape.TheVariants.{Noop, Command}
+use Rattle.units.specs.declared.PayloadShape.{PayloadShape}
+use Rattle.units.specs.declared.PayloadShape.TheVariants.{Noop, Command}
+use Rattle.units.specs.declared.NodeId.{NodeId}
 
 -- A number in at most so many bytes: 7 bits a byte, lowest first, the top bit set on every byte but the last.
 unfoldable pub varint_in : ℕ → ℕ → List ℕ
@@ -19,7 +19,7 @@ unfoldable pub varint : ℕ → List ℕ
 varint n = varint_in 10 n
 
 -- An id that may be absent: 0, or 1 and then the id.
-unfoldable pub option : NodeOption → List ℕ
+unfoldable pub option : Option NodeId → List ℕ
 option None = varint 0
 option (Some id) = varint 1 ++ varint id.0
 
@@ -28,23 +28,13 @@ unfoldable pub payload : Payload → List ℕ
 payload noop = varint 0
 payload (command bytes) = varint 1 ++ (varint (length bytes) ++ bytes)
 
--- The shape of a payload, and the payload of a shape whose bytes are zeros.
-abbrev pub shape_of : Payload → PayloadShape
-shape_of noop = Noop
-shape_of (command bytes) = Command (length bytes)
-
 -- The payload of a shape, its bytes zeros.
 abbrev pub zeros : PayloadShape → Payload
 zeros Noop = noop
 zeros (Command n) = command (replicate n 0)
 
--- The bytes of a command of this shape.
-abbrev pub command_length : PayloadShape → ℕ
-command_length Noop = 0
-command_length (Command n) = n
-
 -- The three records: the variant's number, and then its fields.
-unfoldable pub hard_state_record : Term → NodeOption → List ℕ
+unfoldable pub hard_state_record : Term → Option NodeId → List ℕ
 hard_state_record term vote = varint 0 ++ (varint term.0 ++ option vote)
 
 -- A put: 1, the index, the term and the payload.

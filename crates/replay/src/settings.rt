@@ -1,13 +1,9 @@
 // settings.bin: settings and limits of a start, the answer to questions 1 to 3, and the length of the area.
-ghost use Rattle.std.specs.Prelude.{◌≡◌, length};
-
-use config::{Config, Judged, Limits, SimConfig};
+use config::{Config, Limits, SimConfig};
 use units::Duration;
 
 // A row's settings of the consensus.
-fn consensus_of(row: &[u8]) -> Config
-    requires { length row.now ≡ 176 }
-{
+fn consensus_of(row: &[u8; 176]) -> Config {
     Config {
         heartbeat_interval: Duration(words::load(row, 1)),
         election_timeout_min: Duration(words::load(row, 2)),
@@ -18,9 +14,7 @@ fn consensus_of(row: &[u8]) -> Config
 }
 
 // A row's settings.
-fn config_of(row: &[u8]) -> SimConfig
-    requires { length row.now ≡ 176 }
-{
+fn config_of(row: &[u8; 176]) -> SimConfig {
     let consensus = consensus_of(row);
     SimConfig {
         servers: words::load(row, 0),
@@ -37,9 +31,7 @@ fn config_of(row: &[u8]) -> SimConfig
 }
 
 // A row's limits.
-fn limits_of(row: &[u8]) -> Limits
-    requires { length row.now ≡ 176 }
-{
+fn limits_of(row: &[u8; 176]) -> Limits {
     Limits {
         log_indexes: words::load(row, 14),
         payload: words::load(row, 15),
@@ -52,22 +44,16 @@ fn limits_of(row: &[u8]) -> Limits
 
 // Whether two numbers are the answer to questions 1 to 3 and the length of the area, 0 where it is refused.
 fn told(config: SimConfig, limits: Limits, answer: u64, bytes: u64) -> bool {
-    let judged = config::judge(config, limits);
-    match judged {
-        Judged::Accepted => {
+    match config::judge(config, limits) {
+        Ok(()) => {
             (answer == 0) & (config::area_length(config.servers, config.clients, limits) == bytes)
         }
-        Judged::Servers => (answer == 1) & (bytes == 0),
-        Judged::Consensus => (answer == 2) & (bytes == 0),
-        Judged::Settings => (answer == 3) & (bytes == 0),
+        Err(refusal) => (answer == u64::from(refusal)) & (bytes == 0),
     }
 }
 
 // Settings, limits, answer, length.
-pub fn agrees(row: &[u8]) -> bool {
-    if row.len() != 176 {
-        return false;
-    }
+pub fn agrees(row: &[u8; 176]) -> bool {
     told(
         config_of(row),
         limits_of(row),

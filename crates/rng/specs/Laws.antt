@@ -1,15 +1,13 @@
 -- Laws of the generator. Assumes nothing.
-use Rattle.std.specs.Prelude.{◌≡◌, ℕ, zero, suc, ◌+◌, ◌*◌, ◌/◌, ◌%◌, ◌^◌, ◌<◌, Bool, true, false, ◌==◌, ◌≢◌, refl}
-use Rattle.std.proofs.Common.{ap, ◌∙◌, lt_of_le_of_lt, mod-lt, div-lt_iff_lt-mul, mul-lt-mul_of_pos_right, zero-add, suc-add, arith, lit<, pow_pos, eq-eqb, ne_eqb}
+use Rattle.std.specs.Prelude.{◌≡◌, ℕ, zero, suc, ◌+◌, ◌*◌, ◌/◌, ◌%◌, ◌^◌, ◌<◌, Bool, true, false, ◌==◌, ◌≢◌, refl, None, Some}
+use Rattle.std.proofs.Common.{ap, ◌∙◌, lt_of_le_of_lt, mod-lt, div-lt_iff_lt-mul, mul-lt-mul_of_pos_right, zero-add, suc-add, arith, lit<, pow_pos, ne_eqb}
 use Rattle.std.proofs.Math.Nat.{mod-add-mod}
 use Rattle.std.proofs.Math.Arith.{lt-one}
 use Rattle.std.proofs.lemmas.Nat.{xor_lt, shr_le}
 use Rattle.laws.specs.Bools.{pick}
 use Rattle.rng.specs.declared.Rng.{Rng}
 use Rattle.rng.specs.declared.Drawn.{Drawn}
-use Rattle.rng.specs.declared.Bounded.TheVariants.{Value, ZeroBound}
-use Rattle.rng.specs.declared.DrawnBelow.{DrawnBelow}
-use Rattle.rng.specs.Rng.{golden, wrapping_mul, xor_shift, mix, moved, next_u64, under, below, bounded_number, below_number, after}
+use Rattle.rng.specs.Rng.{DrawnBelow, golden, wrapping_mul, xor_shift, mix, moved, next_u64, under, below, bounded_number, below_number, after}
 
 -- A draw's value and the state after it fit 64 bits.
 xor_shift_lt : (k z : ℕ) → z < 2 ^ 64 → xor_shift k z < 2 ^ 64
@@ -26,13 +24,6 @@ pub state_lt : (g : Rng) → (next_u64 g).next.state < 2 ^ 64
 unfolding next_u64
 state_lt g = omega arith
 
--- A draw, from the code's steps.
-pub drawn_u64_is : (g : Rng) (s z₁ z₂ : ℕ)
-    → s ≡ (g.state + golden) % 2 ^ 64 → z₁ ≡ wrapping_mul (xor_shift 30 s) 0xBF58_476D_1CE4_E5B9 → z₂ ≡ wrapping_mul (xor_shift 27 z₁) 0x94D0_49BB_1331_11EB
-    → record { value = xor_shift 31 z₂; next = record { state = s } } ≡ next_u64 g
-unfolding next_u64 mix
-drawn_u64_is g s z₁ z₂ e₀ e₁ e₂ = rw (e₂, e₁, e₀)
-
 -- A draw below a positive bound is below it, and is one draw.
 pub under_lt : (g : Rng) (bound : ℕ) → 0 < bound → (under g bound).value < bound
 unfolding under
@@ -42,61 +33,39 @@ pub under_after : (g : Rng) (bound : ℕ) → (under g bound).next ≡ after 1 g
 unfolding under
 under_after g bound = refl
 
--- A draw below a positive bound, from the code's steps.
-pub drawn_under_is : (g : Rng) (bound : ℕ) (d : Drawn) (v : ℕ)
-    → d ≡ next_u64 g → v ≡ (d.value * bound) / 2 ^ 64 → record { value = v; next = d.next } ≡ under g bound
-unfolding under
-drawn_under_is g bound d v e h = rw (h, e)
-
-pub drawn_under_lt : (g : Rng) (bound : ℕ) (d : Drawn) (v : ℕ) → 0 < bound → d ≡ next_u64 g → v ≡ (d.value * bound) / 2 ^ 64 → v < bound
-unfolding under
-drawn_under_lt g bound d v p e h = rw (h, e) (under_lt g bound p)
-
--- The two answers of a draw below a bound.
-pub below_zero : (g : Rng) (bound : ℕ) → bound ≡ 0 → record { value = ZeroBound; next = g } ≡ below g bound
-unfolding below
-below_zero g bound e = simp (eq-eqb bound 0 e)
-
+-- A draw below a bound that is not zero is one below a positive bound.
 pub below_positive : (g : Rng) (bound : ℕ) (d : Drawn) → (bound ≢ 0) → d ≡ under g bound
-    → record { value = Value d.value; next = d.next } ≡ below g bound
+    → record { value = Some d.value; next = d.next } ≡ below g bound
 unfolding below
 below_positive g bound d n e = simp (ne_eqb bound 0 n, e)
 
 -- The number of what a draw below a bound answers.
-pub number_zero : (bound : ℕ) → bound ≡ 0 → 9 ≡ below_number bound
-unfolding below_number
-number_zero bound e = simp (eq-eqb bound 0 e)
-
-pub number_positive : (bound : ℕ) → (bound ≢ 0) → 0 ≡ below_number bound
-unfolding below_number
-number_positive bound n = simp (ne_eqb bound 0 n)
-
 pub below_number_lem : (g : Rng) (bound : ℕ) → bounded_number (below g bound).value ≡ below_number bound
 unfolding below below_number
 below_number_lem g bound = by (bound == 0)
   where
     none : DrawnBelow
-    none = record { value = ZeroBound; next = g }
+    none = record { value = None; next = g }
 
     some : DrawnBelow
-    some = record { value = Value (under g bound).value; next = (under g bound).next }
+    some = record { value = Some (under g bound).value; next = (under g bound).next }
 
     by : (t : Bool) → bounded_number (pick t none some).value ≡ pick t 9 0
     by true = refl
     by false = refl
 
 -- A positive bound is given a number below it.
-pub below_lt : (g : Rng) (bound : ℕ) → 0 < bound → (v : ℕ) → (below g bound).value ≡ Value v → v < bound
+pub below_lt : (g : Rng) (bound : ℕ) → 0 < bound → (v : ℕ) → (below g bound).value ≡ Some v → v < bound
 below_lt g bound h v e =
     let positive : bound ≡ 0 → ⊥ = λ z. omega arith in
-    let drawn : Value (under g bound).value ≡ Value v = ap (λ (d : DrawnBelow). d.value) (below_positive g bound (under g bound) positive refl) ∙ e in
+    let drawn : Some (under g bound).value ≡ Some v = ap (λ (d : DrawnBelow). d.value) (below_positive g bound (under g bound) positive refl) ∙ e in
     let same : (under g bound).value ≡ v = cc in
     omega (arith, under_lt g bound h)
 
 -- Below 1 there is only 0.
-pub below_one : (g : Rng) → (below g 1).value ≡ Value 0
+pub below_one : (g : Rng) → (below g 1).value ≡ Some 0
 unfolding below
-below_one g = ap Value (lt-one (under_lt g 1 (lit< tt)))
+below_one g = ap Some (lt-one (under_lt g 1 (lit< tt)))
 
 -- One draw moves the state by `golden`.
 pub moves : (g : Rng) → (next_u64 g).next.state ≡ (g.state + golden) % 2 ^ 64

@@ -1,3 +1,2 @@
 pub mod Rng
-pub mod Product
 pub mod Laws

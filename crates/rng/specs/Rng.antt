@@ -1,12 +1,8 @@
 -- The generator SplitMix64 (crates/consensus/src/rng.rs), with the constants of the Rust. Assumes nothing.
-use Rattle.std.specs.Prelude.{◌≡◌, ℕ, zero, suc, ◌+◌, ◌*◌, ◌/◌, ◌%◌, ◌^◌, ◌<◌, ◌==◌, bit_xor}
+use Rattle.std.specs.Prelude.{ℕ, zero, suc, ◌+◌, ◌*◌, ◌/◌, ◌%◌, ◌^◌, ◌==◌, bit_xor, Option, None, Some}
 use Rattle.laws.specs.Bools.{pick}
-use Rattle.rng.specs.declared.Wide.{Wide}
 use Rattle.rng.specs.declared.Rng.{Rng}
 use Rattle.rng.specs.declared.Drawn.{Drawn}
-use Rattle.rng.specs.declared.Bounded.{Bounded}
-use Rattle.rng.specs.declared.Bounded.TheVariants.{Value, ZeroBound}
-use Rattle.rng.specs.declared.DrawnBelow.{DrawnBelow}
 
 -- The number by which each draw moves the state.
 abbrev pub golden : ℕ
@@ -15,11 +11,6 @@ golden = 0x9E37_79B9_7F4A_7C15
 -- Multiplication modulo two to the 64 (wrapping_mul).
 abbrev pub wrapping_mul : ℕ → ℕ → ℕ
 wrapping_mul a b = (a * b) % 2 ^ 64
-
--- A number of 128 bits in two parts of 64 bits.
-pub record Parts (n : ℕ) (w : Wide) : Type 0 where
-  pub sum : w.high * 2 ^ 64 + w.low ≡ n
-  pub fits : w.low < 2 ^ 64
 
 -- z ^ (z >> k).
 abbrev pub xor_shift : ℕ → ℕ → ℕ
@@ -48,17 +39,22 @@ next_u64 g = record { value = mix (moved g).state; next = moved g }
 unfoldable pub under : Rng → ℕ → Drawn
 under g bound = record { value = ((next_u64 g).value * bound) / 2 ^ 64; next = (next_u64 g).next }
 
+-- What a draw below a bound gives: its value, and the generator after it.
+pub record DrawnBelow : Type 0 where
+  pub value : Option ℕ
+  pub next : Rng
+
 -- A number below a bound, and the generator after one draw; for the bound zero no number, and the generator as it was (below).
 unfoldable pub below : Rng → ℕ → DrawnBelow
 below g bound =
     pick (bound == 0)
-    (record { value = ZeroBound; next = g })
-    (record { value = Value (under g bound).value; next = (under g bound).next })
+    (record { value = None; next = g })
+    (record { value = Some (under g bound).value; next = (under g bound).next })
 
 -- Document 01's number for what a draw below a bound answers.
-abbrev pub bounded_number : Bounded → ℕ
-bounded_number (Value v) = 0
-bounded_number ZeroBound = 9
+abbrev pub bounded_number : Option ℕ → ℕ
+bounded_number (Some v) = 0
+bounded_number None = 9
 
 -- Question 9 of a draw below a bound: the bound is not zero.
 unfoldable pub below_number : ℕ → ℕ

@@ -51,7 +51,7 @@ stored = tt
 
 -- Network, metrics, queue and leader.
 unfoldable pub sent : Unit {0}
-unfolding faults.only faults.fault_of faults.in_cluster faults.groups_in network.delay network.chance network.link network.delivered network.route network.any_from network.elsewhere network.separated network.partition network.link_within network.links_within network.network_in_range metrics.add metrics.record_send metrics.deliver_to_leader metrics.record_sync metrics.record_reply metrics.totals_fit metrics.counters_fit metrics.none_counted metrics.metrics_fit queue.push range.message_room range.in_order leader.better leader.leader_from leader.leader
+unfolding faults.fault_of faults.in_cluster faults.groups_in network.delay network.chance network.link network.delivered network.route network.any_from network.elsewhere network.separated network.partition network.link_within network.links_within network.network_in_range metrics.add metrics.record_send metrics.deliver_to_leader metrics.record_sync metrics.record_reply metrics.totals_fit metrics.counters_fit metrics.none_counted metrics.metrics_fit queue.push range.message_room range.in_order leader.better leader.leader_from leader.leader
 sent = tt
 
 -- The checks.

@@ -1,37 +1,13 @@
 -- Laws of stream tags and seeds. Assumes nothing.
-use Rattle.std.specs.Prelude.{◌≡◌, refl, ℕ, ◌-◌, ◌*◌, ◌%◌, ◌^◌, ◌<◌}
-use Rattle.std.proofs.Common.{sym, ap, ap₂, ◌∙◌, arith, lit<, Fits}
-use Rattle.std.specs.Int.Bits.{bit_and, bit_or, bit_xor}
-use Rattle.std.proofs.lemmas.Nat.{and_mask, or_lt}
-use Rattle.std.specs.Int.{w32}
+use Rattle.std.specs.Prelude.{◌≡◌, refl, ℕ, ◌*◌, ◌%◌, ◌^◌, ◌<◌}
+use Rattle.std.proofs.Common.{sym, ap, ◌∙◌, arith, lit<}
+use Rattle.std.specs.Int.Bits.{bit_or}
+use Rattle.std.proofs.lemmas.Nat.{or_lt}
 use Rattle.units.specs.declared.NodeId.{NodeId}
-use Rattle.rng.specs.Rng.{golden, wrapping_mul, new, next_u64}
 use Rattle.rng.specs.Laws.{value_lt}
-use Rattle.rng.specs.declared.Rng.{Rng}
-use Rattle.rng.specs.declared.Drawn.{Drawn}
 use Rattle.seeds.specs.declared.Stream.{Stream}
 use Rattle.seeds.specs.declared.Stream.TheVariants.{Faults, Network, Workload, Scenario, Startup, Server}
-use Rattle.seeds.specs.Seeds.{tag, stream_seed, stream_rng}
-
--- A server's tag, as the code joins it: the shift loses nothing, and the mask is a remainder.
-pub server_tag : (stream : Stream) (id : NodeId) (incarnation : ℕ) → stream ≡ Server id incarnation → Fits w32 incarnation
-    → bit_or (bit_or (5 * 2 ^ 56) (incarnation * 2 ^ 32 % 2 ^ 64)) (bit_and id.0 (2 ^ 32 - 1)) ≡ tag stream
-unfolding tag
-server_tag stream id incarnation e f =
-    let whole : incarnation * 2 ^ 32 % 2 ^ 64 ≡ incarnation * 2 ^ 32 = omega arith in
-    rw e (ap₂ (λ (m n : ℕ). bit_or (bit_or (5 * 2 ^ 56) m) n) whole (and_mask id.0 32))
-
--- A stream's seed, from the code's steps.
-pub stream_seed_is : (seed : ℕ) (stream : Stream) (g₁ g₂ : Rng) (d₁ d₂ : Drawn) (t m : ℕ)
-    → g₁ ≡ new seed → d₁ ≡ next_u64 g₁ → t ≡ tag stream → m ≡ wrapping_mul t golden → g₂ ≡ new (bit_xor d₁.value m) → d₂ ≡ next_u64 g₂
-    → d₂.value ≡ stream_seed seed stream
-unfolding stream_seed
-stream_seed_is seed stream g₁ g₂ d₁ d₂ t m e₁ e₂ e₃ e₄ e₅ e₆ = rw (e₆, e₅, e₄, e₃, e₂, e₁)
-
--- A stream's generator, from the code's steps.
-pub stream_rng_is : (seed : ℕ) (stream : Stream) (s : ℕ) (g : Rng) → s ≡ stream_seed seed stream → g ≡ new s → g ≡ stream_rng seed stream
-unfolding stream_rng
-stream_rng_is seed stream s g e₁ e₂ = rw (e₂, e₁)
+use Rattle.seeds.specs.Seeds.{tag, stream_seed}
 
 -- The tag of server 1 in its first incarnation.
 pub first_server : tag (Server (record { 0 = 1 }) 0) ≡ 0x0500_0000_0000_0001

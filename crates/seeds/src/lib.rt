@@ -26,6 +26,7 @@ pub enum Stream {
 
 impl Stream {
     // A stream's number, from which its seed is made.
+    #[tactic(auto, unfolding(crate::specs::Seeds::tag))]
     pub fn tag(self) -> u64
         ensures { result ≡ tag self }
     {
@@ -36,23 +37,24 @@ impl Stream {
             Stream::Scenario => 4,
             Stream::Startup => 6,
             Stream::Server { id, incarnation } => {
-                (5 << 56) | ((incarnation as u64) << 32) | (id.0 & 0xFFFF_FFFF)
+                (5 << 56) | (u64::from(incarnation) << 32) | (id.0 & 0xFFFF_FFFF)
             }
         }
     }
 }
 
 // The seed of a stream in a simulation seeded with `seed`.
+#[tactic(auto, unfolding(crate::specs::Seeds::stream_seed))]
 pub fn stream_seed(seed: u64, stream: Stream) -> u64
     ensures { result ≡ stream_seed seed stream }
 {
-    let base = rng::drawn_u64(Rng::new(seed));
-    let product = rng::wrapping_mul(stream.tag(), 0x9E37_79B9_7F4A_7C15);
-    let draw = rng::drawn_u64(Rng::new(base.value ^ product));
-    draw.value
+    let base = Rng::new(seed).next_u64();
+    let product = stream.tag().wrapping_mul(0x9E37_79B9_7F4A_7C15);
+    Rng::new(base ^ product).next_u64()
 }
 
 // The generator of a stream in a simulation seeded with `seed`.
+#[tactic(auto, unfolding(crate::specs::Seeds::stream_rng))]
 pub fn stream_rng(seed: u64, stream: Stream) -> Rng
     ensures { result ≡ stream_rng seed stream }
 {

@@ -1,11 +1,9 @@
 -- What applying an entry asks and does (lib.rt): what its contracts cite. Assumes nothing.
-use Rattle.std.specs.Prelude.{◌≡◌, Bool, true, false, List, ℕ, ◌*◌, ◌≤◌, ◌<◌, leb, eqb}
+use Rattle.std.specs.Prelude.{◌≡◌, Bool, true, false, List, ℕ, ◌*◌, ◌≤◌, ◌<◌, leb, eqb, Option, None, Some}
 use Rattle.laws.specs.Bools.{pick, ◌and◌}
 use Rattle.units.specs.Types.{Payload, noop, command, payload_of}
 use Rattle.units.specs.declared.LogIndex.{LogIndex}
 use Rattle.client.specs.Key.{decode}
-use Rattle.client.specs.declared.Decoded.{Decoded}
-use Rattle.client.specs.declared.Decoded.TheVariants as decoded
 use Rattle.model.specs.State.{State}
 use Rattle.model.specs.Fields.{with_next_apply, with_checker}
 use Rattle.model.specs.Simulation.{on_server, reply_to, apply}
@@ -21,6 +19,7 @@ use Rattle.sim_outputs.specs.Outputs.{sends, asks_code}
 use Rattle.sim_replies.specs.Replies.{tell_test}
 use Rattle.sim_apply.specs.declared.Asked.{Asked}
 use Rattle.state_header.specs.Header.{open_slot}
+use Rattle.client.specs.declared.ClientKey.{ClientKey}
 
 -- ---- what is asked
 
@@ -46,25 +45,25 @@ pub record AsksApply (b : List ℕ) (F : Capacity) (index kind size : ℕ) (r : 
 -- ---- the reply
 
 -- The key of a payload, if it has one.
-abbrev pub key_for : Payload → Decoded
-key_for noop = decoded.None
+abbrev pub key_for : Payload → Option ClientKey
+key_for noop = None
 key_for (command bytes) = decode bytes
 
 -- The key of a payload by its kind and bytes.
-unfoldable pub key_given : ℕ → List ℕ → Decoded
+unfoldable pub key_given : ℕ → List ℕ → Option ClientKey
 key_given kind bytes = key_for (payload_of kind bytes)
 
 -- Whether the server at a place had accepted the command of a key.
-unfoldable pub reply_due : ℕ → Decoded → State → Bool
-reply_due slot decoded.None s = false
-reply_due slot (decoded.Key k) s = pending_has slot k s
+unfoldable pub reply_due : ℕ → Option ClientKey → State → Bool
+reply_due slot None s = false
+reply_due slot (Some k) s = pending_has slot k s
 
 -- Question 10 of a reply, where one is due.
-unfoldable pub reply_test : ℕ → Decoded → State → Bool
+unfoldable pub reply_test : ℕ → Option ClientKey → State → Bool
 reply_test slot key s = pick (reply_due slot key s) (tell_test s) true
 
 -- The state with the reply sent, where one is due.
-unfoldable pub replied : ℕ → Decoded → LogIndex → State → State
+unfoldable pub replied : ℕ → Option ClientKey → LogIndex → State → State
 replied slot key index s = reply_to s slot index key
 
 -- ---- what is done
@@ -93,10 +92,6 @@ checked_at slot index x s = with_checker s (after_apply slot index x s)
 -- The state with a payload applied by the server at a place.
 unfoldable pub applied : ℕ → ℕ → ℕ → List ℕ → State → State
 applied slot index kind bytes s = apply s slot (record { 0 = index }) (payload_of kind bytes)
-
--- Question 10's number where there is no room, else a code.
-unfoldable pub ten_unless : Bool → ℕ → ℕ
-ten_unless room code = pick room code 10
 
 -- Question 10 of a payload applied: 0, or 10.
 unfoldable pub apply_ten : ℕ → ℕ → ℕ → List ℕ → State → ℕ

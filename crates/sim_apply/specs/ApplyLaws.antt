@@ -1,11 +1,14 @@
 -- What the proofs of the act and of the call cite, and question 10 of a payload applied. Assumes nothing.
-use Rattle.std.specs.Prelude.{◌≡◌, false, List, ℕ, zero, suc, ◌+◌, ◌*◌, ◌≤◌, ◌<◌, leb, eqb, length, set}
+use Rattle.std.specs.Prelude.{◌≡◌, false, List, ℕ, zero, suc, ◌+◌, ◌*◌, ◌≤◌, ◌<◌, leb, eqb, length, set, Option, None, Some}
 use Rattle.std.proofs.Math.Path.{refl, sym, ap, ap₂, subst}
 use Rattle.std.proofs.Common.{◌∙◌, le-leb, eqb-true, eq-eqb}
 use Rattle.std.proofs.Math.Bool.{Bool, true}
 use native.Mathlib.Omega.{arith}
-use Rattle.laws.specs.Bools.{pick, cases, ◌and◌, allb, and_true}
-use Rattle.laws.proofs.BoolLaws.{allb_in, true_and}
+use Rattle.std.specs.Prelude.{not, Ok, Err}
+use Rattle.std.specs.declared.result.Result.{Result}
+use Rattle.std.proofs.lemmas.Bool.{not-true, not-false}
+use Rattle.laws.specs.Bools.{pick, cases, ◌and◌, allb, and_true, no_and}
+use Rattle.laws.proofs.BoolLaws.{allb_in, true_and, and_no}
 use Rattle.laws.specs.Decides.{false_true}
 use Rattle.laws.specs.Lists.{is_some}
 use Rattle.laws.specs.Order.{pairs, lookup}
@@ -14,8 +17,8 @@ use Rattle.units.specs.declared.LogIndex.{LogIndex}
 use Rattle.units.specs.declared.SimTime.{SimTime}
 use Rattle.client.specs.Key.{key_of}
 use Rattle.client.specs.declared.ClientKey.{ClientKey}
-use Rattle.client.specs.declared.Decoded.{Decoded}
-use Rattle.client.specs.declared.Decoded.TheVariants as decoded
+use Rattle.units.specs.declared.refusal.Refusal.{Refusal}
+use Rattle.checks.specs.AskedLaws.{picked_ok, picked_err}
 use Rattle.checks_on_apply.specs.declared.ApplyAsked.{ApplyAsked}
 use Rattle.model.specs.State.{State, Server, server_at, id_of, Phase, closed, writing, sending, accepted, not_leader}
 use Rattle.model.specs.Fields.{with_next_apply}
@@ -41,13 +44,13 @@ use Rattle.state_server.specs.Servers.{server_state_at, server_state_set, pendin
 use Rattle.state_server.specs.ServerLaws.{server_state_set_lem}
 use Rattle.state_checks.specs.Acts.{ChangesWhere, ApplyFlags, apply_checked}
 use Rattle.state_checks.specs.FitLaws.{fits_checks}
-use Rattle.state_asks.specs.Asks.{Asks, ApplyTold, after_apply, next_apply_of, checker_code}
+use Rattle.state_asks.specs.Asks.{Asks, ApplyTold, after_apply, next_apply_of}
 use Rattle.sim_outputs.specs.Laws.{refused_two, done_two}
 use Rattle.state_queue.specs.Events.{queue_room}
 use Rattle.sim_replies.specs.Replies.{arrival_time, network_fits, tell_test}
 use Rattle.sim_replies.specs.Laws.{network_fits_lem}
 use Rattle.sim_apply.specs.declared.Asked.{Asked}
-use Rattle.sim_apply.specs.Applies.{is_payload_of, apply_code, AsksApply, key_for, key_given, reply_due, reply_test, replied, next_apply_put, next_apply_set, checked_at, applied, ten_unless, apply_ten, AppliesAt}
+use Rattle.sim_apply.specs.Applies.{is_payload_of, apply_code, AsksApply, key_for, key_given, reply_due, reply_test, replied, next_apply_put, next_apply_set, checked_at, applied, apply_ten, AppliesAt}
 use Rattle.sim_apply.specs.ReplyLaws.{fits_reply, before_reply}
 use Rattle.state_header.specs.Header.{open_slot}
 
@@ -82,7 +85,7 @@ module _ (s : State) (k n : ℕ) (h : ServersFit s) (i : k < s.config.servers) (
 
 -- ---- the payload checked
 
-pub check_acts : (b b' : List ℕ) (F : Capacity) (k : ℕ) (index : LogIndex) (x : Payload) (r : ApplyAsked) (w : Run) (expected : ℕ) → Asks b F (ApplyTold k index x r) → Reads b F w run_of
+pub check_acts : (b b' : List ℕ) (F : Capacity) (k : ℕ) (index : LogIndex) (x : Payload) (r : ApplyAsked) (w : Run) (expected : ℕ) → Asks b F (ApplyTold k index x (Ok r)) → Reads b F w run_of
     → Reads b F expected (next_apply_of k) → ChangesWhere b b' F (ApplyFlags r w.now (record { 0 = k + 1 }) index x expected) (apply_checked w.now (record { 0 = k + 1 }) index x expected)
     → Changes b b' F (checked_at k index x)
 unfolding next_apply_of ApplyFlags apply_checked checked_at after_apply
@@ -92,7 +95,9 @@ check_acts b b' F k index x r w expected a pw pe c = record {
       let now : w.now ≡ s.now = ap (λ (y : Run). y.now) (pw.to s h.area h.capacity) in
       let due : expected ≡ (server_at s k).next_apply = pe.to s h.area h.capacity in
       let is : apply_checked w.now (id_of k) index x expected s ≡ checked_at k index x s = ap₂ (λ (t : SimTime) (m : ℕ). apply_checked t (id_of k) index x m s) now due in
-      let flags : ApplyFlags r w.now (id_of k) index x expected s = subst (λ (t : SimTime). ApplyFlags r t (id_of k) index x expected s) (sym now) (subst (λ (m : ℕ). ApplyFlags r s.now (id_of k) index x m s) (sym due) told.does) in
+      let does : ApplyFlags r s.now (id_of k) index x (server_at s k).next_apply s =
+      subst (λ (z : ApplyAsked). ApplyFlags z s.now (id_of k) index x (server_at s k).next_apply s) (picked_ok _ told.asked r told.is).1 told.does in
+      let flags : ApplyFlags r w.now (id_of k) index x expected s = subst (λ (t : SimTime). ApplyFlags r t (id_of k) index x expected s) (sym now) (subst (λ (m : ℕ). ApplyFlags r s.now (id_of k) index x m s) (sym due) does) in
       subst (λ (u : State). AreaOf b' l F u) is (c.to s l h flags (ap state_fits is ∙ fit));
 }
 
@@ -151,10 +156,10 @@ module _ (s : State) (k index kind : ℕ) (bytes : List ℕ) where
   same_pending j key =
       ap (λ (v : Server). is_some (lookup pairs key_of (key_of key) v.pending)) (server_after first k (λ v. with_next_apply v (index + 1)) j)
 
-  same_test : k < length s.servers → (key : Decoded) → reply_test k key second ≡ reply_test k key s
+  same_test : k < length s.servers → (key : Option ClientKey) → reply_test k key second ≡ reply_test k key s
   unfolding reply_test reply_due
-  same_test j decoded.None = refl
-  same_test j (decoded.Key key) = ap₂ (λ (t u : Bool). pick t u true) (same_pending j key) same_tell
+  same_test j None = refl
+  same_test j (Some key) = ap₂ (λ (t u : Bool). pick t u true) (same_pending j key) same_tell
 
   module _ (h : ServersFit s) (i : k < s.config.servers) (n : network_fits s ≡ true) (l : index ≤ s.limits.log_indexes) where
     servers_first : ServersFit first
@@ -190,7 +195,7 @@ module _ (s : State) (k index kind : ℕ) (bytes : List ℕ) where
         ∙ ap₂ (λ (t u : Bool). t and u) (same_test (subst (λ (m : ℕ). k < m) (sym h.count) i) (key_given kind bytes))
         (fits_next first k (index + 1) servers_first below_first low most ∙ fits_checked s k (record { 0 = index }) (payload_of kind bytes) c)
 
-pub apply_acts_lem : (b b₁ b₂ b₃ : List ℕ) (F : Capacity) (k index kind : ℕ) (bytes : List ℕ) (key : Decoded) → k < F.servers → index ≤ F.limits.log_indexes → key ≡ key_given kind bytes
+pub apply_acts_lem : (b b₁ b₂ b₃ : List ℕ) (F : Capacity) (k index kind : ℕ) (bytes : List ℕ) (key : Option ClientKey) → k < F.servers → index ≤ F.limits.log_indexes → key ≡ key_given kind bytes
     → Changes b b₁ F (checked_at k (record { 0 = index }) (payload_of kind bytes)) → Changes b₁ b₂ F (next_apply_set k (index + 1)) → Changes b₂ b₃ F (replied k key (record { 0 = index }))
     → Changes b b₃ F (applied k index kind bytes)
 apply_acts_lem b b₁ b₂ b₃ F k index kind bytes key i m ek p q r = record {
@@ -203,40 +208,59 @@ apply_acts_lem b b₁ b₂ b₃ F k index kind bytes key i m ek p q r = record {
       let s₂ : State = next_apply_set k (index + 1) s₁ in
       let h₁ : AreaOf b₁ l F s₁ = p.to s l h (fits_first s k index kind bytes vs j (network_fits_lem s f) o fit) in
       let h₂ : AreaOf b₂ l F s₂ = q.to s₁ l h₁ (fits_second s k index kind bytes vs j (network_fits_lem s f) o fit) in
-      let is : replied k key (record { 0 = index }) s₂ ≡ applied k index kind bytes s = ap (λ (x : Decoded). replied k x (record { 0 = index }) s₂) ek ∙ sym (applied_is s k index kind bytes) in
+      let is : replied k key (record { 0 = index }) s₂ ≡ applied k index kind bytes s = ap (λ (x : Option ClientKey). replied k x (record { 0 = index }) s₂) ek ∙ sym (applied_is s k index kind bytes) in
       subst (λ (u : State). AreaOf b₃ l F u) is (r.to s₂ l h₂ (ap state_fits is ∙ fit));
 }
 
 -- ---- question 10 asked, and the act
 
-ten_is : (room fits : Bool) → ten_unless room (pick fits 0 10) ≡ pick (room and fits) 0 10
-unfolding ten_unless ◌and◌
-ten_is true true = refl
-ten_is true false = refl
-ten_is false fits = refl
+-- whether what the checks remember of a payload applied fits
+abbrev fits : (k index kind : ℕ) (bytes : List ℕ) → State → Bool
+fits k index kind bytes s = checker_fits s.config s.limits (after_apply k (record { 0 = index }) (payload_of kind bytes) s)
 
-module _ (b : List ℕ) (F : Capacity) (k index kind : ℕ) (bytes : List ℕ) (r : ApplyAsked) (key : Decoded) (room : Bool) (c : ℕ) (i : k < F.servers) (m : index ≤ F.limits.log_indexes)
-    (a : Asks b F (ApplyTold k (record { 0 = index }) (payload_of kind bytes) r)) (ek : key ≡ key_given kind bytes) (pr : Reads b F room (reply_test k key)) (ec : c ≡ ten_unless room r.code) where
-  code_read : Reads b F c (apply_ten k index kind bytes)
-  unfolding apply_ten checker_code
-  code_read = record {
+-- what was read about the reply, of the payload's key
+room_is : {b : List ℕ} {F : Capacity} (k kind : ℕ) (bytes : List ℕ) {key : Option ClientKey} {room : Bool} → key ≡ key_given kind bytes
+    → Reads b F room (reply_test k key) → (s : State) → Area b s → F ≡ capacity_of s → reply_test k (key_given kind bytes) s ≡ room
+room_is k kind bytes ek pr s h ef = sym (pr.to s h ef ∙ ap (λ (x : Option ClientKey). reply_test k x s) ek)
+
+module _ {b : List ℕ} {F : Capacity} (k index kind : ℕ) (bytes : List ℕ) (i : k < F.servers) (m : index ≤ F.limits.log_indexes) where
+  ten_read : (t : Bool) → ((s : State) → Area b s → F ≡ capacity_of s → (reply_test k (key_given kind bytes) s and fits k index kind bytes s) ≡ t)
+      → Reads b F (pick t 0 10) (apply_ten k index kind bytes)
+  unfolding apply_ten
+  ten_read t e = record {
     to = λ s h ef.
         let f : state_fits s ≡ true = area_fits h in
         let j : k < s.config.servers = subst (λ (G : Capacity). k < G.servers) ef i in
         let o : index ≤ s.limits.log_indexes = subst (λ (G : Capacity). index ≤ G.limits.log_indexes) ef m in
-        let fits : Bool = checker_fits s.config s.limits (after_apply k (record { 0 = index }) (payload_of kind bytes) s) in
-        ec ∙ ap₂ ten_unless (pr.to s h ef ∙ ap (λ (x : Decoded). reply_test k x s) ek) (a.to s h ef).code
-        ∙ ten_is (reply_test k (key_given kind bytes) s) fits
-        ∙ ap (λ (t : Bool). pick t 0 10)
-        (ap (λ (t : Bool). reply_test k (key_given kind bytes) s and t) (sym (ap (λ (t : Bool). fits and t) f ∙ and_true fits))
+        ap (λ (u : Bool). pick u 0 10)
+        (sym (e s h ef) ∙ ap (λ (u : Bool). reply_test k (key_given kind bytes) s and u) (sym (ap (λ (u : Bool). fits k index kind bytes s and u) f ∙ and_true (fits k index kind bytes s)))
         ∙ sym (fits_applied s k index kind bytes (servers_fit_lem s f) j (network_fits_lem s f) o (fits_test s f 13) (laid_limits h.laid).log_indexes));
   }
 
-  pub at_full : 0 < c → AppliesAt b b F k index kind bytes c
-  at_full l = record { code = code_read; changes = λ z. absurd (omega arith); kept = λ o. refl }
+module _ {b : List ℕ} {F : Capacity} {k index kind : ℕ} {bytes : List ℕ} {r : Result ApplyAsked Refusal} (i : k < F.servers) (m : index ≤ F.limits.log_indexes)
+    (a : Asks b F (ApplyTold k (record { 0 = index }) (payload_of kind bytes) r)) where
+  pub at_refused : (refusal : Refusal) → r ≡ Err refusal → AppliesAt b b F k index kind bytes 10
+  at_refused refusal e = record {
+    code = ten_read k index kind bytes i m false (λ s h ef. and_no (reply_test k (key_given kind bytes) s) _ (picked_err _ _ refusal (sym e ∙ (a.to s h ef).is)));
+    changes = λ z. absurd (omega arith);
+    kept = λ o. refl;
+  }
 
-  pub at_done : (b' : List ℕ) → c ≤ 0 → Changes b b' F (applied k index kind bytes) → AppliesAt b b' F k index kind bytes c
-  at_done b' l p = record { code = code_read; changes = λ z. p; kept = λ o. absurd (omega arith) }
+  module _ {key : Option ClientKey} {room : Bool} (ek : key ≡ key_given kind bytes) (pr : Reads b F room (reply_test k key)) where
+    pub at_full : not room ≡ true → AppliesAt b b F k index kind bytes 10
+    at_full t = record {
+      code = ten_read k index kind bytes i m false (λ s h ef. no_and _ (fits k index kind bytes s) (room_is k kind bytes ek pr s h ef ∙ not-true room t));
+      changes = λ z. absurd (omega arith);
+      kept = λ o. refl;
+    }
+
+    pub at_done : (asked : ApplyAsked) (b' : List ℕ) → r ≡ Ok asked → not room ≡ false → Changes b b' F (applied k index kind bytes)
+        → AppliesAt b b' F k index kind bytes 0
+    at_done asked b' e t p = record {
+      code = ten_read k index kind bytes i m true (λ s h ef. ap₂ (λ (x y : Bool). x and y) (room_is k kind bytes ek pr s h ef ∙ not-false room t) (picked_ok _ _ asked (sym e ∙ (a.to s h ef).is)).0 ∙ true_and true);
+      changes = λ z. p;
+      kept = λ o. absurd (omega arith);
+    }
 
 -- ---- the call
 

@@ -9,7 +9,7 @@ use Rattle.state.specs.declared.Capacity.{Capacity}
 use Rattle.sim_outputs.specs.declared.Sender.{Sender}
 use Rattle.sim_outputs.specs.Outputs.{Passed, sends, IsSender, asks_code}
 use Rattle.sim_outputs.specs.Laws.{ready_is, slot_is, second_yes, third_yes}
-use Rattle.sim_apply.specs.Applies.{is_payload_of, apply_code, AsksApply, ten_unless}
+use Rattle.sim_apply.specs.Applies.{is_payload_of, apply_code, AsksApply}
 use Rattle.state_header.specs.Header.{open_slot}
 
 -- ---- a payload by its kind and size
@@ -57,13 +57,3 @@ apply_asked b F index kind size d args c o pd ea ec =
       noop_most = λ z. payload_noop kind size F.limits.payload o.inside.within.limits.payload (good z);
       size_most = λ z. payload_size kind size F.limits.payload (good z);
     }
-
--- ---- question 10's number
-
-pub ten_room : (room : Bool) (code : ℕ) → room ≡ true → code ≡ ten_unless room code
-unfolding ten_unless
-ten_room room code e = ap (λ (t : Bool). pick t code 10) (sym e)
-
-pub ten_full : (room : Bool) (code : ℕ) → room ≡ false → ◌≡◌ {A = ℕ} 10 (ten_unless room code)
-unfolding ten_unless
-ten_full room code e = ap (λ (t : Bool). pick t code 10) (sym e)

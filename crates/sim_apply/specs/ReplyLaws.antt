@@ -1,9 +1,8 @@
 -- What the proofs of the reply cite, and question 10 of it. Assumes nothing.
-use Rattle.std.specs.Prelude.{◌≡◌, refl, Bool, false, List, [], ◌∷◌, ℕ, ◌^◌, ◌≤◌, ◌<◌}
+use Rattle.std.specs.Prelude.{◌≡◌, refl, Bool, false, List, [], ◌∷◌, ℕ, ◌^◌, ◌≤◌, ◌<◌, Option, None, Some}
 use Rattle.std.proofs.Math.Path.{sym, ap, subst}
 use Rattle.std.proofs.Common.{◌∙◌, arith, eq-eqb, ne_eqb, lt-ltb, le-leb}
 use Rattle.std.proofs.Math.Bool.{true}
-use Rattle.std.proofs.Math.Option.{none, some}
 use Rattle.laws.specs.Bools.{pick, cases, ◌and◌, every, and_left}
 use Rattle.laws.proofs.BoolLaws.{allb_in, and_right, and_both, true_and}
 use Rattle.laws.specs.Decides.{false_true}
@@ -13,8 +12,6 @@ use Rattle.units.specs.Types.{payload_of}
 use Rattle.units.specs.declared.LogIndex.{LogIndex}
 use Rattle.client.specs.Key.{decode, key_of}
 use Rattle.client.specs.declared.ClientKey.{ClientKey}
-use Rattle.client.specs.declared.Decoded.{Decoded}
-use Rattle.client.specs.declared.Decoded.TheVariants as decoded
 use Rattle.layout.specs.Keys.{keys}
 use Rattle.queue.specs.declared.Event.{Event}
 use Rattle.queue.specs.declared.Event.TheVariants as event
@@ -30,24 +27,24 @@ use Rattle.sim_apply.specs.Applies.{key_given, reply_due, reply_test, replied}
 
 -- ---- the key
 
-pub key_noop : (kind : ℕ) (bytes : List ℕ) → kind ≡ 0 → decoded.None ≡ key_given kind bytes
+pub key_noop : (kind : ℕ) (bytes : List ℕ) → kind ≡ 0 → None ≡ key_given kind bytes
 unfolding key_given payload_of
 key_noop kind bytes e = sym (rw (eq-eqb kind 0 e) refl)
 
-pub key_command : (kind : ℕ) (bytes : List ℕ) (r : Decoded) → (kind ≡ 0 → ⊥) → r ≡ decode bytes → r ≡ key_given kind bytes
+pub key_command : (kind : ℕ) (bytes : List ℕ) (r : Option ClientKey) → (kind ≡ 0 → ⊥) → r ≡ decode bytes → r ≡ key_given kind bytes
 unfolding key_given payload_of
 key_command kind bytes r n e = e ∙ sym (rw (ne_eqb kind 0 n) refl)
 
 -- ---- whether it is due
 
-module _ (b : List ℕ) (F : Capacity) (slot : ℕ) (key : Decoded) where
-  pub due_none : key ≡ decoded.None → Reads b F false (reply_due slot key)
+module _ (b : List ℕ) (F : Capacity) (slot : ℕ) (key : Option ClientKey) where
+  pub due_none : key ≡ None → Reads b F false (reply_due slot key)
   unfolding reply_due
-  due_none e = record { to = λ s h ef. sym (ap (λ (x : Decoded). reply_due slot x s) e) }
+  due_none e = record { to = λ s h ef. sym (ap (λ (x : Option ClientKey). reply_due slot x s) e) }
 
-  pub due_key : (k : ClientKey) (r : Bool) → key ≡ decoded.Key k → Reads b F r (pending_has slot k) → Reads b F r (reply_due slot key)
+  pub due_key : (k : ClientKey) (r : Bool) → key ≡ Some k → Reads b F r (pending_has slot k) → Reads b F r (reply_due slot key)
   unfolding reply_due
-  due_key k r e q = record { to = λ s h ef. q.to s h ef ∙ sym (ap (λ (x : Decoded). reply_due slot x s) e) }
+  due_key k r e q = record { to = λ s h ef. q.to s h ef ∙ sym (ap (λ (x : Option ClientKey). reply_due slot x s) e) }
 
   module _ (t : Bool) (q : Reads b F t (reply_due slot key)) where
     pub room_yes : (r : Bool) → t ≡ true → Reads b F r tell_test → Reads b F r (reply_test slot key)
@@ -64,32 +61,32 @@ module _ (b : List ℕ) (F : Capacity) (slot : ℕ) (key : Decoded) where
 abbrev reply_event : ClientKey → LogIndex → Event
 reply_event k index = event.ClientReply k.client k.seq index
 
-replied_is : (s : State) (slot : ℕ) (k : ClientKey) (index : LogIndex) → replied slot (decoded.Key k) index s ≡ pick (pending_has slot k s) (client_told slot k (reply_event k index) s) s
+replied_is : (s : State) (slot : ℕ) (k : ClientKey) (index : LogIndex) → replied slot (Some k) index s ≡ pick (pending_has slot k s) (client_told slot k (reply_event k index) s) s
 unfolding replied pending_has client_told
 replied_is s slot k index = refl
 
-replied_none : (s : State) (slot : ℕ) (index : LogIndex) → replied slot decoded.None index s ≡ s
+replied_none : (s : State) (slot : ℕ) (index : LogIndex) → replied slot None index s ≡ s
 unfolding replied
 replied_none s slot index = refl
 
-replied_yes : (s : State) (slot : ℕ) (k : ClientKey) (index : LogIndex) → pending_has slot k s ≡ true → replied slot (decoded.Key k) index s ≡ client_told slot k (reply_event k index) s
+replied_yes : (s : State) (slot : ℕ) (k : ClientKey) (index : LogIndex) → pending_has slot k s ≡ true → replied slot (Some k) index s ≡ client_told slot k (reply_event k index) s
 replied_yes s slot k index y = replied_is s slot k index ∙ ap (λ (t : Bool). pick t (client_told slot k (reply_event k index) s) s) y
 
-replied_no : (s : State) (slot : ℕ) (k : ClientKey) (index : LogIndex) → pending_has slot k s ≡ false → replied slot (decoded.Key k) index s ≡ s
+replied_no : (s : State) (slot : ℕ) (k : ClientKey) (index : LogIndex) → pending_has slot k s ≡ false → replied slot (Some k) index s ≡ s
 replied_no s slot k index n = replied_is s slot k index ∙ ap (λ (t : Bool). pick t (client_told slot k (reply_event k index) s) s) n
 
-module _ (b : List ℕ) (F : Capacity) (slot : ℕ) (key : Decoded) (index : LogIndex) where
-  pub reply_none : key ≡ decoded.None → Changes b b F (replied slot key index)
+module _ (b : List ℕ) (F : Capacity) (slot : ℕ) (key : Option ClientKey) (index : LogIndex) where
+  pub reply_none : key ≡ None → Changes b b F (replied slot key index)
   unfolding replied
-  reply_none e = subst (λ (x : Decoded). Changes b b F (replied slot x index)) (sym e) (record { to = λ s l h t. h })
+  reply_none e = subst (λ (x : Option ClientKey). Changes b b F (replied slot x index)) (sym e) (record { to = λ s l h t. h })
 
-  pub reply_not : (k : ClientKey) (t : Bool) → key ≡ decoded.Key k → Reads b F t (pending_has slot k) → t ≡ false → Changes b b F (replied slot key index)
-  reply_not k t e q n = subst (λ (x : Decoded). Changes b b F (replied slot x index)) (sym e)
+  pub reply_not : (k : ClientKey) (t : Bool) → key ≡ Some k → Reads b F t (pending_has slot k) → t ≡ false → Changes b b F (replied slot key index)
+  reply_not k t e q n = subst (λ (x : Option ClientKey). Changes b b F (replied slot x index)) (sym e)
       (record { to = λ s l h fit. subst (λ (u : State). AreaOf b l F u) (sym (replied_no s slot k index (sym (q.to s h.area h.capacity) ∙ n))) h })
 
-  pub reply_told : (k : ClientKey) (t : Bool) (b' : List ℕ) → key ≡ decoded.Key k → Reads b F t (pending_has slot k) → t ≡ true
+  pub reply_told : (k : ClientKey) (t : Bool) (b' : List ℕ) → key ≡ Some k → Reads b F t (pending_has slot k) → t ≡ true
       → Changes b b' F (client_told slot k (event.ClientReply k.client k.seq index)) → Changes b b' F (replied slot key index)
-  reply_told k t b' e q y p = subst (λ (x : Decoded). Changes b b' F (replied slot x index)) (sym e)
+  reply_told k t b' e q y p = subst (λ (x : Option ClientKey). Changes b b' F (replied slot x index)) (sym e)
       (record {
         to = λ s l h fit.
             let is = replied_yes s slot k index (sym (q.to s h.area h.capacity) ∙ y) in
@@ -105,7 +102,7 @@ found_good good k [] h y = absurd (false_true y)
 found_good good k (c ∷ x) h y = by (pairs.before (key_of c) (key_of k)) refl (pairs.before (key_of k) (key_of c)) refl y (found_good good k x (and_right _ _ h))
   where
     by : (s : Bool) → pairs.before (key_of c) (key_of k) ≡ s → (t : Bool) → pairs.before (key_of k) (key_of c) ≡ t
-        → is_some (pick s (lookup pairs key_of (key_of k) x) (pick t none (some c))) ≡ true → (is_some (lookup pairs key_of (key_of k) x) ≡ true → good k ≡ true) → good k ≡ true
+        → is_some (pick s (lookup pairs key_of (key_of k) x) (pick t None (Some c))) ≡ true → (is_some (lookup pairs key_of (key_of k) x) ≡ true → good k ≡ true) → good k ≡ true
     by true es t et y more = more y
     by false es true et y more = absurd (false_true y)
     by false es false et y more = subst (λ (q : ℕ × ℕ). good (record { client = q.0; seq = q.1 }) ≡ true) (pairs.total (key_of c) (key_of k) es et) (and_left _ _ h)
@@ -126,19 +123,19 @@ module _ (s : State) (slot : ℕ) (index : LogIndex) (h : ServersFit s) (i : slo
       (and_both _ _ (and_right _ _ g) (le-leb index.0 s.limits.log_indexes l))
 
   -- a reply asks for a time of 64 bits and room, where one is due
-  pub fits_reply : (key : Decoded) → index.0 ≤ s.limits.log_indexes → s.limits.log_indexes ≤ 1024 → state_fits (replied slot key index s) ≡ (reply_test slot key s and state_fits s)
+  pub fits_reply : (key : Option ClientKey) → index.0 ≤ s.limits.log_indexes → s.limits.log_indexes ≤ 1024 → state_fits (replied slot key index s) ≡ (reply_test slot key s and state_fits s)
   unfolding reply_test reply_due
-  fits_reply decoded.None l most = ap state_fits (replied_none s slot index) ∙ sym (true_and (state_fits s))
-  fits_reply (decoded.Key k) l most =
+  fits_reply None l most = ap state_fits (replied_none s slot index) ∙ sym (true_and (state_fits s))
+  fits_reply (Some k) l most =
       cases (pending_has slot k s)
       (λ y. ap state_fits (replied_yes s slot k index y) ∙ fits_told s slot k (reply_event k index) h i n (event_range k y l most)
       ∙ ap (λ (t : Bool). pick t (tell_test s) true and state_fits s) (sym y))
       (λ y. ap state_fits (replied_no s slot k index y) ∙ sym (true_and (state_fits s)) ∙ ap (λ (t : Bool). pick t (tell_test s) true and state_fits s) (sym y))
 
   -- where the state after fits, the state before does
-  pub before_reply : (key : Decoded) → state_fits (replied slot key index s) ≡ true → state_fits s ≡ true
-  before_reply decoded.None t = ap state_fits (sym (replied_none s slot index)) ∙ t
-  before_reply (decoded.Key k) t =
+  pub before_reply : (key : Option ClientKey) → state_fits (replied slot key index s) ≡ true → state_fits s ≡ true
+  before_reply None t = ap state_fits (sym (replied_none s slot index)) ∙ t
+  before_reply (Some k) t =
       cases (pending_has slot k s)
       (λ y. before_told s slot k (reply_event k index) h i n (ap state_fits (sym (replied_yes s slot k index y)) ∙ t))
       (λ y. ap state_fits (sym (replied_no s slot k index y)) ∙ t)

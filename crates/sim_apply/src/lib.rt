@@ -2,7 +2,7 @@
 // the server had accepted it from a client, the reply is sent.
 #![tactic(auto)]
 
-ghost use Rattle.std.specs.Prelude.{◌≡◌, ◌*◌, ◌≤◌, ◌<◌, length};
+ghost use Rattle.std.specs.Prelude.{◌≡◌, ◌*◌, ◌≤◌, ◌<◌, length, Ok};
 ghost use Rattle.units.specs.Types.{payload_of};
 ghost use Rattle.model.specs.Calls.{output_apply};
 ghost use Rattle.state.specs.Changes.{Inside, Gated, Reads, Changes};
@@ -21,13 +21,12 @@ ghost use Rattle.sim_apply.specs.Applies.{
   next_apply_set,
   checked_at,
   applied,
-  ten_unless,
   AppliesAt,
 };
 
 use answers::DoneAnswer;
 use checks_on_apply::ApplyAsked;
-use client::Decoded;
+use client::ClientKey;
 use queue::Event;
 use state::{Capacity, Gate, ServerState};
 use units::{LogIndex, NodeId};
@@ -69,29 +68,29 @@ fn asked_of(area: &[u8], f: Capacity, index: u64, kind: u64, size: u64) -> Asked
 // ---- the reply
 
 // The key of a payload, if it has one: only a command has.
-fn key_given(kind: u64, payload: &[u8]) -> Decoded
+fn key_given(kind: u64, payload: &[u8]) -> Option<ClientKey>
     ensures { result ≡ key_given kind payload.now }
 {
     if kind == 0 {
-        return Decoded::None;
+        return None;
     }
     client::decode(payload)
 }
 
 // Whether the server at a place had accepted the command of a key.
-fn reply_due(area: &[u8], f: Capacity, slot: u64, key: Decoded) -> bool
+fn reply_due(area: &[u8], f: Capacity, slot: u64, key: Option<ClientKey>) -> bool
     requires inside { Inside area.now f }
     requires slot_lt_servers { slot < f.servers }
     ensures { Reads area.now f result (reply_due slot key) }
 {
     match key {
-        Decoded::None => false,
-        Decoded::Key(k) => state_server::has_pending(area, f, slot as usize, k),
+        None => false,
+        Some(k) => state_server::has_pending(area, f, slot as usize, k),
     }
 }
 
 // Whether the reply can be sent, where one is due.
-fn reply_room(area: &[u8], f: Capacity, slot: u64, key: Decoded) -> bool
+fn reply_room(area: &[u8], f: Capacity, slot: u64, key: Option<ClientKey>) -> bool
     requires inside { Inside area.now f }
     requires slot_lt_servers { slot < f.servers }
     ensures { Reads area.now f result (reply_test slot key) }
@@ -103,14 +102,14 @@ fn reply_room(area: &[u8], f: Capacity, slot: u64, key: Decoded) -> bool
 }
 
 // A client's command applied by a server that had accepted it: its key goes, a delay is drawn and the reply pushed.
-fn reply(area: &mut [u8], f: Capacity, slot: u64, key: Decoded, index: LogIndex)
+fn reply(area: &mut [u8], f: Capacity, slot: u64, key: Option<ClientKey>, index: LogIndex)
     requires inside { Inside area.old f }
     requires slot_lt_servers { slot < f.servers }
     ensures { Changes area.old area.new f (replied slot key index) }
 {
     match key {
-        Decoded::None => {}
-        Decoded::Key(k) => {
+        None => {}
+        Some(k) => {
             if state_server::has_pending(area, f, slot as usize, k) {
                 let event = Event::ClientReply {
                     client: k.client as u64,
@@ -167,7 +166,7 @@ fn check_apply(
     requires inside { Inside area.old f }
     requires slot_lt_servers { slot < f.servers }
     requires kind_bound { (kind ≤ 1) × (length payload.now ≤ 256 * kind) × (length payload.now ≤ f.limits.payload) }
-    requires asks { Asks area.old f (ApplyTold slot index (payload_of kind payload.now) asked) }
+    requires asks { Asks area.old f (ApplyTold slot index (payload_of kind payload.now) (Ok asked)) }
     ensures { Changes area.old area.new f (checked_at slot index (payload_of kind payload.now)) }
 {
     let run = state_header::run_of(area, f);
@@ -199,20 +198,13 @@ fn apply_act(
     requires slot_lt_servers { slot < f.servers }
     requires index_bound { index ≤ f.limits.log_indexes }
     requires kind_bound { (kind ≤ 1) × (length payload.now ≤ 256 * kind) × (length payload.now ≤ f.limits.payload) }
-    requires asks { Asks area.old f (ApplyTold slot (record { 0 = index }) (payload_of kind payload.now) asked) }
+    requires asks { Asks area.old f (ApplyTold slot (record { 0 = index }) (payload_of kind payload.now) (Ok asked)) }
     ensures { Changes area.old area.new f (applied slot index kind payload.now) }
 {
     let key = key_given(kind, payload);
     check_apply(area, f, slot, LogIndex(index), kind, payload, asked);
     set_next_apply(area, f, slot, index + 1);
     reply(area, f, slot, key, LogIndex(index));
-}
-
-// Question 10's number where something does not fit, else a code.
-fn ten_unless(room: bool, code: u64) -> u64
-    ensures { result ≡ ten_unless room code }
-{
-    if room { code } else { 10 }
 }
 
 // Question 10 of an entry that the server at a place applies, and where it is answered yes, all that is done.
@@ -223,22 +215,19 @@ fn apply_at(area: &mut [u8], f: Capacity, slot: u64, index: u64, kind: u64, payl
     requires kind_bound { (kind ≤ 1) × (length payload.now ≤ 256 * kind) × (length payload.now ≤ f.limits.payload) }
     ensures { AppliesAt area.old area.new f slot index kind payload.now result }
 {
-    let asked = state_asks::apply::apply_asked(
-        area,
-        f,
-        slot as usize,
-        LogIndex(index),
-        kind,
-        payload,
-    );
-    let key = key_given(kind, payload);
-    let room = reply_room(area, f, slot, key);
-    let code = ten_unless(room, asked.code);
-    if 0 < code {
-        return code;
+    let at = slot as usize;
+    match state_asks::apply::apply_asked(area, f, at, LogIndex(index), kind, payload) {
+        Err(_) => 10,
+        Ok(asked) => {
+            let key = key_given(kind, payload);
+            let room = reply_room(area, f, slot, key);
+            if !room {
+                return 10;
+            }
+            apply_act(area, f, slot, index, kind, payload, asked);
+            0
+        }
     }
-    apply_act(area, f, slot, index, kind, payload, asked);
-    code
 }
 
 // An entry applied (Output::Apply).

@@ -1,5 +1,5 @@
 -- What the proofs of lib.rt cite. Assumes nothing.
-use Rattle.std.specs.Prelude.{◌≡◌, Bool, false, ◌&&◌, List, leb, length}
+use Rattle.std.specs.Prelude.{◌≡◌, Bool, ◌&&◌, List, leb, length, Option, None, Some}
 use Rattle.std.proofs.Math.Path.{sym, ap, ap₂, subst}
 use Rattle.std.proofs.Common.{◌∙◌}
 use Rattle.std.proofs.Math.Bool.{true}
@@ -11,10 +11,8 @@ use Rattle.config.specs.declared.SimConfig.{SimConfig}
 use Rattle.network.specs.declared.Network.{Network}
 use Rattle.network.specs.declared.Delayed.{Delayed}
 use Rattle.network.specs.Network.{delay}
-use Rattle.clients.specs.Clients.{Client, client_of, outstanding_of}
-use Rattle.clients.specs.declared.Client.{Client as ClientRow}
-use Rattle.clients.specs.declared.OutstandingOption.{OutstandingOption}
-use Rattle.clients.specs.declared.OutstandingOption.TheVariants.{None, Some}
+use Rattle.clients.specs.declared.Outstanding.{Outstanding}
+use Rattle.clients.specs.declared.Client.{Client}
 use Rattle.queue.specs.Range.{word}
 use Rattle.queue.specs.Queue.{Scheduled}
 use Rattle.queue.specs.declared.Event.{Event}
@@ -33,19 +31,11 @@ use Rattle.state_queue.specs.Events.{plain, pushed}
 use Rattle.state_queue.specs.Fits.{fits_push, fits_unpushed, plain_range}
 use Rattle.sim_outputs.specs.declared.Sum.{Sum}
 use Rattle.sim_outputs.specs.Outputs.{Sums}
-use Rattle.sim_attempt.specs.Attempts.{waiting, attempt_put, arrival_time, arrival_fits, Arrives, timeout_time, timeout_fits, TimesOut, attempt_test, delayed, outstanding_sent, attempted_as}
+use Rattle.sim_attempt.specs.Attempts.{attempt_put, arrival_time, arrival_fits, Arrives, timeout_time, timeout_fits, TimesOut, attempt_test, delayed, outstanding_sent, attempted_as}
 use Rattle.sim_attempt.specs.Networks.{delayed_fits}
 use Rattle.sim_attempt.specs.Laws.{client_count, attempted_none, attempted_some, fits_set}
 
 -- ---- what is asked
-
-pub waiting_none : (o : OutstandingOption) → o ≡ None → false ≡ waiting o
-unfolding waiting
-waiting_none o e = ap waiting (sym e)
-
-pub waiting_some : (o : OutstandingOption) (seq : ℕ) (sent : SimTime) → o ≡ Some seq sent → true ≡ waiting o
-unfolding waiting
-waiting_some o seq sent e = ap waiting (sym e)
 
 pub arrival_read : (b : List ℕ) (F : Capacity) (time : ℕ) (n : Network) (d : Delayed) (r : Sum) → Reads b F n network_of → d ≡ delay n → Sums time d.delay.0 r → Arrives b F time r
 unfolding network_of arrival_time arrival_fits
@@ -105,25 +95,25 @@ module _ {b r : List ℕ} {F : Capacity} {s : State} (h : AreaOf b r F s) (c : �
   pub attempt_word : (k : Client) → state_fits (client_set c k s) ≡ true → word k.attempt ≡ true
   attempt_word k t = and_left _ _ (and_right _ _ (and_right _ _ (sym (fits_set s c k (area_fits h.area) clients_are) ∙ t)))
 
-module _ (b b₁ b₂ b₃ : List ℕ) (F : Capacity) (c : ℕ) (client sent : ClientRow) (seq at end : ℕ) (next : Sum) where
+module _ (b b₁ b₂ b₃ : List ℕ) (F : Capacity) (c : ℕ) (client sent : Client) (seq at end : ℕ) (next : Sum) where
   abbrev arrives : ℕ → Scheduled
   arrives n = plain (record { 0 = at }) (event.ClientArrive client.target c seq n)
 
   abbrev times_out : ℕ → Scheduled
   times_out n = plain (record { 0 = end }) (event.ClientTimeout c n)
 
-  pub outstanding_acts : c < F.clients → Sums client.attempt 1 next → sent ≡ attempt_put client next.value → Changes b b₁ F (client_set c (client_of sent))
-      → Changes b₁ b₂ F (pushed (arrives next.value)) → Changes b₂ b₃ F (pushed (times_out next.value)) → Changes b b₃ F (outstanding_sent c (client_of client) seq at end)
-  unfolding outstanding_sent client_of
+  pub outstanding_acts : c < F.clients → Sums client.attempt 1 next → sent ≡ attempt_put client next.value → Changes b b₁ F (client_set c sent)
+      → Changes b₁ b₂ F (pushed (arrives next.value)) → Changes b₂ b₃ F (pushed (times_out next.value)) → Changes b b₃ F (outstanding_sent c client seq at end)
+  unfolding outstanding_sent
   outstanding_acts i q e p₁ p₂ p₃ = record {
     to = λ s l h t.
         let a : ℕ = client.attempt + 1 in
-        let s₁ : State = client_set c (with_attempt (client_of client) a) s in
+        let s₁ : State = client_set c (with_attempt client a) s in
         let s₂ : State = pushed (arrives a) s₁ in
         let t₂ : state_fits s₂ ≡ true = fits_unpushed s₂ (times_out a) t in
         let t₁ : state_fits s₁ ≡ true = fits_unpushed s₁ (arrives a) t₂ in
-        let n : next.value ≡ a = q.value (q.fits ∙ attempt_word h c i (with_attempt (client_of client) a) t₁) in
-        let k : client_of sent ≡ with_attempt (client_of client) a = ap client_of e ∙ ap (λ (m : ℕ). with_attempt (client_of client) m) n in
+        let n : next.value ≡ a = q.value (q.fits ∙ attempt_word h c i (with_attempt client a) t₁) in
+        let k : sent ≡ with_attempt client a = e ∙ ap (λ (m : ℕ). with_attempt client m) n in
         let h₁ : AreaOf b₁ l F s₁ = subst (λ (x : Client). AreaOf b₁ l F (client_set c x s)) k (p₁.to s l h (ap (λ (x : Client). state_fits (client_set c x s)) k ∙ t₁)) in
         let h₂ : AreaOf b₂ l F s₂ = subst (λ (m : ℕ). AreaOf b₂ l F (pushed (arrives m) s₁)) n (p₂.to s₁ l h₁ (ap (λ (m : ℕ). state_fits (pushed (arrives m) s₁)) n ∙ t₂)) in
         subst (λ (m : ℕ). AreaOf b₃ l F (pushed (times_out m) s₂)) n (p₃.to s₂ l h₂ (ap (λ (m : ℕ). state_fits (pushed (times_out m) s₂)) n ∙ t));
@@ -139,29 +129,28 @@ module _ (c : ℕ) (k : Client) (seq at end : ℕ) (s : State) (t : state_fits (
   unfolding outstanding_sent
   comes_word = time_word _ (record { 0 = at }) (event.ClientArrive k.target c seq (k.attempt + 1)) (fits_unpushed _ (plain (record { 0 = end }) (event.ClientTimeout c (k.attempt + 1))) t)
 
-module _ (b b₁ b₂ : List ℕ) (F : Capacity) (c : ℕ) (client : ClientRow) (o : OutstandingOption) (i : c < F.clients) where
-  pub attempt_none : o ≡ client.outstanding → o ≡ None → Changes b b₁ F delayed → Changes b₁ b₂ F (client_set c (client_of client)) → Changes b b₂ F (attempted_as c (client_of client))
-  unfolding client_of outstanding_of
+module _ (b b₁ b₂ : List ℕ) (F : Capacity) (c : ℕ) (client : Client) (o : Option Outstanding) (i : c < F.clients) where
+  pub attempt_none : o ≡ client.outstanding → o ≡ None → Changes b b₁ F delayed → Changes b₁ b₂ F (client_set c client) → Changes b b₂ F (attempted_as c client)
   attempt_none eo e p q = record {
     to = λ s l h t.
-        let is = attempted_none s c (client_of client) (client_below h c i) (ap outstanding_of (sym eo ∙ e)) in
+        let is = attempted_none s c client (client_below h c i) (sym eo ∙ e) in
         subst (λ (x : State). AreaOf b₂ l F x) (sym is) (q.to (delayed s) l (p.to s l h (delayed_fits s (area_fits h.area))) (ap state_fits (sym is) ∙ t));
   }
 
-  pub attempt_some : (w : Run) (at end : Sum) (seq : ℕ) (sent : SimTime) → Reads b F w run_of → Arrives b F w.now.0 at → TimesOut b F w.now.0 end → o ≡ client.outstanding → o ≡ Some seq sent
-      → Changes b b₁ F delayed → Changes b₁ b₂ F (outstanding_sent c (client_of client) seq at.value end.value) → Changes b b₂ F (attempted_as c (client_of client))
-  unfolding client_of outstanding_of arrival_fits timeout_fits
-  attempt_some w at end seq sent pw pa pe eo e p q = record {
+  pub attempt_some : (w : Run) (at end : Sum) (sent : Outstanding) → Reads b F w run_of → Arrives b F w.now.0 at → TimesOut b F w.now.0 end → o ≡ client.outstanding → o ≡ Some sent
+      → Changes b b₁ F delayed → Changes b₁ b₂ F (outstanding_sent c client sent.seq at.value end.value) → Changes b b₂ F (attempted_as c client)
+  unfolding arrival_fits timeout_fits
+  attempt_some w at end sent pw pa pe eo e p q = record {
     to = λ s l h t.
-        let k : Client = client_of client in
-        let is = attempted_some s c k (client_below h c i) (record { seq = seq; first_sent = sent }) (ap outstanding_of (sym eo ∙ e)) in
+        let k : Client = client in
+        let is = attempted_some s c k (client_below h c i) sent (sym eo ∙ e) in
         let now : w.now.0 ≡ s.now.0 = ap (λ (x : Run). x.now.0) (pw.to s h.area h.capacity) in
-        let ends : word (timeout_time s.now.0 s) ≡ true = ends_word c k seq (arrival_time s.now.0 s) (timeout_time s.now.0 s) (delayed s) (ap state_fits (sym is) ∙ t) in
-        let comes : word (arrival_time s.now.0 s) ≡ true = comes_word c k seq (arrival_time s.now.0 s) (timeout_time s.now.0 s) (delayed s) (ap state_fits (sym is) ∙ t) in
+        let ends : word (timeout_time s.now.0 s) ≡ true = ends_word c k sent.seq (arrival_time s.now.0 s) (timeout_time s.now.0 s) (delayed s) (ap state_fits (sym is) ∙ t) in
+        let comes : word (arrival_time s.now.0 s) ≡ true = comes_word c k sent.seq (arrival_time s.now.0 s) (timeout_time s.now.0 s) (delayed s) (ap state_fits (sym is) ∙ t) in
         let ea : at.value ≡ arrival_time s.now.0 s =
         (pa.value (pa.fits.to s h.area h.capacity ∙ ap (λ (m : ℕ). word (arrival_time m s)) now ∙ comes)).to s h.area h.capacity ∙ ap (λ (m : ℕ). arrival_time m s) now in
         let ee : end.value ≡ timeout_time s.now.0 s =
         (pe.value (pe.fits.to s h.area h.capacity ∙ ap (λ (m : ℕ). word (timeout_time m s)) now ∙ ends)).to s h.area h.capacity ∙ ap (λ (m : ℕ). timeout_time m s) now in
-        let same : outstanding_sent c k seq at.value end.value (delayed s) ≡ attempted_as c k s = ap₂ (λ (x y : ℕ). outstanding_sent c k seq x y (delayed s)) ea ee ∙ sym is in
+        let same : outstanding_sent c k sent.seq at.value end.value (delayed s) ≡ attempted_as c k s = ap₂ (λ (x y : ℕ). outstanding_sent c k sent.seq x y (delayed s)) ea ee ∙ sym is in
         subst (λ (x : State). AreaOf b₂ l F x) same (q.to (delayed s) l (p.to s l h (delayed_fits s (area_fits h.area))) (ap state_fits same ∙ t));
   }

@@ -1,11 +1,10 @@
 -- What a client's attempt asks, draws and does (lib.rt): what its contracts cite. Assumes nothing.
-use Rattle.std.specs.Prelude.{◌≡◌, Bool, true, false, List, ℕ, ◌+◌, ◌-◌, leb, length}
+use Rattle.std.specs.Prelude.{◌≡◌, Bool, true, List, ℕ, ◌+◌, ◌-◌, leb, length, Option}
 use Rattle.laws.specs.Bools.{◌and◌}
+use Rattle.laws.specs.Lists.{is_some}
 use Rattle.network.specs.Network.{delay}
-use Rattle.clients.specs.Clients.{Client}
-use Rattle.clients.specs.declared.Client.{Client as ClientRow}
-use Rattle.clients.specs.declared.OutstandingOption.{OutstandingOption}
-use Rattle.clients.specs.declared.OutstandingOption.TheVariants.{None, Some}
+use Rattle.clients.specs.declared.Outstanding.{Outstanding}
+use Rattle.clients.specs.declared.Client.{Client}
 use Rattle.queue.specs.Range.{word}
 use Rattle.queue.specs.declared.Event.TheVariants as event
 use Rattle.model.specs.State.{State}
@@ -20,12 +19,11 @@ use Rattle.sim_outputs.specs.declared.Sum.{Sum}
 -- ---- a client
 
 -- Whether a command is outstanding.
-unfoldable pub waiting : OutstandingOption → Bool
-waiting None = false
-waiting (Some seq sent) = true
+unfoldable pub waiting : Option Outstanding → Bool
+waiting o = is_some o
 
 -- A client with another attempt.
-abbrev pub attempt_put : ClientRow → ℕ → ClientRow
+abbrev pub attempt_put : Client → ℕ → Client
 attempt_put k attempt = record { target = k.target; next_seq = k.next_seq; attempt = attempt; outstanding = k.outstanding }
 
 -- ---- what is asked

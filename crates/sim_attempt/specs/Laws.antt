@@ -1,9 +1,8 @@
 -- Question 10 of a client's attempt. Assumes nothing.
-use Rattle.std.specs.Prelude.{◌≡◌, Bool, true, false, leb, length}
+use Rattle.std.specs.Prelude.{◌≡◌, Bool, true, false, leb, length, Option, None, Some}
 use Rattle.std.proofs.Math.Path.{refl, ap, ap₂}
 use Rattle.std.proofs.Common.{sym, ◌∙◌, arith, lt-ltb, le-leb, leb-true, eqb-true}
 use mathlib.Core.List.{List, [], ◌∷◌}
-use Rattle.std.proofs.Math.Option.{Option, none, some}
 use Prim.Native.Nat.{ℕ, zero, suc, ◌+◌, ◌-◌, ◌^◌, ◌<◌}
 use Rattle.std.proofs.Math.Dec.{ltb}
 use Rattle.std.proofs.Math.ListN.{get_or}
@@ -14,7 +13,8 @@ use Rattle.laws.specs.Lists.{modify, is_some}
 use Rattle.metrics.specs.Laws.{modify_set}
 use Rattle.config.specs.Limits.{InLimits, judge}
 use Rattle.config.specs.Laws.{in_limits}
-use Rattle.clients.specs.Clients.{Client, Outstanding}
+use Rattle.clients.specs.declared.Client.{Client}
+use Rattle.clients.specs.declared.Outstanding.{Outstanding}
 use Rattle.clients.specs.ClientLaws.{no_client}
 use Rattle.queue.specs.Queue.{Scheduled}
 use Rattle.queue.specs.Range.{word}
@@ -82,13 +82,13 @@ module _ (s : State) (t : state_fits s ≡ true) where
 -- ---- what an attempt does
 
 module _ (s : State) (c : ℕ) (k : Client) (i : c < length s.clients) where
-  pub attempted_none : k.outstanding ≡ none → attempted_as c k s ≡ client_set c k (delayed s)
+  pub attempted_none : k.outstanding ≡ None → attempted_as c k s ≡ client_set c k (delayed s)
   unfolding attempted_as client_attempt delayed client_set arrival_time
   attempted_none e =
       let a : State = client_set c k (delayed s) in
       ap (λ (o : Option Outstanding). send_outstanding a c o (record { 0 = arrival_time s.now.0 s })) (ap (λ (x : Client). x.outstanding) (client_there s c k i) ∙ e)
 
-  pub attempted_some : (o : Outstanding) → k.outstanding ≡ some o
+  pub attempted_some : (o : Outstanding) → k.outstanding ≡ Some o
       → attempted_as c k s ≡ outstanding_sent c k o.seq (arrival_time s.now.0 s) (timeout_time s.now.0 s) (delayed s)
   unfolding attempted_as client_attempt delayed client_set outstanding_sent pushed plain arrival_time timeout_time
   attempted_some o e =
@@ -192,7 +192,7 @@ module _ (s : State) (c : ℕ) (k : Client) (t : state_fits s ≡ true) (i : c <
   here : c < length s.clients
   here = rw (client_count s t) i
 
-  fits_none : k.outstanding ≡ none → ltb k.target s.config.servers ≡ true → word k.attempt ≡ true
+  fits_none : k.outstanding ≡ None → ltb k.target s.config.servers ≡ true → word k.attempt ≡ true
       → state_fits (attempted_as c k s) ≡ (word k.next_seq and true)
   unfolding delayed
   fits_none e o w =
@@ -200,7 +200,7 @@ module _ (s : State) (c : ℕ) (k : Client) (t : state_fits s ≡ true) (i : c <
       ∙ ap (λ (x : Option Outstanding). ltb k.target s.config.servers and (word k.next_seq and (word k.attempt and if_some (outstanding_fits s.config s.limits) x))) e
       ∙ client_tests (word k.next_seq) (word k.attempt) o refl ∙ ap (λ (x : Bool). word k.next_seq and x) w
 
-  fits_some : (x : Outstanding) → k.outstanding ≡ some x → k.target < s.config.servers → word x.seq ≡ true → if_some (outstanding_fits s.config s.limits) k.outstanding ≡ true
+  fits_some : (x : Outstanding) → k.outstanding ≡ Some x → k.target < s.config.servers → word x.seq ≡ true → if_some (outstanding_fits s.config s.limits) k.outstanding ≡ true
       → state_fits (attempted_as c k s) ≡ (word k.next_seq and attempt_test s.now.0 (room_of s) k.attempt s)
   unfolding delayed attempt_test arrival_fits timeout_fits room_of
   fits_some x e o w h =
@@ -215,5 +215,5 @@ fits_attempt s c k t i o w h = by k.outstanding refl h
   where
     by : (x : Option Outstanding) → k.outstanding ≡ x → if_some (outstanding_fits s.config s.limits) x ≡ true
         → state_fits (attempted_as c k s) ≡ (word k.next_seq and pick (is_some x) (attempt_test s.now.0 (room_of s) k.attempt s) true)
-    by none e g = fits_none s c k t i e (lt-ltb _ _ o) w
-    by (some x) e g = fits_some s c k t i x e o (and_left _ _ g) h
+    by None e g = fits_none s c k t i e (lt-ltb _ _ o) w
+    by (Some x) e g = fits_some s c k t i x e o (and_left _ _ g) h

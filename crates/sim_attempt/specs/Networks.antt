@@ -1,13 +1,10 @@
 -- A delay drawn keeps a network in range, and a state fit. Assumes nothing.
-use Rattle.std.specs.Prelude.{◌≡◌, Bool, true, List, ℕ, ◌+◌, ◌^◌, set}
-use Rattle.std.proofs.Common.{sym, ap, subst, ◌∙◌, arith, lt-ltb}
+use Rattle.std.specs.Prelude.{◌≡◌, Bool, true, List, ℕ, ◌+◌, set}
+use Rattle.std.proofs.Common.{sym, ap, subst, ◌∙◌}
 use Rattle.laws.specs.Bools.{allb}
-use Rattle.rng.specs.declared.Rng.{Rng}
-use Rattle.rng.specs.Rng.{under, next_u64, moved}
 use Rattle.network.specs.declared.Network.{Network}
 use Rattle.network.specs.Network.{network_in_range, delay, DelaysFit}
 use Rattle.network.specs.Ranges.{in_range_lem, delays_fit}
-use Rattle.queue.specs.Range.{word}
 use Rattle.model.specs.State.{State}
 use Rattle.model.specs.Fits.{state_fits, state_tests}
 use Rattle.state.specs.declared.Capacity.{Capacity}

@@ -3,7 +3,6 @@
 #![tactic(auto)]
 
 ghost use Rattle.std.specs.Prelude.{◌≡◌, ◌<◌};
-ghost use Rattle.clients.specs.Clients.{client_of};
 ghost use Rattle.state.specs.Changes.{Inside, Reads, Changes};
 ghost use Rattle.sim_outputs.specs.Outputs.{Passed};
 ghost use Rattle.sim_attempt.specs.Attempts.{
@@ -17,20 +16,18 @@ ghost use Rattle.sim_attempt.specs.Attempts.{
   attempted_as,
 };
 
-use clients::{Client, OutstandingOption};
+use clients::{Client, Outstanding};
 use queue::Event;
 use sim_outputs::Sum;
 use state::Capacity;
 use units::SimTime;
 
 // Whether a command is outstanding.
-pub fn is_waiting(outstanding: OutstandingOption) -> bool
+#[tactic(auto, unfolding(crate::specs::Attempts::waiting))]
+pub fn is_waiting(outstanding: Option<Outstanding>) -> bool
     ensures { result ≡ waiting outstanding }
 {
-    match outstanding {
-        OutstandingOption::None => false,
-        OutstandingOption::Some { seq, first_sent } => true,
-    }
+    outstanding.is_some()
 }
 
 // A client with another attempt.
@@ -105,7 +102,7 @@ fn send_outstanding(
 )
     requires inside { Inside area.old f }
     requires c_lt_clients { c < f.clients }
-    ensures { Changes area.old area.new f (outstanding_sent c (client_of client) seq at end) }
+    ensures { Changes area.old area.new f (outstanding_sent c client seq at end) }
 {
     let next = sim_outputs::sum64(client.attempt, 1);
     let attempt = next.value;
@@ -126,7 +123,7 @@ fn send_outstanding(
 pub fn client_attempt(area: &mut [u8], f: Capacity, c: u64, client: Client)
     requires passed { Passed area.old f }
     requires c_lt_clients { c < f.clients }
-    ensures { Changes area.old area.new f (attempted_as c (client_of client)) }
+    ensures { Changes area.old area.new f (attempted_as c client) }
 {
     let run = state_header::run_of(area, f);
     let now = run.now;
@@ -135,9 +132,9 @@ pub fn client_attempt(area: &mut [u8], f: Capacity, c: u64, client: Client)
     draw_delay(area, f);
     let outstanding = client.outstanding;
     match outstanding {
-        OutstandingOption::None => state_records::set_client(area, f, c as usize, client),
-        OutstandingOption::Some { seq, first_sent } => {
-            send_outstanding(area, f, c, client, seq, at.value, end.value);
+        None => state_records::set_client(area, f, c as usize, client),
+        Some(sent) => {
+            send_outstanding(area, f, c, client, sent.seq, at.value, end.value);
         }
     }
 }

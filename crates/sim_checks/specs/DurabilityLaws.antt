@@ -1,9 +1,8 @@
 -- What the proofs of durability.rt cite. Assumes nothing.
-use Rattle.std.specs.Prelude.{◌≡◌, Bool, true, false, not, get_or, drop}
+use Rattle.std.specs.Prelude.{◌≡◌, Bool, true, false, not, get_or, drop, Some}
 use Rattle.std.proofs.Math.Path.{refl, sym, ap}
 use Rattle.std.proofs.Common.{ap₂, subst, ◌∙◌, drop_of_length-le, drop-cons}
 use mathlib.Core.List.{List, ◌∷◌}
-use Rattle.std.proofs.Math.Option.{some}
 use Prim.Native.Nat.{ℕ, zero, suc, ◌+◌, ◌-◌, ◌≤◌, ◌<◌}
 use native.Mathlib.Omega.{arith}
 use Rattle.std.proofs.Math.ListN.{length}
@@ -130,7 +129,7 @@ module _ (time : SimTime) where
   any : Reply
   any = record { sent = record { 0 = 0 }; received = record { 0 = 0 }; index = record { 0 = 0 }; client = 0; seq = 0 }
 
-  reply_is : (i : ℕ) (s : State) (r : Reply) (more : List Acknowledged) → at s.replies i ≡ some r
+  reply_is : (i : ℕ) (s : State) (r : Reply) (more : List Acknowledged) → at s.replies i ≡ Some r
       → check_acknowledged (reply_checked time i s).checker time more
       ≡ check_acknowledged s.checker time (record { index = r.index; payload = rebuilt s.config.command_bytes r } ∷ more)
   unfolding reply_checked missing_reported reply_missing_of reply_index_of check_acknowledged is_applied place_of

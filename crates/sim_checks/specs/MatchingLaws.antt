@@ -1,15 +1,18 @@
 -- What the proofs of matching.rt cite. Assumes nothing.
-use Rattle.std.specs.Prelude.{◌≡◌, refl, Bool, true, false, not, length, drop}
+use Rattle.std.specs.Prelude.{◌≡◌, refl, Bool, true, false, not, length, drop, Option}
 use Rattle.std.proofs.Math.Path.{sym, ap}
 use Rattle.std.proofs.Common.{subst, ◌∙◌, add-one, arith, drop_of_length-le, drop-cons}
 use mathlib.Core.List.{List, [], ◌∷◌}
-use Rattle.std.proofs.Math.Option.{Option}
 use Prim.Native.Nat.{ℕ, zero, suc, ◌+◌, ◌-◌, ◌≤◌, ◌<◌}
 use Rattle.units.specs.declared.SimTime.{SimTime}
-use Rattle.checks.specs.Checks.{Mismatch, ServerLog, check_against, check_log_matching}
-use Rattle.checks_log_matching.specs.declared.MismatchOption.{MismatchOption}
-use Rattle.checks_log_matching.specs.declared.pairs.MatchingAsked.{MatchingAsked}
-use Rattle.checks_log_matching.specs.Matching.{mismatch_of}
+use Rattle.checks.specs.Checks.{ServerLog, check_against, check_log_matching}
+use Rattle.std.specs.Prelude.{Ok, Err}
+use Rattle.std.specs.declared.result.Result.{Result}
+use Rattle.laws.specs.Bools.{pick}
+use Rattle.units.specs.declared.refusal.Refusal.{Refusal}
+use Rattle.units.specs.declared.refusal.Refusal.TheVariants.{Room}
+use Rattle.units.specs.Refusals.{refusal_number, answer_number}
+use Rattle.model.specs.Fits.{checker_fits}
 use Rattle.checks_log_matching.specs.Pairs.{reported_mismatch}
 use Rattle.model.specs.State.{State, new_server, server_at, id_of}
 use Rattle.model.specs.Fields.{with_checker}
@@ -21,12 +24,13 @@ use Rattle.state.specs.Area.{run_of}
 use Rattle.state.specs.Fitting.{area_fits}
 use Rattle.state.specs.FitsBy.{server_count}
 use Rattle.state.specs.Changes.{Inside, AreaOf, Changes, Reads, Planned}
-use Rattle.state_asks.specs.Asks.{Asks, log_of, mismatch_between, after_matching, MatchingTold}
+use Rattle.state_asks.specs.Asks.{Asks, checker_code, log_of, mismatch_between, after_matching, MatchingTold}
 use Rattle.state_checks.specs.Acts.{mismatch_reported}
 use Rattle.state_checks.specs.ActLaws.{before_mismatch}
 use Rattle.sim_checks.specs.Steps.{closed_of, each, Turning}
 use Rattle.sim_checks.specs.StepLaws.{check_open, check_asked, before_each, turn, turn_first, turn_last}
 use Rattle.sim_checks.specs.Matching.{pair_checked, against_checked, matching_checked}
+use Rattle.checks.specs.declared.Mismatch.{Mismatch}
 
 -- ---- matching_plan
 
@@ -35,23 +39,35 @@ module _ (b : List ℕ) (F : Capacity) (c : Bool) (q : Reads b F c closed_of) wh
   unfolding check_log_matching_call after_matching
   matching_open n = check_open q check_log_matching_call after_matching (λ s. refl) matching_checked n
 
-  pub matching_planned : (r : MatchingAsked) → not c ≡ false → Asks b F (MatchingTold r)
-      → Planned b F r.code check_log_matching_call tt matching_checked
-  unfolding check_log_matching_call after_matching matching_checked
-  matching_planned r n p =
-      check_asked q check_log_matching_call after_matching (λ s. refl) n r.code (λ s h ef. (p.to s h ef).code) matching_checked
-      (λ s h ef. refl)
+  module _ (r : Result ℕ Refusal) (n : not c ≡ false) (p : Asks b F (MatchingTold r)) where
+    matching_planned : (k : ℕ) → k ≡ answer_number r → Planned b F k check_log_matching_call tt matching_checked
+    unfolding check_log_matching_call after_matching matching_checked checker_code
+    matching_planned k e =
+        check_asked q check_log_matching_call after_matching (λ s. refl) n k
+        (λ s h ef. e ∙ ap answer_number (p.to s h ef).is ∙ number (checker_fits s.config s.limits (after_matching s)) (p.to s h ef).reports) matching_checked
+        (λ s h ef. refl)
+      where
+        number : (t : Bool) (m : ℕ) → answer_number (pick t (Ok m) (Err Room)) ≡ pick t 0 10
+        number true m = refl
+        number false m = refl
+
+    pub matching_fits : (m : ℕ) → r ≡ Ok m → Planned b F 0 check_log_matching_call tt matching_checked
+    matching_fits m e = matching_planned 0 (sym (ap answer_number e))
+
+    pub matching_full : (refusal : Refusal) (k : ℕ) → r ≡ Err refusal → k ≡ refusal_number refusal
+        → Planned b F k check_log_matching_call tt matching_checked
+    matching_full refusal k e f = matching_planned k (f ∙ sym (ap answer_number e))
 
 -- ---- check_pair
 
-pub pair_checked_lem : (b b₁ : List ℕ) (F : Capacity) (time : SimTime) (i j : ℕ) (r : MismatchOption)
-    → Reads b F (mismatch_of r) (mismatch_between i j)
-    → Changes b b₁ F (mismatch_reported (mismatch_of r) time (record { 0 = i + 1 }) (record { 0 = j + 1 }))
+pub pair_checked_lem : (b b₁ : List ℕ) (F : Capacity) (time : SimTime) (i j : ℕ) (r : Option Mismatch)
+    → Reads b F r (mismatch_between i j)
+    → Changes b b₁ F (mismatch_reported r time (record { 0 = i + 1 }) (record { 0 = j + 1 }))
     → Changes b b₁ F (pair_checked time i j)
 unfolding pair_checked
 pair_checked_lem b b₁ F time i j r q p = record {
   to = λ s l h u.
-      let e : mismatch_reported (mismatch_of r) time (id_of i) (id_of j) s ≡ pair_checked time i j s =
+      let e : mismatch_reported r time (id_of i) (id_of j) s ≡ pair_checked time i j s =
       ap (λ (m : Option Mismatch). mismatch_reported m time (id_of i) (id_of j) s) (q.to s h.area h.capacity) in
       subst (AreaOf b₁ l F) e (p.to s l h (ap state_fits e ∙ u));
 }

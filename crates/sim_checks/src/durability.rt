@@ -48,10 +48,8 @@ fn check_replies(area: &mut [u8], f: Capacity, time: SimTime, n: u64)
     requires { Inside area.old f }
     ensures { Changes area.old area.new f (each (reply_checked time) 0 n) }
 {
-    let mut i: u64 = 0;
-    while i < n {
+    for i in 0..n {
         check_reply(area, f, time, i as usize);
-        i += 1;
     }
 }
 
@@ -73,10 +71,8 @@ fn check_servers(area: &mut [u8], f: Capacity, time: SimTime, highest: u64)
     requires { Inside area.old f }
     ensures { Changes area.old area.new f (each (server_checked time highest) 0 f.servers) }
 {
-    let mut k: usize = 0;
-    while k < f.servers as usize {
+    for k in 0..f.servers as usize {
         check_server(area, f, time, highest, k);
-        k += 1;
     }
 }
 

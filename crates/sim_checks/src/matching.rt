@@ -23,8 +23,10 @@ fn matching_plan(area: &[u8], f: Capacity) -> u64
     if !closed {
         return 6;
     }
-    let asked = matching::matching_asked(area, f);
-    asked.code
+    match matching::matching_asked(area, f) {
+        Ok(_) => 0,
+        Err(refusal) => u64::from(refusal),
+    }
 }
 
 // The logs of the servers at two places.
@@ -46,10 +48,8 @@ fn check_against(area: &mut [u8], f: Capacity, time: SimTime, i: usize)
     requires i_lt_servers { i < f.servers }
     ensures { Changes area.old area.new f (against_checked time f.servers i) }
 {
-    let mut j = i + 1;
-    while j < f.servers as usize {
+    for j in i + 1..f.servers as usize {
         check_pair(area, f, time, i, j);
-        j += 1;
     }
 }
 
@@ -58,10 +58,8 @@ fn check_pairs(area: &mut [u8], f: Capacity, time: SimTime)
     requires { Inside area.old f }
     ensures { Changes area.old area.new f (each (against_checked time f.servers) 0 f.servers) }
 {
-    let mut i: usize = 0;
-    while i < f.servers as usize {
+    for i in 0..f.servers as usize {
         check_against(area, f, time, i);
-        i += 1;
     }
 }
 

@@ -1,12 +1,10 @@
 -- What a client's command, retry and timeout ask and do (lib.rt): what their contracts cite. Assumes nothing.
-use Rattle.std.specs.Prelude.{◌≡◌, Bool, true, ◌&&◌, ℕ, ◌+◌, eqb, length}
-use Rattle.std.proofs.Math.Option.{some}
+use Rattle.std.specs.Prelude.{◌≡◌, Bool, true, ◌&&◌, ℕ, ◌+◌, eqb, length, Some}
 use Rattle.laws.specs.Bools.{pick, ◌and◌}
 use Rattle.laws.specs.Lists.{is_some}
 use Rattle.units.specs.declared.SimTime.{SimTime}
 use Rattle.rng.specs.Rng.{under}
-use Rattle.clients.specs.Clients.{Client, client_of}
-use Rattle.clients.specs.declared.Client.{Client as ClientRow}
+use Rattle.clients.specs.declared.Client.{Client}
 use Rattle.queue.specs.Range.{word}
 use Rattle.model.specs.State.{State, client_at}
 use Rattle.model.specs.Fields.{with_target}
@@ -18,11 +16,11 @@ use Rattle.sim_attempt.specs.Attempts.{waiting, attempt_test}
 -- ---- a client
 
 -- A client with another target.
-abbrev pub target_put : ClientRow → ℕ → ClientRow
+abbrev pub target_put : Client → ℕ → Client
 target_put k target = record { target = target; next_seq = k.next_seq; attempt = k.attempt; outstanding = k.outstanding }
 
 -- Whether an attempt is the latest of a client of the code, and its command is outstanding.
-unfoldable pub awaits_in : ClientRow → ℕ → Bool
+unfoldable pub awaits_in : Client → ℕ → Bool
 awaits_in k attempt = eqb k.attempt attempt && waiting k.outstanding
 
 -- Whether an attempt is the latest of client c, and its command is outstanding.
@@ -31,11 +29,11 @@ awaits c attempt s = latest s c attempt && is_some (client_at s c).outstanding
 
 -- A client with its next command outstanding, first sent at a time.
 unfoldable pub begun : SimTime → Client → Client
-begun time k = record { target = k.target; next_seq = k.next_seq + 1; attempt = k.attempt; outstanding = some (record { seq = k.next_seq; first_sent = time }) }
+begun time k = record { target = k.target; next_seq = k.next_seq + 1; attempt = k.attempt; outstanding = Some (record { seq = k.next_seq; first_sent = time }) }
 
 -- Where the next sequence number has 64 bits, r is k with its next command outstanding.
-pub record Begins (k : ClientRow) (time : SimTime) (r : ClientRow) : Type 0 where
-  pub is : word (k.next_seq + 1) ≡ true → client_of r ≡ begun time (client_of k)
+pub record Begins (k : Client) (time : SimTime) (r : Client) : Type 0 where
+  pub is : word (k.next_seq + 1) ≡ true → r ≡ begun time k
 
 -- ---- a command begins
 

@@ -1,9 +1,8 @@
 -- What the proofs of lib.rt cite, and question 10 of a client's command, retry and timeout. Assumes nothing.
-use Rattle.std.specs.Prelude.{◌≡◌, refl, false, not, ◌&&◌, List, ℕ, ◌+◌, ◌<◌, length}
+use Rattle.std.specs.Prelude.{◌≡◌, refl, false, not, ◌&&◌, List, ℕ, ◌+◌, ◌<◌, length, Option, None, Some}
 use Rattle.std.proofs.Math.Path.{sym, ap, ap₂}
 use Rattle.std.proofs.Common.{subst, ◌∙◌, arith}
 use Rattle.std.proofs.Math.Bool.{Bool, true}
-use Rattle.std.proofs.Math.Option.{Option, none, some}
 use Rattle.std.proofs.Math.Dec.{eqb}
 use borrow.Author.Tests.{eq-eqb, ne_eqb, ltb-true, not-true, not-false}
 use Rattle.laws.specs.Bools.{pick, cases, ◌and◌, and_left}
@@ -15,10 +14,8 @@ use Rattle.rng.specs.Rng.{under}
 use Rattle.rng.specs.Laws.{under_lt}
 use Rattle.rng.specs.declared.Rng.{Rng}
 use Rattle.rng.specs.declared.Drawn.{Drawn}
-use Rattle.clients.specs.Clients.{Client, Outstanding, client_of, outstanding_of}
-use Rattle.clients.specs.declared.Client.{Client as ClientRow}
-use Rattle.clients.specs.declared.OutstandingOption.{OutstandingOption}
-use Rattle.clients.specs.declared.OutstandingOption.TheVariants.{None, Some}
+use Rattle.clients.specs.declared.Client.{Client}
+use Rattle.clients.specs.declared.Outstanding.{Outstanding}
 use Rattle.queue.specs.Range.{word}
 use Rattle.model.specs.State.{State, client_at}
 use Rattle.model.specs.Fields.{with_workload, with_target}
@@ -41,40 +38,36 @@ use Rattle.sim_clients.specs.ClientEvents.{target_put, awaits_in, awaits, begun,
 
 -- ---- a client of the code
 
-waiting_is : (o : OutstandingOption) → waiting o ≡ is_some (outstanding_of o)
-unfolding waiting outstanding_of
-waiting_is None = refl
-waiting_is (Some seq sent) = refl
+waiting_is : (o : Option Outstanding) → waiting o ≡ is_some o
+unfolding waiting
+waiting_is o = refl
 
-pub awaits_told : (k : ClientRow) (attempt : ℕ) (w : Bool) → w ≡ waiting k.outstanding → (eqb k.attempt attempt && w) ≡ awaits_in k attempt
+pub awaits_told : (k : Client) (attempt : ℕ) (w : Bool) → w ≡ waiting k.outstanding → (eqb k.attempt attempt && w) ≡ awaits_in k attempt
 unfolding awaits_in
 awaits_told k attempt w e = ap (λ (x : Bool). eqb k.attempt attempt && x) e
 
-pub begins : (k : ClientRow) (time : SimTime) (next : Sum) → Sums k.next_seq 1 next
-    → Begins k time (record { target = k.target; next_seq = next.value; attempt = k.attempt; outstanding = Some k.next_seq time })
-unfolding client_of outstanding_of begun
+pub begins : (k : Client) (time : SimTime) (next : Sum) → Sums k.next_seq 1 next
+    → Begins k time (record { target = k.target; next_seq = next.value; attempt = k.attempt; outstanding = Some (record { seq = k.next_seq; first_sent = time }) })
+unfolding begun
 begins k time next q = record {
   is = λ t.
-      ap (λ (n : ℕ). let y : Client = record { target = k.target; next_seq = n; attempt = k.attempt; outstanding = some (record { seq = k.next_seq; first_sent = time }) } in y)
+      ap (λ (n : ℕ). let y : Client = record { target = k.target; next_seq = n; attempt = k.attempt; outstanding = Some (record { seq = k.next_seq; first_sent = time }) } in y)
       (q.value (q.fits ∙ t));
 }
 
 -- what a client that was read tells of the state's
-module _ {b : List ℕ} {F : Capacity} (k : ClientRow) (c : ℕ) (q : Reads b F (client_of k) (client_read c)) {s : State} (h : Area b s) (e : F ≡ capacity_of s) where
-  pub read_is : client_of k ≡ client_at s c
+module _ {b : List ℕ} {F : Capacity} (k : Client) (c : ℕ) (q : Reads b F k (client_read c)) {s : State} (h : Area b s) (e : F ≡ capacity_of s) where
+  pub read_is : k ≡ client_at s c
   unfolding client_read
   read_is = q.to s h e
 
   pub read_waits : waiting k.outstanding ≡ is_some (client_at s c).outstanding
-  unfolding client_of
   read_waits = waiting_is k.outstanding ∙ ap (λ (x : Client). is_some x.outstanding) read_is
 
   pub read_attempt : k.attempt ≡ (client_at s c).attempt
-  unfolding client_of
   read_attempt = ap (λ (x : Client). x.attempt) read_is
 
   pub read_seq : k.next_seq ≡ (client_at s c).next_seq
-  unfolding client_of
   read_seq = ap (λ (x : Client). x.next_seq) read_is
 
   pub read_awaits : (attempt : ℕ) → awaits_in k attempt ≡ awaits c attempt s
@@ -83,7 +76,7 @@ module _ {b : List ℕ} {F : Capacity} (k : ClientRow) (c : ℕ) (q : Reads b F 
 
 -- ---- the plans
 
-module _ (b : List ℕ) (F : Capacity) (time room c : ℕ) (k : ClientRow) (w : Bool) (q : Reads b F (client_of k) (client_read c)) where
+module _ (b : List ℕ) (F : Capacity) (time room c : ℕ) (k : Client) (w : Bool) (q : Reads b F k (client_read c)) where
   pub send_waits : w ≡ waiting k.outstanding → w ≡ true → Reads b F true (send_test time room c)
   unfolding send_test
   send_waits e y = record {
@@ -184,8 +177,8 @@ module _ (s : State) (c : ℕ) (t : state_fits s ≡ true) (i : c < s.config.cli
 
 -- the workload's generator is no part of an attempt
 sent_with : (a : State) (c : ℕ) (o : Option Outstanding) (time : SimTime) (g : Rng) → send_outstanding (with_workload a g) c o time ≡ with_workload (send_outstanding a c o time) g
-sent_with a c none time g = refl
-sent_with a c (some o) time g = refl
+sent_with a c None time g = refl
+sent_with a c (Some o) time g = refl
 
 pub attempted_with : (s : State) (c : ℕ) (k : Client) (g : Rng) → attempted_as c k (workload_set g s) ≡ workload_set g (attempted_as c k s)
 unfolding attempted_as client_attempt workload_set client_set arrival_time delayed
@@ -210,8 +203,8 @@ module _ (s : State) (c attempt : ℕ) where
   timed_out_no e = ap (λ (x : Bool). pick x (client_attempt (on_client (with_workload s d.next) c (λ k. with_target k d.value)) c) s) e
 
 workload_sent : (a : State) (c : ℕ) (o : Option Outstanding) (time : SimTime) → (send_outstanding a c o time).workload ≡ a.workload
-workload_sent a c none time = refl
-workload_sent a c (some o) time = refl
+workload_sent a c None time = refl
+workload_sent a c (Some o) time = refl
 
 -- an attempt leaves the workload's generator
 workload_word : (s : State) (c : ℕ) (k : Client) → state_fits s ≡ true → word (attempted_as c k s).workload.state ≡ true
@@ -243,7 +236,7 @@ module _ (s : State) (c : ℕ) (t : state_fits s ≡ true) (i : c < s.config.cli
 
 -- ---- the acts
 
-pub sent_waits : (b : List ℕ) (F : Capacity) (c : ℕ) (k : ClientRow) (w : Bool) → Reads b F (client_of k) (client_read c) → w ≡ waiting k.outstanding → w ≡ true → Changes b b F (client_sent c)
+pub sent_waits : (b : List ℕ) (F : Capacity) (c : ℕ) (k : Client) (w : Bool) → Reads b F k (client_read c) → w ≡ waiting k.outstanding → w ≡ true → Changes b b F (client_sent c)
 unfolding client_sent client_send attempted_as client_set begun
 sent_waits b F c k w q e y = record {
   to = λ s l h t.
@@ -258,32 +251,32 @@ sent_is : (s : State) (c : ℕ) → is_some (client_at s c).outstanding ≡ fals
 unfolding client_sent client_send attempted_as client_set begun
 sent_is s c e = ap (λ (x : Bool). pick x s (attempted_as c (begun s.now (client_at s c)) s)) e
 
-pub sent_begun : (b b' : List ℕ) (F : Capacity) (c : ℕ) (k g : ClientRow) (w : Bool) (run : Run) → c < F.clients → Reads b F (client_of k) (client_read c) → w ≡ waiting k.outstanding → w ≡ false
-    → Reads b F run run_of → Begins k run.now g → Changes b b' F (attempted_as c (client_of g)) → Changes b b' F (client_sent c)
+pub sent_begun : (b b' : List ℕ) (F : Capacity) (c : ℕ) (k g : Client) (w : Bool) (run : Run) → c < F.clients → Reads b F k (client_read c) → w ≡ waiting k.outstanding → w ≡ false
+    → Reads b F run run_of → Begins k run.now g → Changes b b' F (attempted_as c g) → Changes b b' F (client_sent c)
 sent_begun b b' F c k g w run i q e y pr pg p = record {
   to = λ s l h t.
       let is : client_sent c s ≡ attempted_as c (begun s.now (client_at s c)) s = sent_is s c (sym (e ∙ read_waits k c q h.area h.capacity) ∙ y) in
       let fits : word ((client_at s c).next_seq + 1) ≡ true = and_left _ _ (sym (begun_fits s c (area_fits h.area) (clients_of h c i)) ∙ ap state_fits (sym is) ∙ t) in
-      let eg : client_of g ≡ begun s.now (client_at s c) =
+      let eg : g ≡ begun s.now (client_at s c) =
       pg.is (ap (λ (n : ℕ). word (n + 1)) (read_seq k c q h.area h.capacity) ∙ fits)
       ∙ ap₂ (λ (x : SimTime) (y : Client). begun x y) (ap (λ (x : Run). x.now) (pr.to s h.area h.capacity)) (read_is k c q h.area h.capacity) in
-      let same : attempted_as c (client_of g) s ≡ client_sent c s = ap (λ (x : Client). attempted_as c x s) eg ∙ sym is in
+      let same : attempted_as c g s ≡ client_sent c s = ap (λ (x : Client). attempted_as c x s) eg ∙ sym is in
       subst (λ (x : State). AreaOf b' l F x) same (p.to s l h (ap state_fits same ∙ t));
 }
 
-pub retry_yes : (b b' : List ℕ) (F : Capacity) (c attempt : ℕ) (k : ClientRow) → Reads b F (client_of k) (client_read c) → k.attempt ≡ attempt → Changes b b' F (attempted_as c (client_of k))
+pub retry_yes : (b b' : List ℕ) (F : Capacity) (c attempt : ℕ) (k : Client) → Reads b F k (client_read c) → k.attempt ≡ attempt → Changes b b' F (attempted_as c k)
     → Changes b b' F (client_retried c attempt)
 unfolding client_retried attempted_as
 retry_yes b b' F c attempt k q e p = record {
   to = λ s l h t.
       let y : latest s c attempt ≡ true = eq-eqb _ attempt (sym (read_attempt k c q h.area h.capacity) ∙ e) in
-      let same : attempted_as c (client_of k) s ≡ client_retried c attempt s =
+      let same : attempted_as c k s ≡ client_retried c attempt s =
       ap (λ (x : Client). attempted_as c x s) (read_is k c q h.area h.capacity) ∙ ap (λ (x : State). client_attempt x c) (client_same s c)
       ∙ sym (ap (λ (x : Bool). pick x (client_attempt s c) s) y) in
       subst (λ (x : State). AreaOf b' l F x) same (p.to s l h (ap state_fits same ∙ t));
 }
 
-pub retry_no : (b : List ℕ) (F : Capacity) (c attempt : ℕ) (k : ClientRow) → Reads b F (client_of k) (client_read c) → (k.attempt ≡ attempt → ⊥) → Changes b b F (client_retried c attempt)
+pub retry_no : (b : List ℕ) (F : Capacity) (c attempt : ℕ) (k : Client) → Reads b F k (client_read c) → (k.attempt ≡ attempt → ⊥) → Changes b b F (client_retried c attempt)
 unfolding client_retried
 retry_no b F c attempt k q n = record {
   to = λ s l h t.
@@ -291,7 +284,7 @@ retry_no b F c attempt k q n = record {
       (sym (ap (λ (x : Bool). pick x (client_attempt s c) s) (ne_eqb _ attempt (λ e. n (read_attempt k c q h.area h.capacity ∙ e))))) h;
 }
 
-pub timeout_no : (b : List ℕ) (F : Capacity) (c attempt : ℕ) (k : ClientRow) (w : Bool) → Reads b F (client_of k) (client_read c) → w ≡ awaits_in k attempt → not w ≡ true
+pub timeout_no : (b : List ℕ) (F : Capacity) (c attempt : ℕ) (k : Client) (w : Bool) → Reads b F k (client_read c) → w ≡ awaits_in k attempt → not w ≡ true
     → Changes b b F (client_timed_out c attempt)
 timeout_no b F c attempt k w q e n = record {
   to = λ s l h t. subst (λ (x : State). AreaOf b l F x) (sym (timed_out_no s c attempt (sym (e ∙ read_awaits k c q h.area h.capacity attempt) ∙ not-true w n))) h;
@@ -302,21 +295,20 @@ pub drawn_is : {b r : List ℕ} {F : Capacity} {s : State} (h : AreaOf b r F s) 
 drawn_is {b} {r} {F} {s} h w d pw e =
     e ∙ ap₂ (λ (x : Run) (n : ℕ). under x.workload n) (pw.to s h.area h.capacity) (ap (λ (G : Capacity). G.servers) h.capacity ∙ sym (server_count s (area_fits h.area)))
 
-pub moved_is : (k m : ClientRow) (n : ℕ) → m ≡ target_put k n → client_of m ≡ with_target (client_of k) n
-unfolding client_of
-moved_is k m n e = ap client_of e
+pub moved_is : (k m : Client) (n : ℕ) → m ≡ target_put k n → m ≡ with_target k n
+moved_is k m n e = e
 
-pub timeout_yes : (b b₁ b₂ : List ℕ) (F : Capacity) (c attempt : ℕ) (k m : ClientRow) (w : Bool) (run : Run) (d : Drawn) → Reads b F (client_of k) (client_read c) → w ≡ awaits_in k attempt → not w ≡ false
-    → Reads b F run run_of → d ≡ under run.workload F.servers → m ≡ target_put k d.value → Changes b b₁ F (attempted_as c (client_of m)) → Changes b₁ b₂ F (workload_set d.next)
+pub timeout_yes : (b b₁ b₂ : List ℕ) (F : Capacity) (c attempt : ℕ) (k m : Client) (w : Bool) (run : Run) (d : Drawn) → Reads b F k (client_read c) → w ≡ awaits_in k attempt → not w ≡ false
+    → Reads b F run run_of → d ≡ under run.workload F.servers → m ≡ target_put k d.value → Changes b b₁ F (attempted_as c m) → Changes b₁ b₂ F (workload_set d.next)
     → Changes b b₂ F (client_timed_out c attempt)
 timeout_yes b b₁ b₂ F c attempt k m w run d q e n pr ed em p₁ p₂ = record {
   to = λ s l h t.
-      let s₁ : State = attempted_as c (client_of m) s in
+      let s₁ : State = attempted_as c m s in
       let same : workload_set d.next s₁ ≡ client_timed_out c attempt s =
       ap (λ (x : Client). workload_set d.next (attempted_as c x s)) (moved_is k m d.value em)
       ∙ ap₂ (λ (x : Drawn) (y : Client). workload_set x.next (attempted_as c (with_target y x.value) s)) (drawn_is h run d pr ed) (read_is k c q h.area h.capacity)
       ∙ sym (timed_out_is s c attempt (sym (e ∙ read_awaits k c q h.area h.capacity attempt) ∙ not-false w n)) in
       let t₂ : state_fits (workload_set d.next s₁) ≡ true = ap state_fits same ∙ t in
-      let t₁ : state_fits s₁ ≡ true = and_right _ _ (sym (fits_workload s₁ d.next (workload_word s c (client_of m) (area_fits h.area))) ∙ t₂) in
+      let t₁ : state_fits s₁ ≡ true = and_right _ _ (sym (fits_workload s₁ d.next (workload_word s c m (area_fits h.area))) ∙ t₂) in
       subst (λ (x : State). AreaOf b₂ l F x) same (p₂.to s₁ l (p₁.to s l h t₁) t₂);
 }

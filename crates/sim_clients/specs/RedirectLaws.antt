@@ -1,22 +1,18 @@
 -- What the proofs of redirects.rt cite, and question 10 of a redirect. Assumes nothing.
-use Rattle.std.specs.Prelude.{◌≡◌, not, ◌&&◌, List, ℕ, ◌+◌, ◌-◌, ◌^◌, ◌≤◌, ◌<◌, length}
+use Rattle.std.specs.Prelude.{◌≡◌, not, ◌&&◌, List, ℕ, ◌+◌, ◌-◌, ◌^◌, ◌≤◌, ◌<◌, length, Option, None, Some}
 use Rattle.std.proofs.Math.Path.{refl, sym, ap, ap₂, subst}
 use Rattle.std.proofs.Common.{◌∙◌, arith}
 use Rattle.std.proofs.Math.Bool.{Bool, true, false}
-use Rattle.std.proofs.Math.Option.{none, some}
 use Rattle.std.proofs.Math.Dec.{leb}
 use borrow.Author.Tests.{lt-ltb, le-leb, lt-leb, leb-true, eqb-true, not-true, not-false}
 use Rattle.laws.specs.Bools.{pick, cases, ◌and◌, and_true, first_true, second_true}
 use Rattle.laws.proofs.BoolLaws.{and_right, and_both, code_and}
 use Rattle.laws.specs.Lists.{is_some}
 use Rattle.units.specs.declared.NodeId.{NodeId}
-use Rattle.units.specs.declared.NodeOption.{NodeOption}
-use Rattle.units.specs.declared.NodeOption.TheVariants as node
 use Rattle.rng.specs.Rng.{under}
 use Rattle.rng.specs.declared.Drawn.{Drawn}
 use Rattle.config.specs.declared.SimConfig.{SimConfig}
-use Rattle.clients.specs.Clients.{Client, client_of}
-use Rattle.clients.specs.declared.Client.{Client as ClientRow}
+use Rattle.clients.specs.declared.Client.{Client}
 use Rattle.queue.specs.Queue.{Scheduled}
 use Rattle.queue.specs.Range.{word}
 use Rattle.queue.specs.declared.Event.TheVariants as event
@@ -40,20 +36,18 @@ use Rattle.sim_outputs.specs.Outputs.{Sums}
 use Rattle.sim_attempt.specs.Attempts.{room_of, attempt_test, attempted_as}
 use Rattle.sim_attempt.specs.Laws.{client_changed, limits_of, room_is, number_tests, fits_set}
 use Rattle.sim_attempt.specs.Acts.{time_word}
-use Rattle.sim_clients.specs.declared.redirects.SlotOption.{SlotOption}
-use Rattle.sim_clients.specs.declared.redirects.SlotOption.TheVariants.{None, Some}
 use Rattle.sim_clients.specs.ClientEvents.{target_put, awaits_in, awaits, target_drawn}
 use Rattle.sim_clients.specs.Redirects.{known_in, is_known, backoff_time, backoff_fits, BacksOff, redirect_test, retry_put, followed, client_redirected}
 use Rattle.sim_clients.specs.EventLaws.{read_is, read_attempt, read_awaits, seq_word, attempt_word, outstanding_fits_lem, drawn_below, moved_fits, waits_of, drawn_is, moved_is}
 
 -- ---- where to
 
-module _ (hint : NodeOption) (servers : ℕ) where
-  pub known_none : hint ≡ node.None → None ≡ known_in servers hint
+module _ (hint : Option NodeId) (servers : ℕ) where
+  pub known_none : hint ≡ None → None ≡ known_in servers hint
   unfolding known_in
   known_none e = ap (known_in servers) (sym e)
 
-  module _ (id : NodeId) (e : hint ≡ node.Some id) where
+  module _ (id : NodeId) (e : hint ≡ Some id) where
     by_test : (t : Bool) → (leb 1 id.0 && leb id.0 servers) ≡ t → pick t (Some (id.0 - 1)) None ≡ known_in servers hint
     unfolding known_in
     by_test t h = ap (λ (x : Bool). pick x (Some (id.0 - 1)) None) (sym h) ∙ ap (known_in servers) (sym e)
@@ -67,41 +61,41 @@ module _ (hint : NodeOption) (servers : ℕ) where
     pub known_yes : 1 ≤ id.0 → id.0 ≤ servers → Some (id.0 - 1) ≡ known_in servers hint
     known_yes h k = by_test true (ap₂ (λ (x y : Bool). x && y) (le-leb 1 id.0 h) (le-leb id.0 servers k))
 
-pub is_known_no : (o : SlotOption) → o ≡ None → false ≡ is_known o
+pub is_known_no : (o : Option ℕ) → o ≡ None → false ≡ is_known o
 unfolding is_known
 is_known_no o e = ap is_known (sym e)
 
-pub is_known_yes : (o : SlotOption) (n : ℕ) → o ≡ Some n → true ≡ is_known o
+pub is_known_yes : (o : Option ℕ) (n : ℕ) → o ≡ Some n → true ≡ is_known o
 unfolding is_known
 is_known_yes o n e = ap is_known (sym e)
 
 -- ---- the definition
 
 module _ (s : State) (c attempt : ℕ) where
-  follow_none : follow s c attempt none ≡ retry_put c (client_at s c) attempt s
+  follow_none : follow s c attempt None ≡ retry_put c (client_at s c) attempt s
   unfolding retry_put target_drawn workload_set pushed plain backoff_time client_set
   follow_none =
       let d = under s.workload (length s.servers) in
       ap (λ (x : State). push_event x (later s.now s.config.client_backoff) (event.ClientRetry c attempt)) (client_changed (with_workload s d.next) c (λ k. with_target k d.value))
 
-  follow_some : (slot : ℕ) → follow s c attempt (some slot) ≡ attempted_as c (with_target (client_at s c) slot) s
+  follow_some : (slot : ℕ) → follow s c attempt (Some slot) ≡ attempted_as c (with_target (client_at s c) slot) s
   unfolding attempted_as
   follow_some slot = ap (λ (x : State). client_attempt x c) (client_changed s c (λ k. with_target k slot))
 
-  pub followed_is : (hint : NodeOption) → follow s c attempt (known_slot s hint) ≡ followed c (client_at s c) attempt (known_in (length s.servers) hint) s
+  pub followed_is : (hint : Option NodeId) → follow s c attempt (known_slot s hint) ≡ followed c (client_at s c) attempt (known_in (length s.servers) hint) s
   unfolding followed known_in
-  followed_is node.None = follow_none
-  followed_is (node.Some id) = by (leb 1 id.0 && leb id.0 (length s.servers))
+  followed_is None = follow_none
+  followed_is (Some id) = by (leb 1 id.0 && leb id.0 (length s.servers))
     where
-      by : (t : Bool) → follow s c attempt (pick t (some (id.0 - 1)) none) ≡ followed c (client_at s c) attempt (pick t (Some (id.0 - 1)) None) s
+      by : (t : Bool) → follow s c attempt (pick t (Some (id.0 - 1)) None) ≡ followed c (client_at s c) attempt (pick t (Some (id.0 - 1)) None) s
       by true = follow_some (id.0 - 1)
       by false = follow_none
 
-  pub redirected_no : (hint : NodeOption) → awaits c attempt s ≡ false → client_redirected c attempt hint s ≡ s
+  pub redirected_no : (hint : Option NodeId) → awaits c attempt s ≡ false → client_redirected c attempt hint s ≡ s
   unfolding awaits client_redirected client_redirect
   redirected_no hint e = ap (λ (x : Bool). pick x (follow s c attempt (known_slot s hint)) s) e
 
-  pub redirected_is : (hint : NodeOption) → awaits c attempt s ≡ true → client_redirected c attempt hint s ≡ followed c (client_at s c) attempt (known_in (length s.servers) hint) s
+  pub redirected_is : (hint : Option NodeId) → awaits c attempt s ≡ true → client_redirected c attempt hint s ≡ followed c (client_at s c) attempt (known_in (length s.servers) hint) s
   unfolding awaits client_redirected client_redirect
   redirected_is hint e = ap (λ (x : Bool). pick x (follow s c attempt (known_slot s hint)) s) e ∙ followed_is hint
 
@@ -159,12 +153,12 @@ module _ (s : State) (c : ℕ) (t : state_fits s ≡ true) (i : c < s.config.cli
   moved_tests attempt slot e o =
       moved_fits s c t i slot o ∙ ap (λ (x : Bool). pick x (attempt_test s.now.0 (room_of s) (client_at s c).attempt s) true) (waits_of s c attempt e)
 
-  followed_fits : (attempt : ℕ) (hint : NodeOption) → awaits c attempt s ≡ true
+  followed_fits : (attempt : ℕ) (hint : Option NodeId) → awaits c attempt s ≡ true
       → state_fits (followed c (client_at s c) attempt (known_in (length s.servers) hint) s)
       ≡ pick (is_known (known_in (length s.servers) hint)) (attempt_test s.now.0 (room_of s) (client_at s c).attempt s) (leb 1 (room_of s) and backoff_fits s.now.0 s)
   unfolding followed known_in is_known
-  followed_fits attempt node.None e = retry_fits attempt (latest_word attempt e)
-  followed_fits attempt (node.Some id) e = by (leb 1 id.0 && leb id.0 (length s.servers)) refl
+  followed_fits attempt None e = retry_fits attempt (latest_word attempt e)
+  followed_fits attempt (Some id) e = by (leb 1 id.0 && leb id.0 (length s.servers)) refl
     where
       by : (u : Bool) → (leb 1 id.0 && leb id.0 (length s.servers)) ≡ u
           → state_fits (followed c (client_at s c) attempt (pick u (Some (id.0 - 1)) None) s)
@@ -174,7 +168,7 @@ module _ (s : State) (c : ℕ) (t : state_fits s ≡ true) (i : c < s.config.cli
           (omega (arith, server_count s t, leb-true 1 id.0 (first_true _ _ h), leb-true id.0 (length s.servers) (second_true (leb 1 id.0) (leb id.0 (length s.servers)) h)))
       by false h = retry_fits attempt (latest_word attempt e)
 
-  pub fits_redirect : (attempt : ℕ) (hint : NodeOption) → state_fits (client_redirected c attempt hint s) ≡ redirect_test s.now.0 (room_of s) c attempt hint s
+  pub fits_redirect : (attempt : ℕ) (hint : Option NodeId) → state_fits (client_redirected c attempt hint s) ≡ redirect_test s.now.0 (room_of s) c attempt hint s
   unfolding redirect_test
   fits_redirect attempt hint =
       let test : Bool = attempt_test s.now.0 (room_of s) (client_at s c).attempt s in
@@ -198,7 +192,7 @@ backoff_read b F time c r pc q =
 servers_are : {b : List ℕ} {F : Capacity} {s : State} → Area b s → F ≡ capacity_of s → F.servers ≡ length s.servers
 servers_are {b} {F} {s} h e = ap (λ (G : Capacity). G.servers) e ∙ sym (server_count s (area_fits h))
 
-module _ (b : List ℕ) (F : Capacity) (time room c attempt : ℕ) (hint : NodeOption) (k : ClientRow) (w : Bool) (q : Reads b F (client_of k) (client_read c)) (e : w ≡ awaits_in k attempt) where
+module _ (b : List ℕ) (F : Capacity) (time room c attempt : ℕ) (hint : Option NodeId) (k : Client) (w : Bool) (q : Reads b F k (client_read c)) (e : w ≡ awaits_in k attempt) where
   pub redirect_old : not w ≡ true → Reads b F true (redirect_test time room c attempt hint)
   unfolding redirect_test
   redirect_old n = record {
@@ -207,7 +201,7 @@ module _ (b : List ℕ) (F : Capacity) (time room c attempt : ℕ) (hint : NodeO
         (sym (e ∙ read_awaits k c q h ef attempt) ∙ not-true w n));
   }
 
-  module _ (o : SlotOption) (u : Bool) (n : not w ≡ false) (eo : o ≡ known_in F.servers hint) (eu : u ≡ is_known o) where
+  module _ (o : Option ℕ) (u : Bool) (n : not w ≡ false) (eo : o ≡ known_in F.servers hint) (eu : u ≡ is_known o) where
     test_is : (s : State) → Area b s → F ≡ capacity_of s → redirect_test time room c attempt hint s ≡ pick u (attempt_test time room k.attempt s) (leb 1 room and backoff_fits time s)
     unfolding redirect_test
     test_is s h ef =
@@ -234,14 +228,14 @@ drawn_same : (s : State) (c : ℕ) (k : Client) (d : Drawn) → d ≡ under s.wo
 unfolding target_drawn
 drawn_same s c k d e = ap (λ (x : Drawn). workload_set x.next (client_set c (with_target k x.value) s)) e
 
-pub drawn_acts : (b b₁ b₂ : List ℕ) (F : Capacity) (c : ℕ) (k m : ClientRow) (run : Run) (d : Drawn) → Reads b F run run_of → d ≡ under run.workload F.servers → m ≡ target_put k d.value
-    → Changes b b₁ F (client_set c (client_of m)) → Changes b₁ b₂ F (workload_set d.next) → Changes b b₂ F (target_drawn c (client_of k))
+pub drawn_acts : (b b₁ b₂ : List ℕ) (F : Capacity) (c : ℕ) (k m : Client) (run : Run) (d : Drawn) → Reads b F run run_of → d ≡ under run.workload F.servers → m ≡ target_put k d.value
+    → Changes b b₁ F (client_set c m) → Changes b₁ b₂ F (workload_set d.next) → Changes b b₂ F (target_drawn c k)
 drawn_acts b b₁ b₂ F c k m run d pr ed em p₁ p₂ = record {
   to = λ s l h t.
-      let s₁ : State = client_set c (client_of m) s in
-      let same : workload_set d.next s₁ ≡ target_drawn c (client_of k) s = ap (λ (x : Client). workload_set d.next (client_set c x s)) (moved_is k m d.value em) ∙ drawn_same s c (client_of k) d (drawn_is h run d pr ed) in
+      let s₁ : State = client_set c m s in
+      let same : workload_set d.next s₁ ≡ target_drawn c k s = ap (λ (x : Client). workload_set d.next (client_set c x s)) (moved_is k m d.value em) ∙ drawn_same s c k d (drawn_is h run d pr ed) in
       let t₂ : state_fits (workload_set d.next s₁) ≡ true = ap state_fits same ∙ t in
-      let t₁ : state_fits s₁ ≡ true = and_right _ _ (sym (fits_workload s₁ d.next (unworked s c (client_of m) ∙ fits_test s (area_fits h.area) 11)) ∙ t₂) in
+      let t₁ : state_fits s₁ ≡ true = and_right _ _ (sym (fits_workload s₁ d.next (unworked s c m ∙ fits_test s (area_fits h.area) 11)) ∙ t₂) in
       subst (λ (x : State). AreaOf b₂ l F x) same (p₂.to s₁ l (p₁.to s l h t₁) t₂);
 }
 
@@ -261,28 +255,28 @@ retry_acts b b₁ b₂ F c k attempt run end pr pe p₁ p₂ = record {
       subst (λ (x : State). AreaOf b₂ l F x) same (p₂.to s₁ l (p₁.to s l h t₁) (ap state_fits same ∙ t));
 }
 
-module _ (b b' : List ℕ) (F : Capacity) (c : ℕ) (k : ClientRow) (attempt : ℕ) (o : SlotOption) where
-  pub follow_later : o ≡ None → Changes b b' F (retry_put c (client_of k) attempt) → Changes b b' F (followed c (client_of k) attempt o)
+module _ (b b' : List ℕ) (F : Capacity) (c : ℕ) (k : Client) (attempt : ℕ) (o : Option ℕ) where
+  pub follow_later : o ≡ None → Changes b b' F (retry_put c k attempt) → Changes b b' F (followed c k attempt o)
   unfolding followed
-  follow_later e p = subst (λ (x : SlotOption). Changes b b' F (followed c (client_of k) attempt x)) (sym e) (record { to = λ s l h t. p.to s l h t })
+  follow_later e p = subst (λ (x : Option ℕ). Changes b b' F (followed c k attempt x)) (sym e) (record { to = λ s l h t. p.to s l h t })
 
-  pub follow_now : (slot : ℕ) (m : ClientRow) → o ≡ Some slot → m ≡ target_put k slot → Changes b b' F (attempted_as c (client_of m)) → Changes b b' F (followed c (client_of k) attempt o)
+  pub follow_now : (slot : ℕ) (m : Client) → o ≡ Some slot → m ≡ target_put k slot → Changes b b' F (attempted_as c m) → Changes b b' F (followed c k attempt o)
   unfolding followed
   follow_now slot m e em p =
-      let q : Changes b b' F (attempted_as c (with_target (client_of k) slot)) = subst (λ (x : Client). Changes b b' F (attempted_as c x)) (moved_is k m slot em) p in
-      subst (λ (x : SlotOption). Changes b b' F (followed c (client_of k) attempt x)) (sym e) (record { to = λ s l h t. q.to s l h t })
+      let q : Changes b b' F (attempted_as c (with_target k slot)) = subst (λ (x : Client). Changes b b' F (attempted_as c x)) (moved_is k m slot em) p in
+      subst (λ (x : Option ℕ). Changes b b' F (followed c k attempt x)) (sym e) (record { to = λ s l h t. q.to s l h t })
 
-module _ (b b' : List ℕ) (F : Capacity) (c attempt : ℕ) (hint : NodeOption) (k : ClientRow) (w : Bool) (q : Reads b F (client_of k) (client_read c)) (e : w ≡ awaits_in k attempt) where
+module _ (b b' : List ℕ) (F : Capacity) (c attempt : ℕ) (hint : Option NodeId) (k : Client) (w : Bool) (q : Reads b F k (client_read c)) (e : w ≡ awaits_in k attempt) where
   pub redirect_kept : not w ≡ true → Changes b b F (client_redirected c attempt hint)
   redirect_kept n = record {
     to = λ s l h t. subst (λ (x : State). AreaOf b l F x) (sym (redirected_no s c attempt hint (sym (e ∙ read_awaits k c q h.area h.capacity attempt) ∙ not-true w n))) h;
   }
 
-  pub redirect_done : (o : SlotOption) → not w ≡ false → o ≡ known_in F.servers hint → Changes b b' F (followed c (client_of k) attempt o) → Changes b b' F (client_redirected c attempt hint)
+  pub redirect_done : (o : Option ℕ) → not w ≡ false → o ≡ known_in F.servers hint → Changes b b' F (followed c k attempt o) → Changes b b' F (client_redirected c attempt hint)
   redirect_done o n eo p = record {
     to = λ s l h t.
-        let same : followed c (client_of k) attempt o s ≡ client_redirected c attempt hint s =
-        ap₂ (λ (x : Client) (y : SlotOption). followed c x attempt y s) (read_is k c q h.area h.capacity) (eo ∙ ap (λ (m : ℕ). known_in m hint) (servers_are h.area h.capacity))
+        let same : followed c k attempt o s ≡ client_redirected c attempt hint s =
+        ap₂ (λ (x : Client) (y : Option ℕ). followed c x attempt y s) (read_is k c q h.area h.capacity) (eo ∙ ap (λ (m : ℕ). known_in m hint) (servers_are h.area h.capacity))
         ∙ sym (redirected_is s c attempt hint (sym (e ∙ read_awaits k c q h.area h.capacity attempt) ∙ not-false w n)) in
         subst (λ (x : State). AreaOf b' l F x) same (p.to s l h (ap state_fits same ∙ t));
   }

@@ -1,14 +1,11 @@
 -- What a reply asks and does (replies.rt): what its contracts cite. Assumes nothing.
-use Rattle.std.specs.Prelude.{◌≡◌, Bool, true, false, ℕ, ◌+◌, eqb, leb, length}
-use Rattle.std.proofs.Math.Option.{Option, none, some}
+use Rattle.std.specs.Prelude.{◌≡◌, Bool, true, false, ℕ, ◌+◌, eqb, leb, length, Option, None, Some}
 use Rattle.laws.specs.Bools.{pick, ◌and◌}
 use Rattle.units.specs.declared.LogIndex.{LogIndex}
 use Rattle.units.specs.declared.SimTime.{SimTime}
 use Rattle.metrics.specs.Metrics.{counters_fit, record_reply}
-use Rattle.clients.specs.Clients.{Client, Outstanding, client_of}
-use Rattle.clients.specs.declared.Client.{Client as ClientRow}
-use Rattle.clients.specs.declared.OutstandingOption.{OutstandingOption}
-use Rattle.clients.specs.declared.OutstandingOption.TheVariants.{None, Some}
+use Rattle.clients.specs.declared.Client.{Client}
+use Rattle.clients.specs.declared.Outstanding.{Outstanding}
 use Rattle.queue.specs.Range.{word}
 use Rattle.queue.specs.declared.Event.TheVariants as event
 use Rattle.model.specs.State.{State, client_at}
@@ -19,15 +16,10 @@ use Rattle.state_queue.specs.Events.{plain, pushed}
 
 -- ---- what is asked
 
--- Whether a reply is to the outstanding command of a client of the code.
-unfoldable pub answers_in : OutstandingOption → ℕ → Bool
-answers_in None seq = false
-answers_in (Some own sent) seq = eqb own seq
-
 -- Whether a reply is to the outstanding command.
 unfoldable pub answers_to : Option Outstanding → ℕ → Bool
-answers_to none seq = false
-answers_to (some o) seq = eqb o.seq seq
+answers_to None seq = false
+answers_to (Some o) seq = eqb o.seq seq
 
 -- Whether the counters with one reply more have 64 bits.
 unfoldable pub replies_room : State → Bool
@@ -49,11 +41,11 @@ reply_counted s = with_metrics s (record_reply s.metrics)
 
 -- A client with nothing outstanding, in its next attempt.
 unfoldable pub rested : Client → Client
-rested k = with_attempt (with_outstanding k none) (k.attempt + 1)
+rested k = with_attempt (with_outstanding k None) (k.attempt + 1)
 
 -- Where the next attempt has 64 bits, r is k with nothing outstanding.
-pub record RestsAs (k r : ClientRow) : Type 0 where
-  pub is : word (k.attempt + 1) ≡ true → client_of r ≡ rested (client_of k)
+pub record RestsAs (k r : Client) : Type 0 where
+  pub is : word (k.attempt + 1) ≡ true → r ≡ rested k
 
 -- The state with client c, which was k, going on at a time.
 unfoldable pub went_on : ℕ → Client → SimTime → State → State

@@ -1,25 +1,22 @@
 -- What the proofs of replies.rt cite, and question 10 of a reply. Assumes nothing.
-use Rattle.std.specs.Prelude.{◌≡◌, false, not, ◌&&◌, List, [], ◌∷◌, ◌++◌, ℕ, ◌+◌, ◌^◌, ◌≤◌, ◌<◌, eqb, ltb, length}
+use Rattle.std.specs.Prelude.{◌≡◌, false, not, ◌&&◌, List, [], ◌∷◌, ◌++◌, ℕ, ◌+◌, ◌^◌, ◌≤◌, ◌<◌, eqb, ltb, length, Option, None, Some}
 use Rattle.std.proofs.Math.Path.{refl, sym, ap, ap₂, subst}
 use Rattle.std.proofs.Common.{◌∙◌, arith}
 use Rattle.std.proofs.Math.Bool.{Bool, true}
-use Rattle.std.proofs.Math.Option.{Option, none, some}
 use Rattle.std.proofs.Math.Dec.{leb}
 use borrow.Author.Tests.{lt-ltb, le-leb, leb-true, ltb-true, eq-eqb, ne_eqb, eqb-true, not-true, not-false}
-use Rattle.laws.specs.Bools.{pick, cases, ◌and◌, and_left, and_true, and_assoc}
-use Rattle.laws.proofs.BoolLaws.{and_right, and_both, true_and, code_and}
+use Rattle.laws.specs.Bools.{pick, cases, ◌and◌, and_left, and_true}
+use Rattle.laws.proofs.BoolLaws.{and_right, and_both, true_and}
 use Rattle.units.specs.declared.LogIndex.{LogIndex}
 use Rattle.units.specs.declared.SimTime.{SimTime}
 use Rattle.metrics.specs.declared.Metrics.{Metrics}
-use Rattle.metrics.specs.declared.Counted.{Counted}
-use Rattle.metrics.specs.Metrics.{counters_fit, record_reply, counted}
+use Rattle.std.specs.Option.{is_some, unwrap_or}
+use Rattle.metrics.specs.Metrics.{counters_fit, record_reply, counted, Counting}
 use Rattle.metrics.specs.Laws.{counters_fit_lem, replied_in_range, counted_fits}
 use Rattle.checks_durability.specs.declared.replies.Reply.{Reply}
 use Rattle.checks_durability.specs.Replies as table
-use Rattle.clients.specs.Clients.{Client, Outstanding, client_of, outstanding_of}
-use Rattle.clients.specs.declared.Client.{Client as ClientRow}
-use Rattle.clients.specs.declared.OutstandingOption.{OutstandingOption}
-use Rattle.clients.specs.declared.OutstandingOption.TheVariants.{None, Some}
+use Rattle.clients.specs.declared.Client.{Client}
+use Rattle.clients.specs.declared.Outstanding.{Outstanding}
 use Rattle.queue.specs.Queue.{Scheduled}
 use Rattle.queue.specs.Range.{word}
 use Rattle.queue.specs.declared.Event.TheVariants as event
@@ -45,38 +42,33 @@ use Rattle.sim_attempt.specs.Attempts.{room_of}
 use Rattle.sim_attempt.specs.Acts as attempt
 use Rattle.sim_attempt.specs.Laws.{client_changed, client_count, limits_of, room_is}
 use Rattle.sim_attempt.specs.Acts.{four_is}
-use Rattle.sim_clients.specs.Replies.{answers_in, answers_to, replies_room, reply_test, reply_counted, rested, RestsAs, went_on, reply_taken, client_replied}
-use Rattle.sim_clients.specs.EventLaws.{read_is, read_attempt, target_below, seq_word, attempt_word, outstanding_fits_lem, now_word, clients_of}
+use Rattle.sim_clients.specs.Replies.{answers_to, replies_room, reply_test, reply_counted, rested, RestsAs, went_on, reply_taken, client_replied}
+use Rattle.sim_clients.specs.EventLaws.{read_is, read_attempt, target_below, seq_word, outstanding_fits_lem, now_word, clients_of}
 
 -- ---- what is asked
 
-pub answers_none : (o : OutstandingOption) (seq : ℕ) → o ≡ None → false ≡ answers_in o seq
-unfolding answers_in
-answers_none o seq e = ap (λ (x : OutstandingOption). answers_in x seq) (sym e)
+pub answers_none : (o : Option Outstanding) (seq : ℕ) → o ≡ None → false ≡ answers_to o seq
+unfolding answers_to
+answers_none o seq e = ap (λ (x : Option Outstanding). answers_to x seq) (sym e)
 
-pub answers_some : (o : OutstandingOption) (seq own : ℕ) (sent : SimTime) → o ≡ Some own sent → eqb own seq ≡ answers_in o seq
-unfolding answers_in
-answers_some o seq own sent e = ap (λ (x : OutstandingOption). answers_in x seq) (sym e)
+pub answers_some : (o : Option Outstanding) (seq : ℕ) (sent : Outstanding) → o ≡ Some sent → eqb sent.seq seq ≡ answers_to o seq
+unfolding answers_to
+answers_some o seq sent e = ap (λ (x : Option Outstanding). answers_to x seq) (sym e)
 
-answers_is : (o : OutstandingOption) (seq : ℕ) → answers_in o seq ≡ answers_to (outstanding_of o) seq
-unfolding answers_in answers_to outstanding_of
-answers_is None seq = refl
-answers_is (Some own sent) seq = refl
-
-pub replies_read : (b : List ℕ) (F : Capacity) (m : Metrics) (c : Counted) → Reads b F m metrics_of → c ≡ counted m (record_reply m) → Reads b F c.fits replies_room
+pub replies_read : (b : List ℕ) (F : Capacity) (m : Metrics) (c : Option Metrics) (fits : Bool) → Reads b F m metrics_of → Counting (record_reply m) c → fits ≡ is_some c
+    → Reads b F fits replies_room
 unfolding metrics_of replies_room
-replies_read b F m c r e = record {
-  to = λ s h ef. ap (λ (x : Counted). x.fits) e ∙ counted_fits m (record_reply m) ∙ ap (λ (x : Metrics). counters_fit (record_reply x)) (r.to s h ef);
+replies_read b F m c fits r e t = record {
+  to = λ s h ef. t ∙ ap is_some e.value ∙ counted_fits (record_reply m) ∙ ap (λ (x : Metrics). counters_fit (record_reply x)) (r.to s h ef);
 }
 
 below_is : (n m : ℕ) → ltb n m ≡ leb (n + 1) m
 below_is n m =
     same_tests (ltb n m) (leb (n + 1) m) (λ h. le-leb (n + 1) m (omega (arith, ltb-true n m h))) (λ h. lt-ltb n m (omega (arith, leb-true (n + 1) m h)))
 
-module _ (b : List ℕ) (F : Capacity) (room c seq : ℕ) (k : ClientRow) (w : Bool) (q : Reads b F (client_of k) (client_read c)) (e : w ≡ answers_in k.outstanding seq) where
+module _ (b : List ℕ) (F : Capacity) (room c seq : ℕ) (k : Client) (w : Bool) (q : Reads b F k (client_read c)) (e : w ≡ answers_to k.outstanding seq) where
   answers_read : (s : State) → Area b s → F ≡ capacity_of s → w ≡ answers_to (client_at s c).outstanding seq
-  unfolding client_of
-  answers_read s h ef = e ∙ answers_is k.outstanding seq ∙ ap (λ (x : Client). answers_to x.outstanding seq) (read_is k c q h ef)
+  answers_read s h ef = e ∙ ap (λ (x : Client). answers_to x.outstanding seq) (read_is k c q h ef)
 
   abbrev tests : State → Bool
   tests s = leb 1 room and (word ((client_at s c).attempt + 1) and (leb (length s.replies + 1) s.limits.history and replies_room s))
@@ -99,33 +91,35 @@ module _ (b : List ℕ) (F : Capacity) (room c seq : ℕ) (k : ClientRow) (w : B
 
 -- ---- what is done
 
-pub reply_counted_lem : (b b' : List ℕ) (F : Capacity) (m : Metrics) (c : Counted) → Reads b F m metrics_of → c ≡ counted m (record_reply m) → Changes b b' F (metrics_set c.metrics) → Changes b b' F reply_counted
+pub reply_counted_lem : (b b' : List ℕ) (F : Capacity) (m : Metrics) (c : Option Metrics) (next : Metrics) → Reads b F m metrics_of → Counting (record_reply m) c
+    → next ≡ unwrap_or c m → Changes b b' F (metrics_set next) → Changes b b' F reply_counted
 unfolding metrics_of metrics_set reply_counted
-reply_counted_lem b b' F m c pm ec k = record {
+reply_counted_lem b b' F m c next pm ec en k = record {
   to = λ s l h t.
       let new : Metrics = record_reply s.metrics in
       let fit : counters_fit new ≡ true = counters_fit_lem s.config.servers new (fits_test (reply_counted s) t 12) in
-      let e : c.metrics ≡ new =
-      ap (λ (x : Counted). x.metrics) (ec ∙ ap (λ (x : Metrics). counted x (record_reply x)) (pm.to s h.area h.capacity)) ∙ counted_is s.metrics new fit in
+      let e : next ≡ new =
+      en ∙ ap (λ (x : Option Metrics). unwrap_or x m) ec.value ∙ ap (λ (x : Metrics). unwrap_or (counted (record_reply x)) x) (pm.to s h.area h.capacity)
+      ∙ counted_is s.metrics new fit in
       subst (λ (x : Metrics). AreaOf b' l F (metrics_set x s)) e (k.to s l h (ap (λ (x : Metrics). state_fits (metrics_set x s)) e ∙ t));
 }
 
-pub rests : (k : ClientRow) (next : Sum) → Sums k.attempt 1 next → RestsAs k (record { target = k.target; next_seq = k.next_seq; attempt = next.value; outstanding = None })
-unfolding client_of outstanding_of rested
-rests k next q = record { is = λ t. ap (λ (n : ℕ). with_attempt (with_outstanding (client_of k) none) n) (q.value (q.fits ∙ t)) }
+pub rests : (k : Client) (next : Sum) → Sums k.attempt 1 next → RestsAs k (record { target = k.target; next_seq = k.next_seq; attempt = next.value; outstanding = None })
+unfolding rested
+rests k next q = record { is = λ t. ap (λ (n : ℕ). with_attempt (with_outstanding k None) n) (q.value (q.fits ∙ t)) }
 
-rested_word : (k : ClientRow) → word (rested (client_of k)).attempt ≡ true → word (k.attempt + 1) ≡ true
-unfolding rested client_of
+rested_word : (k : Client) → word (rested k).attempt ≡ true → word (k.attempt + 1) ≡ true
+unfolding rested
 rested_word k t = t
 
-pub went_acts : (b b₁ b₂ : List ℕ) (F : Capacity) (c : ℕ) (k r : ClientRow) (time : SimTime) → c < F.clients → RestsAs k r → Changes b b₁ F (client_set c (client_of r))
-    → Changes b₁ b₂ F (pushed (plain time (event.ClientSend c))) → Changes b b₂ F (went_on c (client_of k) time)
+pub went_acts : (b b₁ b₂ : List ℕ) (F : Capacity) (c : ℕ) (k r : Client) (time : SimTime) → c < F.clients → RestsAs k r → Changes b b₁ F (client_set c r)
+    → Changes b₁ b₂ F (pushed (plain time (event.ClientSend c))) → Changes b b₂ F (went_on c k time)
 unfolding went_on
 went_acts b b₁ b₂ F c k r time i q p₁ p₂ = record {
   to = λ s l h t.
-      let s₁ : State = client_set c (rested (client_of k)) s in
+      let s₁ : State = client_set c (rested k) s in
       let t₁ : state_fits s₁ ≡ true = fits_unpushed s₁ (plain time (event.ClientSend c)) t in
-      let e : client_of r ≡ rested (client_of k) = q.is (rested_word k (attempt.attempt_word h c i (rested (client_of k)) t₁)) in
+      let e : r ≡ rested k = q.is (rested_word k (attempt.attempt_word h c i (rested k) t₁)) in
       p₂.to s₁ l (subst (λ (x : Client). AreaOf b₁ l F (client_set c x s)) e (p₁.to s l h (ap (λ (x : Client). state_fits (client_set c x s)) e ∙ t₁))) t;
 }
 
@@ -136,14 +130,14 @@ abbrev taken_state : State → ℕ → ℕ → LogIndex → Outstanding → Stat
 taken_state s c seq index o =
     let reply : Reply = record { sent = o.first_sent; received = s.now; index = index; client = c; seq = seq } in
     let counted = with_metrics (with_replies s (s.replies ++ (reply ∷ []))) (record_reply s.metrics) in
-    push_event (on_client counted c (λ k. with_attempt (with_outstanding k none) (k.attempt + 1))) s.now (event.ClientSend c)
+    push_event (on_client counted c (λ k. with_attempt (with_outstanding k None) (k.attempt + 1))) s.now (event.ClientSend c)
 
 module _ (s : State) (c seq : ℕ) (index : LogIndex) where
-  pub replied_none : (client_at s c).outstanding ≡ none → client_replied c seq index s ≡ s
+  pub replied_none : (client_at s c).outstanding ≡ None → client_replied c seq index s ≡ s
   unfolding client_replied client_reply
   replied_none e = ap (take_reply s c seq index) e
 
-  module _ (o : Outstanding) (e : (client_at s c).outstanding ≡ some o) where
+  module _ (o : Outstanding) (e : (client_at s c).outstanding ≡ Some o) where
     pub replied_other : eqb o.seq seq ≡ false → client_replied c seq index s ≡ s
     unfolding client_replied client_reply reply_taken went_on reply_counted replied pushed plain client_set rested
     replied_other n = ap (take_reply s c seq index) e ∙ ap (λ (x : Bool). pick x (taken_state s c seq index o) s) n
@@ -153,7 +147,7 @@ module _ (s : State) (c seq : ℕ) (index : LogIndex) where
     replied_is y =
         ap (take_reply s c seq index) e ∙ ap (λ (x : Bool). pick x (taken_state s c seq index o) s) y
         ∙ ap (pushed (plain s.now (event.ClientSend c)))
-        (client_changed (reply_counted (replied (record { sent = o.first_sent; received = s.now; index = index; client = c; seq = seq }) s)) c (λ k. with_attempt (with_outstanding k none) (k.attempt + 1)))
+        (client_changed (reply_counted (replied (record { sent = o.first_sent; received = s.now; index = index; client = c; seq = seq }) s)) c (λ k. with_attempt (with_outstanding k None) (k.attempt + 1)))
 
 -- ---- question 10
 
@@ -241,8 +235,8 @@ module _ (s : State) (c seq : ℕ) (index : LogIndex) (t : state_fits s ≡ true
       by : (o : Option Outstanding) → (client_at s c).outstanding ≡ o → if_some (outstanding_fits s.config s.limits) o ≡ true
           → state_fits (client_replied c seq index s)
           ≡ pick (answers_to o seq) (leb 1 (room_of s) and (word ((client_at s c).attempt + 1) and (leb (length s.replies + 1) s.limits.history and replies_room s))) true
-      by none e h = ap state_fits (replied_none s c seq index e) ∙ t
-      by (some o) e h =
+      by None e h = ap state_fits (replied_none s c seq index e) ∙ t
+      by (Some o) e h =
           let tests : Bool = leb 1 (room_of s) and (word ((client_at s c).attempt + 1) and (leb (length s.replies + 1) s.limits.history and replies_room s)) in
           cases (eqb o.seq seq)
           (λ y. ap state_fits (replied_is s c seq index o e y)
@@ -252,50 +246,44 @@ module _ (s : State) (c seq : ℕ) (index : LogIndex) (t : state_fits s ≡ true
 
 -- ---- the acts
 
-pub taken_acts : (b b₁ b₂ b₃ : List ℕ) (F : Capacity) (c : ℕ) (k : ClientRow) (sent : SimTime) (seq : ℕ) (index : LogIndex) (run : Run) → c < F.clients → Reads b F run run_of
-    → Changes b b₁ F (replied (record { sent = sent; received = run.now; index = index; client = c; seq = seq })) → Changes b₁ b₂ F reply_counted → Changes b₂ b₃ F (went_on c (client_of k) run.now)
-    → Changes b b₃ F (reply_taken c (client_of k) sent seq index)
+pub taken_acts : (b b₁ b₂ b₃ : List ℕ) (F : Capacity) (c : ℕ) (k : Client) (sent : SimTime) (seq : ℕ) (index : LogIndex) (run : Run) → c < F.clients → Reads b F run run_of
+    → Changes b b₁ F (replied (record { sent = sent; received = run.now; index = index; client = c; seq = seq })) → Changes b₁ b₂ F reply_counted → Changes b₂ b₃ F (went_on c k run.now)
+    → Changes b b₃ F (reply_taken c k sent seq index)
 unfolding reply_taken
 taken_acts b b₁ b₂ b₃ F c k sent seq index run i pr p₁ p₂ p₃ = record {
   to = λ s l h t.
       let now : run.now ≡ s.now = ap (λ (x : Run). x.now) (pr.to s h.area h.capacity) in
       let r : SimTime → Reply = λ x. record { sent = sent; received = x; index = index; client = c; seq = seq } in
-      let same : went_on c (client_of k) run.now (reply_counted (replied (r run.now) s)) ≡ reply_taken c (client_of k) sent seq index s =
-      ap (λ (x : SimTime). went_on c (client_of k) x (reply_counted (replied (r x) s))) now in
-      let t₃ : state_fits (went_on c (client_of k) run.now (reply_counted (replied (r run.now) s))) ≡ true = ap state_fits same ∙ t in
-      let t₂ : state_fits (reply_counted (replied (r run.now) s)) ≡ true = before_went s c (r run.now) (area_fits h.area) (clients_of h c i) (client_of k) run.now t₃ in
+      let same : went_on c k run.now (reply_counted (replied (r run.now) s)) ≡ reply_taken c k sent seq index s =
+      ap (λ (x : SimTime). went_on c k x (reply_counted (replied (r x) s))) now in
+      let t₃ : state_fits (went_on c k run.now (reply_counted (replied (r run.now) s))) ≡ true = ap state_fits same ∙ t in
+      let t₂ : state_fits (reply_counted (replied (r run.now) s)) ≡ true = before_went s c (r run.now) (area_fits h.area) (clients_of h c i) k run.now t₃ in
       let t₁ : state_fits (replied (r run.now) s) ≡ true = and_right _ _ (sym (fits_recorded s c (r run.now) (area_fits h.area) (clients_of h c i)) ∙ t₂) in
       subst (λ (x : State). AreaOf b₃ l F x) same (p₃.to _ l (p₂.to _ l (p₁.to s l h t₁) t₂) t₃);
 }
 
-module _ (b : List ℕ) (F : Capacity) (c seq : ℕ) (index : LogIndex) (k : ClientRow) (o : OutstandingOption) (q : Reads b F (client_of k) (client_read c)) (eo : o ≡ k.outstanding) where
-  outstanding_read : (s : State) → Area b s → F ≡ capacity_of s → (client_at s c).outstanding ≡ outstanding_of o
-  unfolding client_of
-  outstanding_read s h ef = sym (ap outstanding_of eo ∙ ap (λ (x : Client). x.outstanding) (read_is k c q h ef))
+module _ (b : List ℕ) (F : Capacity) (c seq : ℕ) (index : LogIndex) (k : Client) (o : Option Outstanding) (q : Reads b F k (client_read c)) (eo : o ≡ k.outstanding) where
+  outstanding_read : (s : State) → Area b s → F ≡ capacity_of s → (client_at s c).outstanding ≡ o
+  outstanding_read s h ef = sym (eo ∙ ap (λ (x : Client). x.outstanding) (read_is k c q h ef))
 
   pub taken_none : o ≡ None → Changes b b F (client_replied c seq index)
-  unfolding outstanding_of
   taken_none e = record {
-    to = λ s l h t. subst (λ (x : State). AreaOf b l F x) (sym (replied_none s c seq index (outstanding_read s h.area h.capacity ∙ ap outstanding_of e))) h;
+    to = λ s l h t. subst (λ (x : State). AreaOf b l F x) (sym (replied_none s c seq index (outstanding_read s h.area h.capacity ∙ e))) h;
   }
 
-  module _ (own : ℕ) (sent : SimTime) (e : o ≡ Some own sent) where
-    abbrev due : Outstanding
-    due = record { seq = own; first_sent = sent }
+  module _ (due : Outstanding) (e : o ≡ Some due) where
+    due_read : (s : State) → Area b s → F ≡ capacity_of s → (client_at s c).outstanding ≡ Some due
+    due_read s h ef = outstanding_read s h ef ∙ e
 
-    due_read : (s : State) → Area b s → F ≡ capacity_of s → (client_at s c).outstanding ≡ some due
-    unfolding outstanding_of
-    due_read s h ef = outstanding_read s h ef ∙ ap outstanding_of e
-
-    pub taken_other : (own ≡ seq → ⊥) → Changes b b F (client_replied c seq index)
+    pub taken_other : (due.seq ≡ seq → ⊥) → Changes b b F (client_replied c seq index)
     taken_other n = record {
-      to = λ s l h t. subst (λ (x : State). AreaOf b l F x) (sym (replied_other s c seq index due (due_read s h.area h.capacity) (ne_eqb own seq n))) h;
+      to = λ s l h t. subst (λ (x : State). AreaOf b l F x) (sym (replied_other s c seq index due (due_read s h.area h.capacity) (ne_eqb due.seq seq n))) h;
     }
 
-    pub taken_done : (b' : List ℕ) → own ≡ seq → Changes b b' F (reply_taken c (client_of k) sent seq index) → Changes b b' F (client_replied c seq index)
+    pub taken_done : (b' : List ℕ) → due.seq ≡ seq → Changes b b' F (reply_taken c k due.first_sent seq index) → Changes b b' F (client_replied c seq index)
     taken_done b' y p = record {
       to = λ s l h t.
-          let same : reply_taken c (client_of k) sent seq index s ≡ client_replied c seq index s =
-          ap (λ (x : Client). reply_taken c x sent seq index s) (read_is k c q h.area h.capacity) ∙ sym (replied_is s c seq index due (due_read s h.area h.capacity) (eq-eqb own seq y)) in
+          let same : reply_taken c k due.first_sent seq index s ≡ client_replied c seq index s =
+          ap (λ (x : Client). reply_taken c x due.first_sent seq index s) (read_is k c q h.area h.capacity) ∙ sym (replied_is s c seq index due (due_read s h.area h.capacity) (eq-eqb due.seq seq y)) in
           subst (λ (x : State). AreaOf b' l F x) same (p.to s l h (ap state_fits same ∙ t));
     }

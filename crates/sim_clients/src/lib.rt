@@ -16,7 +16,7 @@ ghost use Rattle.sim_clients.specs.ClientEvents.{
   client_timed_out,
 };
 
-use clients::{Client, OutstandingOption};
+use clients::{Client, Outstanding};
 use state::Capacity;
 use units::SimTime;
 
@@ -52,10 +52,10 @@ fn begin_command(client: Client, time: SimTime) -> Client
     ensures { Begins client time result }
 {
     let next = sim_outputs::sum64(client.next_seq, 1);
-    let outstanding = OutstandingOption::Some {
+    let outstanding = Some(Outstanding {
         seq: client.next_seq,
         first_sent: time,
-    };
+    });
     Client {
         target: client.target,
         next_seq: next.value,
@@ -143,7 +143,7 @@ pub fn client_timeout(area: &mut [u8], f: Capacity, c: u64, attempt: u64)
     }
     let run = state_header::run_of(area, f);
     let g = run.workload;
-    let d = rng::drawn_under(g, f.servers);
+    let d = g.drawn_under(f.servers);
     let moved = with_target(client, d.value);
     sim_attempt::client_attempt(area, f, c, moved);
     let next = d.next;

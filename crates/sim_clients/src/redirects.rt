@@ -1,6 +1,5 @@
 // A redirect: to a known leader at once, else to a server drawn at random after the backoff.
 ghost use Rattle.std.specs.Prelude.{◌≡◌, ◌<◌};
-ghost use Rattle.clients.specs.Clients.{client_of};
 ghost use Rattle.state.specs.Changes.{Inside, Reads, Changes};
 ghost use Rattle.sim_outputs.specs.Outputs.{Passed};
 ghost use Rattle.sim_clients.specs.ClientEvents.{target_drawn};
@@ -19,40 +18,33 @@ use clients::Client;
 use queue::Event;
 use sim_outputs::Sum;
 use state::Capacity;
-use units::{NodeOption, SimTime};
-
-// The place of a server, if it is known.
-#[derive(Clone, Copy)]
-pub enum SlotOption {
-    None,
-    Some(u64),
-}
+use units::{NodeId, SimTime};
 
 // The place of a named server, if it is in a cluster of so many.
-fn known_slot(hint: NodeOption, servers: u64) -> SlotOption
+fn known_slot(hint: Option<NodeId>, servers: u64) -> Option<u64>
     ensures { result ≡ known_in servers hint }
 {
     match hint {
-        NodeOption::None => SlotOption::None,
-        NodeOption::Some(id) => {
+        None => None,
+        Some(id) => {
             if id.0 < 1 {
-                return SlotOption::None;
+                return None;
             }
             if servers < id.0 {
-                return SlotOption::None;
+                return None;
             }
-            SlotOption::Some(id.0 - 1)
+            Some(id.0 - 1)
         }
     }
 }
 
 // Whether there is one.
-fn is_known(slot: SlotOption) -> bool
+fn is_known(slot: Option<u64>) -> bool
     ensures { result ≡ is_known slot }
 {
     match slot {
-        SlotOption::None => false,
-        SlotOption::Some(_) => true,
+        None => false,
+        Some(_) => true,
     }
 }
 
@@ -74,7 +66,7 @@ pub fn client_redirect_fits(
     room: u64,
     c: u64,
     attempt: u64,
-    hint: NodeOption,
+    hint: Option<NodeId>,
 ) -> bool
     requires passed { Passed area.now f }
     requires c_lt_clients { c < f.clients }
@@ -96,11 +88,11 @@ pub fn client_redirect_fits(
 fn random_target(area: &mut [u8], f: Capacity, c: u64, client: Client)
     requires inside { Inside area.old f }
     requires c_lt_clients { c < f.clients }
-    ensures { Changes area.old area.new f (target_drawn c (client_of client)) }
+    ensures { Changes area.old area.new f (target_drawn c client) }
 {
     let run = state_header::run_of(area, f);
     let g = run.workload;
-    let d = rng::drawn_under(g, f.servers);
+    let d = g.drawn_under(f.servers);
     let moved = with_target(client, d.value);
     state_records::set_client(area, f, c as usize, moved);
     let next = d.next;
@@ -111,7 +103,7 @@ fn random_target(area: &mut [u8], f: Capacity, c: u64, client: Client)
 fn retry_later(area: &mut [u8], f: Capacity, c: u64, client: Client, attempt: u64)
     requires inside { Inside area.old f }
     requires c_lt_clients { c < f.clients }
-    ensures { Changes area.old area.new f (retry_put c (client_of client) attempt) }
+    ensures { Changes area.old area.new f (retry_put c client attempt) }
 {
     let run = state_header::run_of(area, f);
     let now = run.now;
@@ -122,14 +114,14 @@ fn retry_later(area: &mut [u8], f: Capacity, c: u64, client: Client, attempt: u6
 }
 
 // A client goes where it was sent.
-fn follow(area: &mut [u8], f: Capacity, c: u64, client: Client, attempt: u64, slot: SlotOption)
+fn follow(area: &mut [u8], f: Capacity, c: u64, client: Client, attempt: u64, slot: Option<u64>)
     requires passed { Passed area.old f }
     requires c_lt_clients { c < f.clients }
-    ensures { Changes area.old area.new f (followed c (client_of client) attempt slot) }
+    ensures { Changes area.old area.new f (followed c client attempt slot) }
 {
     match slot {
-        SlotOption::None => retry_later(area, f, c, client, attempt),
-        SlotOption::Some(target) => {
+        None => retry_later(area, f, c, client, attempt),
+        Some(target) => {
             let moved = with_target(client, target);
             sim_attempt::client_attempt(area, f, c, moved);
         }
@@ -137,7 +129,7 @@ fn follow(area: &mut [u8], f: Capacity, c: u64, client: Client, attempt: u64, sl
 }
 
 // A redirect reaches its client (client_redirect); an old one, or one with nothing outstanding, is ignored.
-pub fn client_redirect(area: &mut [u8], f: Capacity, c: u64, attempt: u64, hint: NodeOption)
+pub fn client_redirect(area: &mut [u8], f: Capacity, c: u64, attempt: u64, hint: Option<NodeId>)
     requires passed { Passed area.old f }
     requires c_lt_clients { c < f.clients }
     ensures { Changes area.old area.new f (client_redirected c attempt hint) }

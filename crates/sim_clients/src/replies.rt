@@ -1,9 +1,8 @@
 // A reply reaches its client: it is recorded, and the client goes on.
 ghost use Rattle.std.specs.Prelude.{◌≡◌, ◌<◌};
-ghost use Rattle.clients.specs.Clients.{client_of};
 ghost use Rattle.state.specs.Changes.{Inside, Reads, Changes};
 ghost use Rattle.sim_clients.specs.Replies.{
-  answers_in,
+  answers_to,
   replies_room,
   reply_test,
   RestsAs,
@@ -14,21 +13,18 @@ ghost use Rattle.sim_clients.specs.Replies.{
 };
 
 use checks_durability::replies::Reply;
-use clients::{Client, OutstandingOption};
+use clients::{Client, Outstanding};
 use queue::Event;
 use state::Capacity;
 use units::{LogIndex, SimTime};
 
 // Whether a reply is to the outstanding command.
-fn answers(outstanding: OutstandingOption, seq: u64) -> bool
-    ensures { result ≡ answers_in outstanding seq }
+fn answers(outstanding: Option<Outstanding>, seq: u64) -> bool
+    ensures { result ≡ answers_to outstanding seq }
 {
     match outstanding {
-        OutstandingOption::None => false,
-        OutstandingOption::Some {
-            seq: own,
-            first_sent,
-        } => own == seq,
+        None => false,
+        Some(sent) => sent.seq == seq,
     }
 }
 
@@ -38,8 +34,7 @@ fn replies_room(area: &[u8], f: Capacity) -> bool
     ensures { Reads area.now f result replies_room }
 {
     let m = state_header::metrics_of(area, f);
-    let counted = m.record_reply();
-    counted.fits
+    m.record_reply().is_some()
 }
 
 // Whether the state after a reply fits.
@@ -66,8 +61,7 @@ fn count_reply(area: &mut [u8], f: Capacity)
     ensures { Changes area.old area.new f reply_counted }
 {
     let m = state_header::metrics_of(area, f);
-    let counted = m.record_reply();
-    let next = counted.metrics;
+    let next = m.record_reply().unwrap_or(m);
     state_header::set_metrics(area, f, next);
 }
 
@@ -80,7 +74,7 @@ fn rest(client: Client) -> Client
         target: client.target,
         next_seq: client.next_seq,
         attempt: next.value,
-        outstanding: OutstandingOption::None,
+        outstanding: None,
     }
 }
 
@@ -88,7 +82,7 @@ fn rest(client: Client) -> Client
 fn go_on(area: &mut [u8], f: Capacity, c: u64, client: Client, time: SimTime)
     requires inside { Inside area.old f }
     requires c_lt_clients { c < f.clients }
-    ensures { Changes area.old area.new f (went_on c (client_of client) time) }
+    ensures { Changes area.old area.new f (went_on c client time) }
 {
     let rested = rest(client);
     state_records::set_client(area, f, c as usize, rested);
@@ -107,7 +101,7 @@ fn take_reply(
 )
     requires inside { Inside area.old f }
     requires c_lt_clients { c < f.clients }
-    ensures { Changes area.old area.new f (reply_taken c (client_of client) sent seq index) }
+    ensures { Changes area.old area.new f (reply_taken c client sent seq index) }
 {
     let run = state_header::run_of(area, f);
     let now = run.now;
@@ -132,13 +126,10 @@ pub fn client_reply(area: &mut [u8], f: Capacity, c: u64, seq: u64, index: LogIn
     let client = state_records::client_of(area, f, c as usize);
     let outstanding = client.outstanding;
     match outstanding {
-        OutstandingOption::None => {}
-        OutstandingOption::Some {
-            seq: own,
-            first_sent,
-        } => {
-            if own == seq {
-                take_reply(area, f, c, client, first_sent, seq, index);
+        None => {}
+        Some(sent) => {
+            if sent.seq == seq {
+                take_reply(area, f, c, client, sent.first_sent, seq, index);
             }
         }
     }

@@ -1,18 +1,15 @@
 -- What the direct calls ask and do (lib.rt): what their contracts cite. Assumes nothing.
-use Rattle.std.specs.Prelude.{◌≡◌, Bool, true, false, List, ℕ, ◌-◌, ◌<◌, eqb}
+use Rattle.std.specs.Prelude.{◌≡◌, Bool, List, ℕ, ◌-◌, ◌<◌, eqb}
 use Rattle.laws.specs.Bools.{pick}
 use Rattle.protocol.specs.declared.Timer.{Timer}
 use Rattle.protocol.specs.declared.Timer.TheVariants.{Election, Heartbeat}
-use Rattle.model.specs.State.{State, Phase, writing, timer_input, nothing, id_of}
+use Rattle.model.specs.State.{State, writing, timer_input, nothing}
 use Rattle.model.specs.Fields.{with_phase}
 use Rattle.model.specs.Simulation.{running, no_input, open_timer}
 use Rattle.model.specs.Calls.{is_closed, in_cluster, fire_timer}
 use Rattle.state.specs.declared.Capacity.{Capacity}
-use Rattle.state.specs.declared.StatusOption.{StatusOption}
-use Rattle.state.specs.declared.StatusOption.TheVariants as status
 use Rattle.state.specs.Changes.{Changes, Reads}
 use Rattle.state.specs.Branches.{PlannedIf}
-use Rattle.state_header.specs.Header.{phase_set}
 use Rattle.sim_direct.specs.declared.DirectAsked.{DirectAsked}
 
 -- The timer of a number.

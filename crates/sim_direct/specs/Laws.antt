@@ -1,36 +1,31 @@
 -- What the proofs of the direct calls cite. Assumes nothing.
 use Rattle.std.proofs.Math.Path.{◌≡◌, sym, ap, ap₂}
-use Rattle.std.specs.Prelude.{refl, Bool, true, false, not, List, eqb, ltb, length}
+use Rattle.std.specs.Prelude.{refl, Bool, true, false, not, List, eqb, length, Option}
 use Rattle.std.proofs.Common.{subst, ◌∙◌, arith}
 use Prim.Native.Nat.{ℕ, ◌+◌, ◌-◌, ◌≤◌, ◌<◌}
 use Rattle.std.proofs.Math.Dec.{leb}
 use borrow.Author.Tests.{eq-eqb, ne_eqb, le-leb, lt-leb, leb-true, lt-ltb, not-true, not-false}
 use Rattle.laws.specs.Bools.{pick, cases, ◌and◌, and_left}
-use Rattle.laws.proofs.BoolLaws.{and_both, and_right}
+use Rattle.laws.proofs.BoolLaws.{and_both}
 use Rattle.laws.specs.Decides.{false_true}
-use Rattle.laws.specs.Lists.{is_some}
-use Rattle.units.specs.declared.NodeId.{NodeId}
 use Rattle.protocol.specs.declared.Status.{Status}
 use Rattle.protocol.specs.declared.Timer.{Timer}
 use Rattle.protocol.specs.declared.Timer.TheVariants.{Election, Heartbeat}
 use Rattle.faults.specs.Fault as faults
-use Rattle.model.specs.State.{State, Phase, closed, writing, sending, timer_input, nothing, server_at, id_of}
+use Rattle.model.specs.State.{State, writing, timer_input, nothing, server_at, id_of}
 use Rattle.model.specs.Simulation.{running, no_input, open_timer}
 use Rattle.model.specs.Calls.{is_closed, in_cluster, is_flag, fire_timer, timer_of, refused, done}
-use Rattle.model.specs.Fits.{state_fits, phase_fits}
+use Rattle.model.specs.Fits.{state_fits}
 use Rattle.state.specs.declared.Capacity.{Capacity}
 use Rattle.state.specs.declared.OpenInput.{OpenInput}
-use Rattle.state.specs.declared.StatusOption.{StatusOption}
-use Rattle.state.specs.declared.StatusOption.TheVariants as status
 use Rattle.state.specs.Parts.{open_of, phase_kind}
-use Rattle.state.specs.Server.{option_status}
 use Rattle.state.specs.Area.{Area, capacity_of}
 use Rattle.state.specs.Fitting.{area_fits}
 use Rattle.state.specs.FitsBy.{fits_test, server_count}
 use Rattle.state.specs.declared.Gate.{Gate}
 use Rattle.state.specs.Call.{call}
-use Rattle.state.specs.Changes.{Inside, Gated, Reads, Changes, judged}
-use Rattle.state.specs.Branches.{PlannedIf, if_refused, if_done, else_kept}
+use Rattle.state.specs.Changes.{Gated, Reads, judged}
+use Rattle.state.specs.Branches.{if_refused, if_done, else_kept}
 use Rattle.answers.specs.declared.OpenedAnswer.{OpenedAnswer}
 use Rattle.answers.specs.declared.InputNumbers.{InputNumbers}
 use Rattle.answers.specs.Answers.{no_input_numbers, input_of, opened_no, opened_of, opened_yes}
@@ -89,7 +84,7 @@ module _ (b : List ℕ) (F : Capacity) (server : ℕ) (o : OpenInput) (q : Reads
     unfolding faults.in_cluster ◌and◌
     asked_high l = unknown (λ s h ef. ap₂ (λ (t u : Bool). t and u) (le-leb 1 server (omega arith)) (lt-leb server (length s.servers) (omega (arith, count s h ef))))
 
-    pub asked_yes_lem : (x : StatusOption) (r : Bool) → 1 ≤ server → server ≤ F.servers → Reads b F x (status_at (server - 1)) → r ≡ status_runs x
+    pub asked_yes_lem : (x : Option Status) (r : Bool) → 1 ≤ server → server ≤ F.servers → Reads b F x (status_at (server - 1)) → r ≡ status_runs x
         → AsksDirect b F server (record { code = 0; slot = server - 1; running = r })
     unfolding direct_code server_runs status_at faults.in_cluster
     asked_yes_lem x r lo hi qx er = record {

@@ -10,7 +10,7 @@ ghost use Rattle.sim_direct.specs.Direct.{timer_given, AsksDirect, FirePlanned, 
 
 use answers::{OpenedAnswer, opened};
 use protocol::Timer;
-use state::{Capacity, Gate, OpenInput, StatusOption};
+use state::{Capacity, Gate, OpenInput};
 use units::NodeId;
 
 pub mod asked; // a proposal, leadership to be confirmed

@@ -1,10 +1,7 @@
 -- What the end of an input asks and does (lib.rt): what its contracts cite. Assumes nothing.
-use Rattle.std.specs.Prelude.{◌≡◌, Bool, true, List, ℕ, ◌<◌, max, eqb, leb}
-use Rattle.std.proofs.Math.Option.{none, some}
+use Rattle.std.specs.Prelude.{◌≡◌, Bool, true, List, ℕ, ◌<◌, max, eqb, leb, Option, None, Some}
 use Rattle.laws.specs.Bools.{pick, ◌and◌}
 use Rattle.units.specs.declared.Term.{Term}
-use Rattle.units.specs.declared.TermOption.{TermOption}
-use Rattle.units.specs.declared.TermOption.TheVariants as term
 use Rattle.protocol.specs.declared.Status.{Status}
 use Rattle.raft_log.specs.Log.{gaps}
 use Rattle.queue.specs.Range.{word}
@@ -16,7 +13,6 @@ use Rattle.model.specs.Fits.{state_fits, node_fits}
 use Rattle.state.specs.declared.Capacity.{Capacity}
 use Rattle.state.specs.declared.OpenInput.{OpenInput}
 use Rattle.state.specs.declared.ServerState.{ServerState}
-use Rattle.state.specs.declared.StatusOption.TheVariants as status
 use Rattle.state.specs.Parts.{owed_in}
 use Rattle.state.specs.Changes.{Reads}
 use Rattle.answers.specs.declared.OpenedAnswer.{OpenedAnswer}
@@ -63,13 +59,13 @@ unfoldable pub checked_at : ℕ → Status → State → State
 checked_at slot x s = with_checker s (after_status slot x s).checker
 
 -- A term where it is led.
-unfoldable pub term_given : Bool → Term → TermOption
-term_given leads t = pick leads (term.Some t) term.None
+unfoldable pub term_given : Bool → Term → Option Term
+term_given leads t = pick leads (Some t) None
 
 -- A server's state with another status, and the term that it leads.
-abbrev pub status_put : ServerState → Status → TermOption → ServerState
+abbrev pub status_put : ServerState → Status → Option Term → ServerState
 status_put x new leading = record {
-  status = status.Some new;
+  status = Some new;
   incarnation = x.incarnation;
   election = x.election;
   heartbeat = x.heartbeat;
@@ -81,7 +77,7 @@ status_put x new leading = record {
 
 -- The state with another status of the server at a place, which leads its term or none.
 unfoldable pub status_set : ℕ → Status → Bool → State → State
-status_set slot x leads s = on_server s slot (λ v. with_leading (with_status v (some x)) (pick leads (some x.term) none))
+status_set slot x leads s = on_server s slot (λ v. with_leading (with_status v (Some x)) (pick leads (Some x.term) None))
 
 -- The state with the gaps of a log counted.
 unfoldable pub gaps_raised : ℕ → State → State
@@ -91,7 +87,7 @@ gaps_raised n s = with_max_log_gaps s (max s.max_log_gaps n)
 unfoldable pub status_ended : ℕ → Status → State → State
 status_ended slot x s =
     let checked = after_status slot x s in
-    with_max_log_gaps (on_server (with_checker s checked.checker) slot (λ v. with_leading (with_status v (some x)) checked.leading))
+    with_max_log_gaps (on_server (with_checker s checked.checker) slot (λ v. with_leading (with_status v (Some x)) checked.leading))
     (max s.max_log_gaps (gaps (log_of slot s)))
 
 -- The end of an input, told by its numbers, with a status.

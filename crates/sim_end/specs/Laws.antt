@@ -1,13 +1,11 @@
 -- What the proofs of the arguments and of the questions before question 10 cite. Assumes nothing.
-use Rattle.std.specs.Prelude.{◌≡◌, refl, Bool, true, false, ◌&&◌, List, ℕ, zero, suc, ◌^◌, ◌≤◌, ◌<◌, eqb, leb}
+use Rattle.std.specs.Prelude.{◌≡◌, refl, Bool, true, false, ◌&&◌, List, ℕ, zero, suc, ◌^◌, ◌≤◌, ◌<◌, eqb, leb, Option, None, Some}
 use Rattle.std.proofs.Math.Path.{sym}
 use Rattle.std.proofs.Common.{ap, ap₂, subst, ◌∙◌, arith, Fits, eq-eqb, ne_eqb, lt-ltb, le-leb, ltb-true}
 use Rattle.std.specs.Int.{w64}
 use Rattle.std.proofs.lemmas.Bool.{lt-leb}
 use Rattle.laws.specs.Bools.{pick, pick_both, ◌and◌, and_left, no_and}
 use Rattle.laws.proofs.BoolLaws.{and_both, and_no, code_and}
-use Rattle.units.specs.declared.NodeOption.{NodeOption}
-use Rattle.units.specs.declared.NodeOption.TheVariants.{None, Some}
 use Rattle.protocol.specs.declared.Role.{Role}
 use Rattle.protocol.specs.declared.Role.TheVariants.{Follower}
 use Rattle.model.specs.State.{State, Phase, closed, writing, sending}
@@ -28,6 +26,7 @@ use Rattle.sim_owed.specs.Servers.{owed_of}
 use Rattle.sim_owed.specs.Closes.{close_test}
 use Rattle.sim_end.specs.Ends.{status_of, status_in, GivesStatus, end_code, end_room}
 use Rattle.sim_outputs.specs.Laws.{slot_in}
+use Rattle.units.specs.declared.NodeId.{NodeId}
 
 -- ---- the arguments
 
@@ -43,14 +42,14 @@ node_some present id e = sym (ap (λ (t : Bool). pick t (Some (record { 0 = id }
 pub node_none : (present id : ℕ) → (present ≡ 1 → ⊥) → None ≡ node_option present id
 node_none present id n = sym (ap (λ (t : Bool). pick t (Some (record { 0 = id })) None) (ne_eqb present 1 n))
 
-pub gives_status : (role term present leader commit : ℕ) (is : Role) (follows : NodeOption) → is ≡ role_of role → follows ≡ node_option present leader → Fits w64 term → Fits w64 leader → Fits w64 commit
+pub gives_status : (role term present leader commit : ℕ) (is : Role) (follows : Option NodeId) → is ≡ role_of role → follows ≡ node_option present leader → Fits w64 term → Fits w64 leader → Fits w64 commit
     → GivesStatus role term present leader commit (record { role = is; term = record { 0 = term }; leader = follows; commit_index = record { 0 = commit } })
 unfolding status_of status_in
 gives_status role term present leader commit is follows er ef t l c = record {
-  is = ap₂ (λ (x : Role) (y : NodeOption). record { role = x; term = record { 0 = term }; leader = y; commit_index = record { 0 = commit } }) er ef;
+  is = ap₂ (λ (x : Role) (y : Option NodeId). record { role = x; term = record { 0 = term }; leader = y; commit_index = record { 0 = commit } }) er ef;
   words =
       and_both _ _ (lt-ltb term (2 ^ 64) t.fits)
-      (and_both _ _ (ap node_fits ef ∙ pick_both (λ (x : NodeOption). node_fits x ≡ true) (eqb present 1) (lt-ltb leader (2 ^ 64) l.fits) refl) (lt-ltb commit (2 ^ 64) c.fits));
+      (and_both _ _ (ap node_fits ef ∙ pick_both (λ (x : Option NodeId). node_fits x ≡ true) (eqb present 1) (lt-ltb leader (2 ^ 64) l.fits) refl) (lt-ltb commit (2 ^ 64) c.fits));
 }
 
 -- ---- questions 6 and 9

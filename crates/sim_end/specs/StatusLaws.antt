@@ -1,15 +1,12 @@
 -- What the proofs of a status checked and set cite, and question 10 of it. Assumes nothing.
-use Rattle.std.specs.Prelude.{◌≡◌, refl, Bool, List, [], ◌∷◌, ℕ, suc, ◌+◌, ◌^◌, ◌≤◌, ◌<◌, max, eqb, length, set}
+use Rattle.std.specs.Prelude.{◌≡◌, refl, Bool, List, [], ◌∷◌, ℕ, suc, ◌+◌, ◌^◌, ◌≤◌, ◌<◌, max, eqb, length, set, Option, None, Some}
 use Rattle.std.proofs.Math.Path.{sym, ap, ap₂}
 use Rattle.std.proofs.Common.{subst, ◌∙◌, arith, lt-ltb, ltb-true, eqb-true}
 use Rattle.std.proofs.Math.Bool.{true, false}
-use Rattle.std.proofs.Math.Option.{Option, none, some}
 use Rattle.laws.specs.Bools.{pick, ◌and◌, allb, and_left}
 use Rattle.laws.proofs.BoolLaws.{allb_in, and_right, true_and}
 use Rattle.laws.specs.Lists.{is_some}
 use Rattle.units.specs.declared.Term.{Term}
-use Rattle.units.specs.declared.TermOption.{TermOption}
-use Rattle.units.specs.declared.TermOption.TheVariants as term
 use Rattle.protocol.specs.declared.Status.{Status}
 use Rattle.raft_log.specs.Log.{Log, last_index, gaps}
 use Rattle.queue.specs.Range.{word}
@@ -21,7 +18,7 @@ use Rattle.model.specs.Fits.{state_fits, server_fits, server_tests, checker_fits
 use Rattle.state.specs.declared.Capacity.{Capacity}
 use Rattle.state.specs.declared.Run.{Run}
 use Rattle.state.specs.declared.ServerState.{ServerState}
-use Rattle.state.specs.Server.{state_of_server, option_term}
+use Rattle.state.specs.Server.{state_of_server}
 use Rattle.state.specs.Area.{run_of}
 use Rattle.state.specs.Fitting.{area_fits, laid_limits}
 use Rattle.state.specs.FitsBy.{fits_test}
@@ -52,34 +49,34 @@ check_acts b b' F k x r w a pw c = record {
 
 -- ---- the status set
 
-pub term_some : (leads : Bool) (t : Term) → leads ≡ true → term.Some t ≡ term_given leads t
+pub term_some : (leads : Bool) (t : Term) → leads ≡ true → Some t ≡ term_given leads t
 unfolding term_given
-term_some leads t e = sym (ap (λ (u : Bool). pick u (term.Some t) term.None) e)
+term_some leads t e = sym (ap (λ (u : Bool). pick u (Some t) None) e)
 
-pub term_none : (leads : Bool) (t : Term) → leads ≡ false → term.None ≡ term_given leads t
+pub term_none : (leads : Bool) (t : Term) → leads ≡ false → None ≡ term_given leads t
 unfolding term_given
-term_none leads t e = sym (ap (λ (u : Bool). pick u (term.Some t) term.None) e)
+term_none leads t e = sym (ap (λ (u : Bool). pick u (Some t) None) e)
 
 -- The term that a status leads, or none.
 abbrev pub led_term : Status → Bool → Option Term
-led_term x leads = pick leads (some x.term) none
+led_term x leads = pick leads (Some x.term) None
 
-term_is : (x : Status) (leads : Bool) → term_given leads x.term ≡ option_term (led_term x leads)
+term_is : (x : Status) (leads : Bool) → term_given leads x.term ≡ (led_term x leads)
 unfolding term_given
 term_is x true = refl
 term_is x false = refl
 
 -- A server with another status, which leads its term or none.
 abbrev pub with_end : Status → Option Term → Server → Server
-with_end x led v = with_leading (with_status v (some x)) led
+with_end x led v = with_leading (with_status v (Some x)) led
 
-pub status_written : (b b' : List ℕ) (F : Capacity) (k : ℕ) (x : Status) (leads : Bool) (y z : ServerState) (led : TermOption) → Reads b F y (server_state_at k) → led ≡ term_given leads x.term
+pub status_written : (b b' : List ℕ) (F : Capacity) (k : ℕ) (x : Status) (leads : Bool) (y z : ServerState) (led : Option Term) → Reads b F y (server_state_at k) → led ≡ term_given leads x.term
     → z ≡ status_put y x led → Changes b b' F (server_state_set k z) → Changes b b' F (status_set k x leads)
 unfolding server_state_at status_set
 status_written b b' F k x leads y z led q el e p = record {
   to = λ s r h fit.
       let ez : z ≡ state_of_server (with_end x (led_term x leads) (server_at s k)) =
-      e ∙ ap₂ (λ (u : ServerState) (t : TermOption). status_put u x t) (q.to s h.area h.capacity) (el ∙ term_is x leads) in
+      e ∙ ap₂ (λ (u : ServerState) (t : Option Term). status_put u x t) (q.to s h.area h.capacity) (el ∙ term_is x leads) in
       let es : server_state_set k z s ≡ status_set k x leads s = ap (λ (u : ServerState). server_state_set k u s) ez ∙ server_state_set_lem s k (with_end x (led_term x leads)) refl refl in
       subst (λ (u : State). AreaOf b' r F u) es (p.to s r h (ap state_fits es ∙ fit));
 }

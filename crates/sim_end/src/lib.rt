@@ -29,8 +29,8 @@ ghost use Rattle.sim_end.specs.Ends.{
 use answers::{InputNumbers, OpenedAnswer, opened};
 use checks_on_status::StatusAsked;
 use protocol::{Role, Status};
-use state::{Capacity, Gate, OpenInput, ServerState, StatusOption};
-use units::{LogIndex, NodeId, NodeOption, Term, TermOption};
+use state::{Capacity, Gate, OpenInput, ServerState};
+use units::{LogIndex, NodeId, Term};
 
 // ---- the arguments
 
@@ -48,14 +48,10 @@ fn role_given(n: u64) -> Role
 }
 
 // A server that may be absent, from a flag and an id; of an absent one the id is not looked at.
-fn node_given(present: u64, id: u64) -> NodeOption
+fn node_given(present: u64, id: u64) -> Option<NodeId>
     ensures { result ≡ node_option present id }
 {
-    if present == 1 {
-        NodeOption::Some(NodeId(id))
-    } else {
-        NodeOption::None
-    }
+    if present == 1 { Some(NodeId(id)) } else { None }
 }
 
 // The status of numbers.
@@ -116,22 +112,18 @@ fn check_status(area: &mut [u8], f: Capacity, slot: u64, status: Status, asked: 
 }
 
 // A term where it is led.
-fn term_given(leads: bool, term: Term) -> TermOption
+fn term_given(leads: bool, term: Term) -> Option<Term>
     ensures { result ≡ term_given leads term }
 {
-    if leads {
-        TermOption::Some(term)
-    } else {
-        TermOption::None
-    }
+    if leads { Some(term) } else { None }
 }
 
 // A server's state with another status, and the term that it leads.
-fn with_status(x: ServerState, status: Status, leading: TermOption) -> ServerState
+fn with_status(x: ServerState, status: Status, leading: Option<Term>) -> ServerState
     ensures { result ≡ status_put x status leading }
 {
     ServerState {
-        status: StatusOption::Some(status),
+        status: Some(status),
         incarnation: x.incarnation,
         election: x.election,
         heartbeat: x.heartbeat,

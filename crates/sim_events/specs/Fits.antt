@@ -1,9 +1,8 @@
 -- Question 10 of an event: the state after it fits where its test is true, if the state before it fits; and an event leaves the count of events. Assumes nothing.
-use Rattle.std.specs.Prelude.{◌≡◌, not, ◌&&◌, List, ℕ, ◌+◌, ◌-◌, ◌^◌, ◌≤◌, ◌<◌}
+use Rattle.std.specs.Prelude.{◌≡◌, not, ◌&&◌, List, ℕ, ◌+◌, ◌-◌, ◌^◌, ◌≤◌, ◌<◌, Option, None, Some}
 use Rattle.std.proofs.Math.Path.{refl, sym, ap, ap₂}
 use Rattle.std.proofs.Common.{◌∙◌, arith, lt-ltb}
 use Rattle.std.proofs.Math.Bool.{Bool, true, false}
-use Rattle.std.proofs.Math.Option.{Option, none, some}
 use Rattle.std.proofs.Math.Dec.{eqb}
 use Rattle.laws.specs.Bools.{pick, pick_both, cases, ◌and◌, and_true}
 use Rattle.laws.proofs.BoolLaws.{and_both, true_and}
@@ -11,7 +10,6 @@ use Rattle.laws.specs.Decides.{false_true}
 use Rattle.laws.specs.Lists.{is_some}
 use Rattle.units.specs.declared.LogIndex.{LogIndex}
 use Rattle.units.specs.declared.NodeId.{NodeId}
-use Rattle.units.specs.declared.NodeOption.{NodeOption}
 use Rattle.protocol.specs.declared.Status.{Status}
 use Rattle.protocol.specs.declared.Timer.{Timer}
 use Rattle.client.specs.declared.ClientKey.{ClientKey}
@@ -103,11 +101,11 @@ module _ (t : State) (h : state_fits t ≡ true) where
       moved o = record { opening = open_message to from entries message; state = with_phase (delivery_counted (contends o) entries t) (writing (to.0 - 1) message_input nothing) }
 
       by : (o : Option Status) → state_fits (pick (is_some o) (moved o) (idle t)).state ≡ pick (contends o) (delivery_room entries t) true
-      by none = opened_fits closed refl
-      by (some status) =
-          opened_kept (delivery_counted (contends (some status)) entries t) (keeps_counted t (contends (some status)) entries) (writing (to.0 - 1) message_input nothing)
+      by None = opened_fits closed refl
+      by (Some status) =
+          opened_kept (delivery_counted (contends (Some status)) entries t) (keeps_counted t (contends (Some status)) entries) (writing (to.0 - 1) message_input nothing)
           (and_both _ _ (lt-ltb (to.0 - 1) t.config.servers i) (and_both _ _ refl refl))
-          ∙ counted_fits (contends (some status)) entries
+          ∙ counted_fits (contends (Some status)) entries
 
   -- ---- a command's arrival
 
@@ -139,7 +137,7 @@ module _ (t : State) (h : state_fits t ≡ true) where
     unfolding processed process client_sent
     fits_send_event = idle_fits t (client_sent c t) h (keeps_send t c) ∙ fits_send t c h i
 
-    pub fits_redirect_event : (attempt : ℕ) (hint : NodeOption) → state_fits (processed (event.ClientRedirect c attempt hint) message t).state ≡ redirect_test t.now.0 (room_of t) c attempt hint t
+    pub fits_redirect_event : (attempt : ℕ) (hint : Option NodeId) → state_fits (processed (event.ClientRedirect c attempt hint) message t).state ≡ redirect_test t.now.0 (room_of t) c attempt hint t
     unfolding processed process client_redirected
     fits_redirect_event attempt hint = idle_fits t (client_redirected c attempt hint t) h (keeps_redirect t c attempt hint) ∙ fits_redirect t c h i attempt hint
 

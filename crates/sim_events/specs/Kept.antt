@@ -1,12 +1,10 @@
 -- What an event of a client leaves as it was: settings, limits, the phase, the count of events. Assumes nothing.
-use Rattle.std.specs.Prelude.{◌≡◌, refl, true, ◌&&◌, List, [], ℕ, eqb, length}
+use Rattle.std.specs.Prelude.{◌≡◌, refl, true, ◌&&◌, List, [], ℕ, eqb, length, Option, None, Some}
 use Rattle.std.proofs.Common.{sym, ap, ◌∙◌}
-use Rattle.std.proofs.Math.Option.{Option, none, some}
 use Rattle.laws.specs.Bools.{pick_both}
 use Rattle.laws.proofs.BoolLaws.{true_and}
 use Rattle.laws.specs.Lists.{is_some}
 use Rattle.units.specs.declared.LogIndex.{LogIndex}
-use Rattle.units.specs.declared.NodeOption.{NodeOption}
 use Rattle.units.specs.declared.SimTime.{SimTime}
 use Rattle.rng.specs.Rng.{under}
 use Rattle.config.specs.declared.SimConfig.{SimConfig}
@@ -31,6 +29,7 @@ use Rattle.sim_owed.specs.Servers.{Opens}
 use Rattle.sim_owed.specs.Closes.{idle_at}
 use Rattle.sim_owed.specs.ServerLaws.{opens_after}
 use Rattle.sim_events.specs.Moves.{processed}
+use Rattle.units.specs.declared.NodeId.{NodeId}
 
 -- These four parts of a state are so.
 pub record Kept (settings : SimConfig) (most : Limits) (at : Phase) (count : ℕ) (x : State) : Type 0 where
@@ -47,8 +46,8 @@ pub same : (s : State) → Keeps s s
 same s = record { config = refl; limits = refl; phase = refl; events = refl }
 
 keeps_outstanding : (s : State) (c : ℕ) (o : Option Outstanding) (time : SimTime) → Keeps s (send_outstanding s c o time)
-keeps_outstanding s c none time = same s
-keeps_outstanding s c (some o) time = record { config = refl; limits = refl; phase = refl; events = refl }
+keeps_outstanding s c None time = same s
+keeps_outstanding s c (Some o) time = record { config = refl; limits = refl; phase = refl; events = refl }
 
 keeps_attempt : (s : State) (c : ℕ) → Keeps s (client_attempt s c)
 unfolding client_attempt
@@ -72,18 +71,18 @@ keeps_timeout s c attempt =
     pick_both (λ (y : State). Keeps s y) (latest s c attempt && is_some (client_at s c).outstanding) {a = client_attempt x c} {b = s} (keeps_attempt x c) (same s)
 
 keeps_follow : (s : State) (c attempt : ℕ) (o : Option ℕ) → Keeps s (follow s c attempt o)
-keeps_follow s c attempt none = record { config = refl; limits = refl; phase = refl; events = refl }
-keeps_follow s c attempt (some slot) = keeps_attempt (on_client s c (λ k. with_target k slot)) c
+keeps_follow s c attempt None = record { config = refl; limits = refl; phase = refl; events = refl }
+keeps_follow s c attempt (Some slot) = keeps_attempt (on_client s c (λ k. with_target k slot)) c
 
-pub keeps_redirect : (s : State) (c attempt : ℕ) (hint : NodeOption) → Keeps s (client_redirected c attempt hint s)
+pub keeps_redirect : (s : State) (c attempt : ℕ) (hint : Option NodeId) → Keeps s (client_redirected c attempt hint s)
 unfolding client_redirected client_redirect
 keeps_redirect s c attempt hint =
     let x : State = follow s c attempt (known_slot s hint) in
     pick_both (λ (y : State). Keeps s y) (latest s c attempt && is_some (client_at s c).outstanding) {a = x} {b = s} (keeps_follow s c attempt (known_slot s hint)) (same s)
 
 keeps_taken : (s : State) (c seq : ℕ) (index : LogIndex) (o : Option Outstanding) → Keeps s (take_reply s c seq index o)
-keeps_taken s c seq index none = same s
-keeps_taken s c seq index (some o) = pick_both (λ (x : State). Keeps s x) (eqb o.seq seq) (record { config = refl; limits = refl; phase = refl; events = refl }) (same s)
+keeps_taken s c seq index None = same s
+keeps_taken s c seq index (Some o) = pick_both (λ (x : State). Keeps s x) (eqb o.seq seq) (record { config = refl; limits = refl; phase = refl; events = refl }) (same s)
 
 pub keeps_reply : (s : State) (c seq : ℕ) (index : LogIndex) → Keeps s (client_replied c seq index s)
 unfolding client_replied client_reply
@@ -114,7 +113,7 @@ module _ (b b₁ b₂ : List ℕ) (F : Capacity) (r : InputNumbers) (c : ℕ) wh
   unfolding processed process client_sent
   send_moved p q = client_moved (client_sent c) (processed (event.ClientSend c) []) (λ s. refl) (λ s. keeps_send s c) p q
 
-  pub redirect_moved : (attempt : ℕ) (hint : NodeOption) → Changes b b₁ F (client_redirected c attempt hint) → Opens b₁ b₂ F r idle_at → Opens b b₂ F r (processed (event.ClientRedirect c attempt hint) [])
+  pub redirect_moved : (attempt : ℕ) (hint : Option NodeId) → Changes b b₁ F (client_redirected c attempt hint) → Opens b₁ b₂ F r idle_at → Opens b b₂ F r (processed (event.ClientRedirect c attempt hint) [])
   unfolding processed process client_redirected
   redirect_moved attempt hint p q = client_moved (client_redirected c attempt hint) (processed (event.ClientRedirect c attempt hint) []) (λ s. refl) (λ s. keeps_redirect s c attempt hint) p q
 

@@ -1,10 +1,9 @@
 -- What the proofs of lib.rt, deliveries.rt and arrivals.rt cite. Assumes nothing.
-use Rattle.std.specs.Prelude.{◌≡◌, Bool, not, ◌&&◌, List, [], ℕ, ◌+◌, ◌-◌, eqb}
+use Rattle.std.specs.Prelude.{◌≡◌, Bool, not, ◌&&◌, List, [], ℕ, ◌+◌, ◌-◌, eqb, Option, None, Some}
 use Rattle.std.proofs.Math.Path.{refl, sym, ap, subst}
 use Rattle.std.proofs.Common.{ap₂, ◌∙◌}
 use Rattle.std.proofs.Math.Bool.{true, false}
-use Rattle.std.proofs.Math.Option.{Option, none, some}
-use Rattle.laws.specs.Bools.{pick, pick_both, ◌and◌}
+use Rattle.laws.specs.Bools.{pick, pick_both}
 use Rattle.laws.proofs.BoolLaws.{and_right}
 use Rattle.laws.specs.Lists.{is_some}
 use Rattle.units.specs.declared.NodeId.{NodeId}
@@ -14,8 +13,8 @@ use Rattle.protocol.specs.declared.Timer.TheVariants.{Election, Heartbeat}
 use Rattle.protocol.specs.declared.Role.{Role}
 use Rattle.protocol.specs.declared.Role.TheVariants.{Follower, Candidate, Leader}
 use Rattle.metrics.specs.declared.Metrics.{Metrics}
-use Rattle.metrics.specs.declared.Counted.{Counted}
-use Rattle.metrics.specs.Metrics.{counters_fit, deliver_to_leader, counted}
+use Rattle.std.specs.Option.{is_some, unwrap_or}
+use Rattle.metrics.specs.Metrics.{counters_fit, deliver_to_leader, counted, Counting}
 use Rattle.metrics.specs.Laws.{counters_fit_lem, counted_fits}
 use Rattle.queue.specs.declared.Event.TheVariants as event
 use Rattle.model.specs.State.{State, Server, Phase, from_client, message_input, timer_input, propose_input, nothing, writing, server_at}
@@ -25,10 +24,8 @@ use Rattle.model.specs.Fits.{state_fits}
 use Rattle.state.specs.declared.Capacity.{Capacity}
 use Rattle.state.specs.declared.OpenInput.{OpenInput}
 use Rattle.state.specs.declared.ServerState.{ServerState}
-use Rattle.state.specs.declared.StatusOption.{StatusOption}
-use Rattle.state.specs.declared.StatusOption.TheVariants as status
 use Rattle.state.specs.Area.{Area, capacity_of}
-use Rattle.state.specs.Server.{option_status, state_of_server}
+use Rattle.state.specs.Server.{state_of_server}
 use Rattle.state.specs.Fitting.{area_fits}
 use Rattle.state.specs.FitsBy.{fits_test}
 use Rattle.state.specs.Changes.{AreaOf, Changes, Reads}
@@ -49,11 +46,11 @@ use borrow.Author.Tests.{not-true, not-false}
 
 -- ---- a server's status
 
-status_read : (b : List ℕ) (F : Capacity) (slot : ℕ) (x : StatusOption) → Reads b F x (status_at slot) → (s : State) → Area b s → F ≡ capacity_of s → status_runs x ≡ running s slot
+status_read : (b : List ℕ) (F : Capacity) (slot : ℕ) (x : Option Status) → Reads b F x (status_at slot) → (s : State) → Area b s → F ≡ capacity_of s → status_runs x ≡ running s slot
 unfolding status_at
 status_read b F slot x q s h e = ap status_runs (q.to s h e) ∙ status_runs_lem (server_at s slot).status
 
-pub runs_read : (b : List ℕ) (F : Capacity) (slot : ℕ) (x : StatusOption) (u : Bool) → Reads b F x (status_at slot) → u ≡ status_runs x → Reads b F u (runs_at slot)
+pub runs_read : (b : List ℕ) (F : Capacity) (slot : ℕ) (x : Option Status) (u : Bool) → Reads b F x (status_at slot) → u ≡ status_runs x → Reads b F u (runs_at slot)
 unfolding runs_at
 runs_read b F slot x u q e = record { to = λ s h ef. e ∙ status_read b F slot x q s h ef }
 
@@ -171,36 +168,37 @@ pub role_leader : (x : Role) → x ≡ Leader → true ≡ role_contends x
 unfolding role_contends
 role_leader x e = sym (ap role_contends e)
 
-pub contends_none : (x : StatusOption) → x ≡ status.None → false ≡ status_contends x
+pub contends_none : (x : Option Status) → x ≡ None → false ≡ status_contends x
 unfolding status_contends
 contends_none x e = sym (ap status_contends e)
 
-pub contends_some : (x : StatusOption) (y : Status) (u : Bool) → x ≡ status.Some y → u ≡ role_contends y.role → u ≡ status_contends x
+pub contends_some : (x : Option Status) (y : Status) (u : Bool) → x ≡ Some y → u ≡ role_contends y.role → u ≡ status_contends x
 unfolding status_contends
 contends_some x y u e er = er ∙ sym (ap status_contends e)
 
-contends_is : (o : Option Status) → status_contends (option_status o) ≡ contends o
+contends_is : (o : Option Status) → status_contends o ≡ contends o
 unfolding status_contends role_contends
-contends_is none = refl
-contends_is (some x) = by x.role refl
+contends_is None = refl
+contends_is (Some x) = by x.role refl
   where
-    by : (w : Role) → x.role ≡ w → role_contends x.role ≡ contends (some x)
+    by : (w : Role) → x.role ≡ w → role_contends x.role ≡ contends (Some x)
     by Follower e = rw e refl
     by Candidate e = rw e refl
     by Leader e = rw e refl
 
-contends_read : (b : List ℕ) (F : Capacity) (slot : ℕ) (x : StatusOption) → Reads b F x (status_at slot) → (s : State) → Area b s → F ≡ capacity_of s → status_contends x ≡ contends (server_at s slot).status
+contends_read : (b : List ℕ) (F : Capacity) (slot : ℕ) (x : Option Status) → Reads b F x (status_at slot) → (s : State) → Area b s → F ≡ capacity_of s → status_contends x ≡ contends (server_at s slot).status
 unfolding status_at
 contends_read b F slot x q s h e = ap status_contends (q.to s h e) ∙ contends_is (server_at s slot).status
 
-pub delivery_read : (b : List ℕ) (F : Capacity) (entries : ℕ) (m : Metrics) (c : Counted) → Reads b F m metrics_of → c ≡ counted m (deliver_to_leader m entries) → Reads b F c.fits (delivery_room entries)
+pub delivery_read : (b : List ℕ) (F : Capacity) (entries : ℕ) (m : Metrics) (c : Option Metrics) (fits : Bool) → Reads b F m metrics_of
+    → Counting (deliver_to_leader m entries) c → fits ≡ is_some c → Reads b F fits (delivery_room entries)
 unfolding metrics_of delivery_room
-delivery_read b F entries m c r e = record {
+delivery_read b F entries m c fits r e t = record {
   to = λ s h ef.
-      ap (λ (x : Counted). x.fits) e ∙ counted_fits m (deliver_to_leader m entries) ∙ ap (λ (x : Metrics). counters_fit (deliver_to_leader x entries)) (r.to s h ef);
+      t ∙ ap is_some e.value ∙ counted_fits (deliver_to_leader m entries) ∙ ap (λ (x : Metrics). counters_fit (deliver_to_leader x entries)) (r.to s h ef);
 }
 
-module _ (b : List ℕ) (F : Capacity) (to : NodeId) (entries : ℕ) (x : StatusOption) (u : Bool) (q : Reads b F x (status_at (to.0 - 1))) (e : u ≡ status_contends x) where
+module _ (b : List ℕ) (F : Capacity) (to : NodeId) (entries : ℕ) (x : Option Status) (u : Bool) (q : Reads b F x (status_at (to.0 - 1))) (e : u ≡ status_contends x) where
   pub deliver_plain : not u ≡ true → Reads b F true (deliver_test to entries)
   unfolding deliver_test
   deliver_plain n = record { to = λ s h ef. sym (ap (λ (t : Bool). pick t (delivery_room entries s) true) (sym (e ∙ contends_read b F (to.0 - 1) x q s h ef) ∙ not-true u n)) }
@@ -217,17 +215,19 @@ uncounted b F due entries n = record {
   to = λ s l h t. subst (λ (x : State). AreaOf b l F x) (sym (ap (λ (v : Bool). pick v (with_metrics s (deliver_to_leader s.metrics entries)) s) (not-true due n))) h;
 }
 
-pub delivery_counted_lem : (b b' : List ℕ) (F : Capacity) (due : Bool) (entries : ℕ) (m : Metrics) (c : Counted) → not due ≡ false → Reads b F m metrics_of → c ≡ counted m (deliver_to_leader m entries)
-    → Changes b b' F (metrics_set c.metrics) → Changes b b' F (delivery_counted due entries)
+pub delivery_counted_lem : (b b' : List ℕ) (F : Capacity) (due : Bool) (entries : ℕ) (m : Metrics) (c : Option Metrics) (next : Metrics) → not due ≡ false
+    → Reads b F m metrics_of → Counting (deliver_to_leader m entries) c → next ≡ unwrap_or c m → Changes b b' F (metrics_set next)
+    → Changes b b' F (delivery_counted due entries)
 unfolding metrics_of metrics_set delivery_counted
-delivery_counted_lem b b' F due entries m c n pm ec k = record {
+delivery_counted_lem b b' F due entries m c next n pm ec en k = record {
   to = λ s l h t.
       let new : Metrics = deliver_to_leader s.metrics entries in
       let is : with_metrics s new ≡ pick due (with_metrics s new) s = sym (ap (λ (v : Bool). pick v (with_metrics s new) s) (not-false due n)) in
       let t₁ : state_fits (with_metrics s new) ≡ true = ap state_fits is ∙ t in
       let fit : counters_fit new ≡ true = counters_fit_lem s.config.servers new (fits_test (with_metrics s new) t₁ 12) in
-      let e : c.metrics ≡ new =
-      ap (λ (x : Counted). x.metrics) (ec ∙ ap (λ (x : Metrics). counted x (deliver_to_leader x entries)) (pm.to s h.area h.capacity)) ∙ counted_is s.metrics new fit in
+      let e : next ≡ new =
+      en ∙ ap (λ (x : Option Metrics). unwrap_or x m) ec.value
+      ∙ ap (λ (x : Metrics). unwrap_or (counted (deliver_to_leader x entries)) x) (pm.to s h.area h.capacity) ∙ counted_is s.metrics new fit in
       subst (λ (x : State). AreaOf b' l F x) (ap (with_metrics s) e ∙ is) (k.to s l h (ap (λ (x : Metrics). state_fits (with_metrics s x)) e ∙ t₁));
 }
 
@@ -235,7 +235,7 @@ pub keeps_counted : (s : State) (due : Bool) (entries : ℕ) → Keeps s (delive
 unfolding delivery_counted
 keeps_counted s due entries = pick_both (λ (x : State). Keeps s x) due (record { config = refl; limits = refl; phase = refl; events = refl }) (same s)
 
-module _ (b : List ℕ) (F : Capacity) (from to : NodeId) (entries size : ℕ) (x : StatusOption) (u : Bool) (r : InputNumbers) (q : Reads b F x (status_at (to.0 - 1))) (e : u ≡ status_runs x) where
+module _ (b : List ℕ) (F : Capacity) (from to : NodeId) (entries size : ℕ) (x : Option Status) (u : Bool) (r : InputNumbers) (q : Reads b F x (status_at (to.0 - 1))) (e : u ≡ status_runs x) where
   deliver_is : (t : Bool) → u ≡ t → (message : List ℕ) (s : State) → Area b s → F ≡ capacity_of s
       → processed (event.Deliver from to entries) message s
       ≡ pick t (record { opening = open_message to from entries message; state = with_phase (delivery_counted (contends (server_at s (to.0 - 1)).status) entries s) (writing (to.0 - 1) message_input nothing) }) (idle s)

@@ -1,5 +1,5 @@
 -- What an event asks and does once it is taken: what the contracts cite. Assumes nothing.
-use Rattle.std.specs.Prelude.{◌≡◌, Bool, true, false, not, ◌&&◌, List, ℕ, ◌≤◌, eqb, length}
+use Rattle.std.specs.Prelude.{◌≡◌, Bool, true, false, not, ◌&&◌, List, ℕ, ◌≤◌, eqb, length, Option, None, Some}
 use Rattle.laws.specs.Bools.{pick}
 use Rattle.units.specs.declared.NodeId.{NodeId}
 use Rattle.protocol.specs.declared.Timer.{Timer}
@@ -13,12 +13,11 @@ use Rattle.model.specs.Simulation.{Moved, running, contends, process}
 use Rattle.state.specs.declared.Capacity.{Capacity}
 use Rattle.state.specs.declared.OpenInput.{OpenInput}
 use Rattle.state.specs.declared.ServerState.{ServerState}
-use Rattle.state.specs.declared.StatusOption.{StatusOption}
-use Rattle.state.specs.declared.StatusOption.TheVariants as status
 use Rattle.state_server.specs.Servers.{pending_room, status_runs}
 use Rattle.answers.specs.declared.InputNumbers.{InputNumbers}
 use Rattle.sim_outputs.specs.Timers.{generation_in}
 use Rattle.sim_owed.specs.Servers.{Opens}
+use Rattle.protocol.specs.declared.Status.{Status}
 
 -- ---- the move
 
@@ -68,9 +67,9 @@ role_contends Candidate = true
 role_contends Leader = true
 
 -- Whether a server of a status does.
-unfoldable pub status_contends : StatusOption → Bool
-status_contends status.None = false
-status_contends (status.Some x) = role_contends x.role
+unfoldable pub status_contends : Option Status → Bool
+status_contends None = false
+status_contends (Some x) = role_contends x.role
 
 -- The id of a server of the cluster.
 pub record ServerId (F : Capacity) (id : NodeId) : Type 0 where

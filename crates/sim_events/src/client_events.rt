@@ -10,7 +10,7 @@ use answers::InputNumbers;
 use sim_clients::{redirects, replies};
 use sim_owed::closes;
 use state::Capacity;
-use units::{LogIndex, NodeOption};
+use units::{LogIndex, NodeId};
 
 // A client begins its next command.
 pub fn send_event(area: &mut [u8], f: Capacity, c: u64) -> InputNumbers
@@ -28,7 +28,7 @@ pub fn redirect_event(
     f: Capacity,
     c: u64,
     attempt: u64,
-    hint: NodeOption,
+    hint: Option<NodeId>,
 ) -> InputNumbers
     requires passed { Passed area.old f }
     requires c_lt_clients { c < f.clients }

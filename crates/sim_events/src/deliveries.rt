@@ -14,9 +14,9 @@ ghost use Rattle.sim_events.specs.Moves.{
 
 use crate::open_message;
 use answers::{InputNumbers, opened};
-use protocol::Role;
+use protocol::{Role, Status};
 use sim_owed::closes;
-use state::{Capacity, StatusOption};
+use state::Capacity;
 use state_server::runs;
 use units::NodeId;
 
@@ -32,12 +32,12 @@ fn role_contends(role: Role) -> bool
 }
 
 // Whether a server takes part in an election or leads.
-fn contends(status: StatusOption) -> bool
+fn contends(status: Option<Status>) -> bool
     ensures { result ≡ status_contends status }
 {
     match status {
-        StatusOption::None => false,
-        StatusOption::Some(x) => {
+        None => false,
+        Some(x) => {
             let role = x.role;
             role_contends(role)
         }
@@ -50,8 +50,7 @@ fn delivery_room(area: &[u8], f: Capacity, entries: u64) -> bool
     ensures { Reads area.now f result (delivery_room entries) }
 {
     let m = state_header::metrics_of(area, f);
-    let counted = m.deliver_to_leader(entries);
-    counted.fits
+    m.deliver_to_leader(entries).is_some()
 }
 
 // Whether the state after a message with so many entries fits.
@@ -76,8 +75,7 @@ fn count_delivery(area: &mut [u8], f: Capacity, due: bool, entries: u64)
         return;
     }
     let m = state_header::metrics_of(area, f);
-    let counted = m.deliver_to_leader(entries);
-    let next = counted.metrics;
+    let next = m.deliver_to_leader(entries).unwrap_or(m);
     state_header::set_metrics(area, f, next);
 }
 

@@ -20,7 +20,7 @@ ghost use Rattle.sim_events.specs.Moves.{
 use answers::{InputNumbers, opened};
 use protocol::Timer;
 use sim_owed::{Owed, closes, servers};
-use state::{Capacity, OpenInput, ServerState, StatusOption};
+use state::{Capacity, OpenInput, ServerState};
 use units::NodeId;
 
 pub mod deliveries; // a message that reaches a server

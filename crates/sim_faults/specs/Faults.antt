@@ -1,5 +1,5 @@
 -- Faults that happen (apply_fault): what the contracts cite, question 10 of each, and what it asks of a state. Assumes nothing.
-use Rattle.std.specs.Prelude.{◌≡◌, Bool, true, List, ℕ, ◌+◌, ◌≤◌}
+use Rattle.std.specs.Prelude.{◌≡◌, Bool, true, List, ℕ, ◌+◌, ◌≤◌, Option, None, Some}
 use Rattle.laws.specs.Bools.{pick}
 use Rattle.units.specs.declared.NodeId.{NodeId}
 use Rattle.units.specs.declared.SimTime.{SimTime}
@@ -11,8 +11,6 @@ use Rattle.faults.specs.declared.Fault.TheVariants.{Crash, CrashDuringNextInput,
 use Rattle.network.specs.Network as network
 use Rattle.network.specs.Ranges.{InRange}
 use Rattle.network.specs.declared.Network.{Network}
-use Rattle.leader.specs.declared.LeaderOption.{LeaderOption}
-use Rattle.leader.specs.declared.LeaderOption.TheVariants as led
 use Rattle.queue.specs.Range.{word}
 use Rattle.queue.specs.declared.Event.TheVariants as event
 use Rattle.model.specs.State.{State, Server, Phase, slot_of}
@@ -24,6 +22,7 @@ use Rattle.answers.specs.declared.InputNumbers.{InputNumbers}
 use Rattle.state_queue.specs.Events.{pushed, plain}
 use Rattle.sim_owed.specs.Servers.{Opens, stop_at, restart_test}
 use Rattle.sim_owed.specs.Closes.{heal_test, Settled}
+use Rattle.leader.specs.declared.Leading.{Leading}
 
 -- ---- what happens
 
@@ -78,9 +77,9 @@ stop_move id downtime s = idle (schedule_fault (stop_server s (slot_of id)) (lat
 -- ---- question 10
 
 -- Of a leader that is stopped: its restart is due at a time of 64 bits.
-unfoldable pub leader_test : LeaderOption → SimTime → Duration → Bool
-leader_test led.None time downtime = true
-leader_test (led.Some id term) time downtime = word (time.0 + downtime.0)
+unfoldable pub leader_test : Option Leading → SimTime → Duration → Bool
+leader_test None time downtime = true
+leader_test (Some l) time downtime = word (time.0 + downtime.0)
 
 -- The same of the leader of a state.
 unfoldable pub leader_fits : SimTime → Duration → State → Bool

@@ -1,9 +1,8 @@
 -- Question 10 of a fault, so that a caller can ask it before it takes the event. Assumes nothing.
-use Rattle.std.specs.Prelude.{◌≡◌, Bool, ◌&&◌, List, [], ◌∷◌, ℕ, suc, ◌+◌, ◌-◌, ◌^◌, ◌≤◌, ◌<◌, max, eqb, set}
+use Rattle.std.specs.Prelude.{◌≡◌, Bool, ◌&&◌, List, [], ◌∷◌, ℕ, suc, ◌+◌, ◌-◌, ◌^◌, ◌≤◌, ◌<◌, max, eqb, set, Option, None, Some}
 use Rattle.std.proofs.Math.Path.{refl, sym, ap, ap₂}
 use Rattle.std.proofs.Common.{subst, ◌∙◌, lt-ltb, le-leb, leb-true, eqb-true, ltb-true}
 use Rattle.std.proofs.Math.Bool.{true}
-use Rattle.std.proofs.Math.Option.{Option, none, some}
 use native.Mathlib.Omega.{arith}
 use Rattle.std.proofs.Math.ListN.{length}
 use Rattle.laws.specs.Bools.{pick, cases, pick_both, ◌and◌, allb, and_left, and_true}
@@ -23,8 +22,6 @@ use Rattle.protocol.specs.Numbers.{leads}
 use Rattle.protocol.specs.declared.Status.{Status}
 use Rattle.leader.specs.Leader.{not_below, better, leader_from, leader}
 use Rattle.leader.specs.declared.Reported.{Reported}
-use Rattle.leader.specs.declared.LeaderOption.{LeaderOption}
-use Rattle.leader.specs.declared.LeaderOption.TheVariants as led
 use Rattle.queue.specs.Queue.{Scheduled, Queue, push}
 use Rattle.queue.specs.Range.{word}
 use Rattle.queue.specs.declared.Event.TheVariants as event
@@ -42,6 +39,7 @@ use Rattle.sim_owed.specs.Servers.{stop_at, restart_test, restart_at}
 use Rattle.sim_owed.specs.Closes.{idle_at, heal_at, heal_test, stopped_from, stopped_test, flags_of, SettledIn, Agrees}
 use Rattle.sim_owed.specs.Fits.{settled_fits, fits_idle, fits_stop, kept_stop, fits_restart, fits_heal, agrees_none}
 use Rattle.sim_faults.specs.Faults.{fault_at, network_after, network_move, crashing_at, stop_move, leader_test, leader_fits, restart_fits, fault_test, ReadyIn}
+use Rattle.leader.specs.declared.Leading.{Leading}
 
 -- ---- a state that fits is ready
 
@@ -149,41 +147,41 @@ slot_known S id h =
 -- ---- the leader
 
 -- A leader, if there is one, has an id of 1 to n.
-abbrev pub Below : ℕ → LeaderOption → Type 0
-Below n led.None = Unit {0}
-Below n (led.Some id term) = (1 ≤ id.0) × (id.0 ≤ n)
+abbrev pub Below : ℕ → Option Leading → Type 0
+Below n None = Unit {0}
+Below n (Some l) = (1 ≤ l.id.0) × (l.id.0 ≤ n)
 
-weaker : (n m : ℕ) (o : LeaderOption) → n ≤ m → Below n o → Below m o
-weaker n m led.None l h = tt
-weaker n m (led.Some id term) l h = (h.0, omega (arith, h.1))
+weaker : (n m : ℕ) (o : Option Leading) → n ≤ m → Below n o → Below m o
+weaker n m None l h = tt
+weaker n m (Some x) l h = (h.0, omega (arith, h.1))
 
-better_below : (k : ℕ) (best : LeaderOption) (r : Reported) → r.id.0 ≡ k + 1 → Below k best → Below (suc k) (better best r)
+better_below : (k : ℕ) (best : Option Leading) (r : Reported) → r.id.0 ≡ k + 1 → Below k best → Below (suc k) (better best r)
 unfolding better
 better_below k best r e h =
     let low : 1 ≤ r.id.0 = omega arith in
     let high : r.id.0 ≤ suc k = omega arith in
-    let won : Below (suc k) (led.Some r.id r.status.term) = (low, high) in
+    let won : Below (suc k) (Some (record { id = r.id; term = r.status.term })) = (low, high) in
     pick_both (Below (suc k)) (leads r.status.role && not_below best r) won (weaker k (suc k) best (omega arith) h)
 
-from_below : (vs : List Server) (k : ℕ) (best : LeaderOption) → Below k best → Below (k + length vs) (leader_from best (reported_from k vs))
+from_below : (vs : List Server) (k : ℕ) (best : Option Leading) → Below k best → Below (k + length vs) (leader_from best (reported_from k vs))
 unfolding leader_from reported_from
 from_below [] k best h = weaker k (k + 0) best (omega arith) h
 from_below (v ∷ vs) k best h = by v.status (λ b q. subst (λ (n : ℕ). Below n (leader_from b (reported_from (suc k) vs))) (let e : suc k + length vs ≡ k + suc (length vs) = omega arith in e) (from_below vs (suc k) b q))
   where
-    by : (o : Option Status) → ((b : LeaderOption) → Below (suc k) b → Below (k + suc (length vs)) (leader_from b (reported_from (suc k) vs)))
+    by : (o : Option Status) → ((b : Option Leading) → Below (suc k) b → Below (k + suc (length vs)) (leader_from b (reported_from (suc k) vs)))
         → Below (k + suc (length vs)) (leader_from best (reported_status k o (reported_from (suc k) vs)))
-    by none more = more best (weaker k (suc k) best (omega arith) h)
-    by (some x) more =
+    by None more = more best (weaker k (suc k) best (omega arith) h)
+    by (Some x) more =
         more (better best (record { id = id_of k; status = x })) (better_below k best (record { id = id_of k; status = x }) refl h)
 
 -- the leader is in the cluster
 pub leader_below : (t : State) → ServersFit t → Below t.config.servers (leader_of t)
 unfolding leader
-leader_below t h = subst (λ (n : ℕ). Below n (leader_of t)) (let e : 0 + length t.servers ≡ t.config.servers = omega (arith, h.count) in e) (from_below t.servers 0 led.None tt)
+leader_below t h = subst (λ (n : ℕ). Below n (leader_of t)) (let e : 0 + length t.servers ≡ t.config.servers = omega (arith, h.count) in e) (from_below t.servers 0 None tt)
 
-pub leader_is_known : (t : State) → ServersFit t → (o : LeaderOption) (id : NodeId) (term : _) → o ≡ leader_of t → o ≡ led.Some id term
-    → (1 ≤ id.0) × (id.0 ≤ t.config.servers)
-leader_is_known t h o id term e q = subst (Below t.config.servers) (sym e ∙ q) (leader_below t h)
+pub leader_is_known : (t : State) → ServersFit t → (o : Option Leading) (l : Leading) → o ≡ leader_of t → o ≡ Some l
+    → (1 ≤ l.id.0) × (l.id.0 ≤ t.config.servers)
+leader_is_known t h o l e q = subst (Below t.config.servers) (sym e ∙ q) (leader_below t h)
 
 -- The restart that is scheduled.
 abbrev pub restart_event : NodeId → SimTime → Scheduled
@@ -280,10 +278,10 @@ module _ (t : State) (p : ReadyIn t) where
   unfolding fault_at apply_fault idle_at stop_move leader_test
   leader_by d r = by (leader_of t) (leader_below t p.settled.servers)
     where
-      by : (o : LeaderOption) → Below t.config.servers o
+      by : (o : Option Leading) → Below t.config.servers o
           → state_fits (idle (crash_leader t o d)).state ≡ (leader_test o t.now d and state_fits t)
-      by led.None q = fits_idle t p.settled ∙ sym (true_and (state_fits t))
-      by (led.Some id term) q = fits_stop_move t id d p q.0 q.1 r
+      by None q = fits_idle t p.settled ∙ sym (true_and (state_fits t))
+      by (Some l) q = fits_stop_move t l.id d p q.0 q.1 r
 
   heal_by : state_fits (fault_at HealAll t).state ≡ (heal_test 0 t.config.servers true t and state_fits t)
   unfolding fault_at apply_fault heal_at network_after

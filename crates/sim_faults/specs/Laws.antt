@@ -1,16 +1,13 @@
 -- What the proofs of the functions cite. Assumes nothing.
-use Rattle.std.specs.Prelude.{◌≡◌, Bool, not, List, ℕ, ◌+◌, ◌-◌, ◌≤◌, ◌<◌}
+use Rattle.std.specs.Prelude.{◌≡◌, Bool, not, List, ℕ, ◌+◌, ◌-◌, ◌≤◌, ◌<◌, Option, None, Some}
 use Rattle.std.proofs.Math.Path.{refl, sym, ap, subst}
 use Rattle.std.proofs.Common.{◌∙◌, leb-true}
 use Rattle.std.proofs.Math.Bool.{true, false}
-use Rattle.std.proofs.Math.Option.{Option, none, some}
 use native.Mathlib.Omega.{arith}
 use Rattle.std.proofs.lemmas.Bool.{not-true, not-false}
 use Rattle.laws.specs.Bools.{pick, ◌and◌, and_left}
 use Rattle.laws.proofs.BoolLaws.{and_right, and_both}
-use Rattle.laws.specs.Lists.{is_some}
 use Rattle.units.specs.declared.NodeId.{NodeId}
-use Rattle.units.specs.declared.Term.{Term}
 use Rattle.units.specs.declared.SimTime.{SimTime}
 use Rattle.units.specs.declared.Duration.{Duration}
 use Rattle.faults.specs.Fault.{in_cluster, fault_in_range}
@@ -19,8 +16,6 @@ use Rattle.faults.specs.declared.Fault.TheVariants.{Crash, CrashDuringNextInput,
 use Rattle.network.specs.Network as network
 use Rattle.network.specs.declared.Network.{Network}
 use Rattle.protocol.specs.declared.Status.{Status}
-use Rattle.leader.specs.declared.LeaderOption.{LeaderOption}
-use Rattle.leader.specs.declared.LeaderOption.TheVariants as led
 use Rattle.queue.specs.Queue.{Scheduled}
 use Rattle.queue.specs.Range.{word}
 use Rattle.queue.specs.declared.Event.TheVariants as event
@@ -31,9 +26,6 @@ use Rattle.model.specs.Fits.{state_fits}
 use Rattle.state.specs.declared.Capacity.{Capacity}
 use Rattle.state.specs.declared.Run.{Run}
 use Rattle.state.specs.declared.ServerState.{ServerState}
-use Rattle.state.specs.declared.StatusOption.{StatusOption}
-use Rattle.state.specs.declared.StatusOption.TheVariants as status
-use Rattle.state.specs.Server.{option_status}
 use Rattle.state.specs.Area.{Area, capacity_of, run_of}
 use Rattle.state.specs.Fitting.{area_fits}
 use Rattle.state.specs.Lens.{servers_fit_lem}
@@ -54,6 +46,7 @@ use Rattle.sim_owed.specs.Fits.{settled_fits, fits_idle, fits_stop}
 use Rattle.sim_owed.specs.ServerLaws.{opens_after, opens_is}
 use Rattle.sim_faults.specs.Faults.{fault_at, network_after, network_move, crashing_state, crashing_at, stop_scheduled, stop_move, leader_test, leader_fits, restart_fits, fault_test, Known, Aimed, StopsKnown}
 use Rattle.sim_faults.specs.Fits.{ready_fits, fits_after, fits_crashing, restart_event, fits_stopped, stop_is, stopped_settled, leader_is_known}
+use Rattle.leader.specs.declared.Leading.{Leading}
 
 -- ---- the servers that a fault names
 
@@ -204,12 +197,12 @@ module _ (b b₁ b₂ : List ℕ) (F : Capacity) (n m : Network) (r : InputNumbe
 
 -- ---- one server
 
-module _ (b : List ℕ) (F : Capacity) (slot : ℕ) (x : StatusOption) (q : Reads b F x (status_at slot)) where
-  pub runs_no : x ≡ status.None → Reads b F false (runs_at slot)
+module _ (b : List ℕ) (F : Capacity) (slot : ℕ) (x : Option Status) (q : Reads b F x (status_at slot)) where
+  pub runs_no : x ≡ None → Reads b F false (runs_at slot)
   unfolding status_at runs_at status_runs
   runs_no e = record { to = λ s h ef. ap status_runs (sym e ∙ q.to s h ef) ∙ status_runs_lem (server_at s slot).status }
 
-  pub runs_yes : (y : Status) → x ≡ status.Some y → Reads b F true (runs_at slot)
+  pub runs_yes : (y : Status) → x ≡ Some y → Reads b F true (runs_at slot)
   unfolding status_at runs_at status_runs
   runs_yes y e = record { to = λ s h ef. ap status_runs (sym e ∙ q.to s h ef) ∙ status_runs_lem (server_at s slot).status }
 
@@ -290,35 +283,35 @@ crashing_set b b' F slot x y q e p = record {
 
 -- ---- the leader
 
-module _ (b : List ℕ) (F : Capacity) (x : LeaderOption) (q : Reads b F x leader_of) where
-  pub leaderless : (time : SimTime) (d : Duration) → x ≡ led.None → Reads b F true (leader_fits time d)
+module _ (b : List ℕ) (F : Capacity) (x : Option Leading) (q : Reads b F x leader_of) where
+  pub leaderless : (time : SimTime) (d : Duration) → x ≡ None → Reads b F true (leader_fits time d)
   unfolding leader_fits leader_test
-  leaderless time d e = record { to = λ s h ef. ap (λ (o : LeaderOption). leader_test o time d) (sym e ∙ q.to s h ef) }
+  leaderless time d e = record { to = λ s h ef. ap (λ (o : Option Leading). leader_test o time d) (sym e ∙ q.to s h ef) }
 
-  pub leader_due : (time : SimTime) (d : Duration) (id : NodeId) (term : Term) (a : Sum) → x ≡ led.Some id term → Sums time.0 d.0 a
+  pub leader_due : (time : SimTime) (d : Duration) (l : Leading) (a : Sum) → x ≡ Some l → Sums time.0 d.0 a
       → Reads b F a.fits (leader_fits time d)
   unfolding leader_fits leader_test
-  leader_due time d id term a e u = record { to = λ s h ef. u.fits ∙ ap (λ (o : LeaderOption). leader_test o time d) (sym e ∙ q.to s h ef) }
+  leader_due time d l a e u = record { to = λ s h ef. u.fits ∙ ap (λ (o : Option Leading). leader_test o time d) (sym e ∙ q.to s h ef) }
 
-  pub leader_none : (b' : List ℕ) (d : Duration) (r : InputNumbers) → x ≡ led.None → Opens b b' F r idle_at
+  pub leader_none : (b' : List ℕ) (d : Duration) (r : InputNumbers) → x ≡ None → Opens b b' F r idle_at
       → Opens b b' F r (fault_at (CrashLeader d))
   unfolding fault_at apply_fault idle_at
-  leader_none b' d r e o = opens_is idle_at (fault_at (CrashLeader d)) o (λ s h ef. ap (λ (y : LeaderOption). idle (crash_leader s y d)) (sym e ∙ q.to s h ef))
+  leader_none b' d r e o = opens_is idle_at (fault_at (CrashLeader d)) o (λ s h ef. ap (λ (y : Option Leading). idle (crash_leader s y d)) (sym e ∙ q.to s h ef))
 
-  pub leader_some : (b' : List ℕ) (d : Duration) (r : InputNumbers) (id : NodeId) (term : Term) → x ≡ led.Some id term
-      → StopsKnown b b' F id d r → Opens b b' F r (fault_at (CrashLeader d))
+  pub leader_some : (b' : List ℕ) (d : Duration) (r : InputNumbers) (l : Leading) → x ≡ Some l
+      → StopsKnown b b' F l.id d r → Opens b b' F r (fault_at (CrashLeader d))
   unfolding fault_at apply_fault stop_move
-  leader_some b' d r id term e o =
-      let stops : (s : State) → Area b s → F ≡ capacity_of s → Opens b b' F r (stop_move id d) =
+  leader_some b' d r l e o =
+      let stops : (s : State) → Area b s → F ≡ capacity_of s → Opens b b' F r (stop_move l.id d) =
       λ s h ef.
       let n : F.servers ≡ s.config.servers = ap (λ (G : Capacity). G.servers) ef in
-      let i = leader_is_known s (servers_fit_lem s (area_fits h)) x id term (q.to s h ef) e in
-      o.to (record { low = i.0; high = subst (λ (m : ℕ). id.0 ≤ m) (sym n) i.1 }) in
-      let is : (s : State) → Area b s → F ≡ capacity_of s → stop_move id d s ≡ fault_at (CrashLeader d) s =
-      λ s h ef. ap (λ (y : LeaderOption). idle (crash_leader s y d)) (sym e ∙ q.to s h ef) in
+      let i = leader_is_known s (servers_fit_lem s (area_fits h)) x l (q.to s h ef) e in
+      o.to (record { low = i.0; high = subst (λ (m : ℕ). l.id.0 ≤ m) (sym n) i.1 }) in
+      let is : (s : State) → Area b s → F ≡ capacity_of s → stop_move l.id d s ≡ fault_at (CrashLeader d) s =
+      λ s h ef. ap (λ (y : Option Leading). idle (crash_leader s y d)) (sym e ∙ q.to s h ef) in
       record {
-        changes = record { to = λ s rest h t. (opens_is (stop_move id d) (fault_at (CrashLeader d)) (stops s h.area h.capacity) is).changes.to s rest h t };
-        input = λ s h ef t. (opens_is (stop_move id d) (fault_at (CrashLeader d)) (stops s h ef) is).input s h ef t;
+        changes = record { to = λ s rest h t. (opens_is (stop_move l.id d) (fault_at (CrashLeader d)) (stops s h.area h.capacity) is).changes.to s rest h t };
+        input = λ s h ef t. (opens_is (stop_move l.id d) (fault_at (CrashLeader d)) (stops s h ef) is).input s h ef t;
       }
 
 pub stop_scheduled_lem : (b b₁ b₂ : List ℕ) (F : Capacity) (id : NodeId) (time : SimTime) → Changes b b₁ F (stop_at (id.0 - 1))

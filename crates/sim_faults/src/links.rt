@@ -8,7 +8,7 @@ ghost use Rattle.sim_faults.specs.Faults.{fault_at, network_after, network_move,
 
 use answers::InputNumbers;
 use faults::Fault;
-use network::Network;
+use network::{Link, Network};
 use sim_owed::closes;
 use state::Capacity;
 
@@ -23,8 +23,8 @@ fn network_after(n: Network, fault: Fault) -> Network
         Fault::Restart(_) => n,
         Fault::CrashLeader { downtime: _ } => n,
         Fault::Partition(groups) => n.partition(groups),
-        Fault::Block { from, to } => n.block(from, to),
-        Fault::Unblock { from, to } => n.unblock(from, to),
+        Fault::Block { from, to } => n.block(Link { from, to }),
+        Fault::Unblock { from, to } => n.unblock(Link { from, to }),
         Fault::HealLinks => n.heal_links(),
         Fault::SetLoss(rate) => n.set_loss(rate),
         Fault::SetDuplication(rate) => n.set_duplication(rate),

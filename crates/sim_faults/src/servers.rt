@@ -8,11 +8,10 @@ ghost use Rattle.sim_faults.specs.Faults.{fault_at, crashing_state, crashing_at,
 
 use answers::InputNumbers;
 use faults::Fault;
-use leader::LeaderOption;
 use queue::Event;
 use sim_outputs::sum64;
 use sim_owed::{Owed, closes, servers};
-use state::{Capacity, ServerState, StatusOption};
+use state::{Capacity, ServerState};
 use units::{Duration, NodeId, SimTime};
 
 // Whether the server at a place runs.
@@ -22,8 +21,8 @@ fn runs(area: &[u8], f: Capacity, slot: u64) -> bool
     ensures { Reads area.now f result (runs_at slot) }
 {
     match state_server::status_of(area, f, slot as usize) {
-        StatusOption::None => false,
-        StatusOption::Some(_) => true,
+        None => false,
+        Some(_) => true,
     }
 }
 
@@ -120,8 +119,8 @@ pub fn crash_leader_fits(area: &[u8], f: Capacity, time: SimTime, downtime: Dura
     ensures { Reads area.now f result (leader_fits time downtime) }
 {
     match state_server::leader_of(area, f) {
-        LeaderOption::None => true,
-        LeaderOption::Some { id: _, term: _ } => sum64(time.0, downtime.0).fits,
+        None => true,
+        Some(_) => sum64(time.0, downtime.0).fits,
     }
 }
 
@@ -158,7 +157,7 @@ pub fn crash_leader(area: &mut [u8], f: Capacity, downtime: Duration) -> InputNu
     ensures { Opens area.old area.new f result (fault_at (fault.CrashLeader downtime)) }
 {
     match state_server::leader_of(area, f) {
-        LeaderOption::None => closes::close_phase(area, f),
-        LeaderOption::Some { id, term: _ } => stop_leader(area, f, id, downtime),
+        None => closes::close_phase(area, f),
+        Some(leading) => stop_leader(area, f, leading.id, downtime),
     }
 }

@@ -1,18 +1,11 @@
 -- What the proofs of confirmations.rt cite. Assumes nothing.
-use Rattle.std.specs.Prelude.{◌≡◌, Bool, true, false, List, ltb, leb, length}
+use Rattle.std.specs.Prelude.{◌≡◌, Bool, true, List, ltb, leb, length, None, Some}
 use Rattle.std.proofs.Math.Path.{refl, ap}
-use Rattle.std.proofs.Common.{sym, ap₂, subst, ◌∙◌, arith, Fits, lt-ltb}
-use Rattle.std.proofs.Math.Option.{Option, none, some}
+use Rattle.std.proofs.Common.{sym, ap₂, ◌∙◌, arith, Fits, lt-ltb}
 use Prim.Native.Nat.{ℕ, ◌+◌, ◌^◌, ◌≤◌, ◌<◌}
 use Rattle.std.specs.Int.{w64}
 use Rattle.laws.specs.Bools.{◌and◌, and_true}
 use Rattle.laws.proofs.BoolLaws.{and_both}
-use Rattle.units.specs.declared.LogIndex.{LogIndex}
-use Rattle.protocol.specs.declared.RequestId.{RequestId}
-use Rattle.clients.specs.Confirmations.{index_of, confirmation_of}
-use Rattle.clients.specs.declared.confirmations.Confirmation.{Confirmation as ConfirmationRow}
-use Rattle.clients.specs.declared.confirmations.IndexOption.{IndexOption}
-use Rattle.clients.specs.declared.confirmations.IndexOption.TheVariants.{None as NoIndex, Some as SomeIndex}
 use Rattle.model.specs.State.{State, Confirmation}
 use Rattle.model.specs.Simulation.{confirm}
 use Rattle.model.specs.Calls.{Out, done, output, output_confirmed, output_lost}
@@ -68,45 +61,43 @@ module _ (b : List ℕ) (F : Capacity) (c : ℕ) (q : Reads b F c confirm_code) 
 -- ---- leadership confirmed
 
 module _ (request index : ℕ) (w : Fits w64 request) (v : Fits w64 index) where
-  abbrev yes : ConfirmationRow
-  yes = record { request = record { 0 = request }; read_index = SomeIndex (record { 0 = index }) }
+  abbrev yes : Confirmation
+  yes = record { request = record { 0 = request }; read_index = Some (record { 0 = index }) }
 
-  yes_good : (s : State) → confirmation_fits s.config s.limits (confirmation_of yes) ≡ true
-  unfolding confirmation_of index_of
+  yes_good : (s : State) → confirmation_fits s.config s.limits yes ≡ true
   yes_good s = and_both _ _ (lt-ltb request (2 ^ 64) w.fits) (lt-ltb index (2 ^ 64) v.fits)
 
-  yes_is : (s : State) → output_confirmed (record { 0 = request }) (record { 0 = index }) s ≡ output s.phase (λ slot. done tt (confirmed (confirmation_of yes) s))
-  unfolding output_confirmed confirm confirmed confirmation_of index_of
+  yes_is : (s : State) → output_confirmed (record { 0 = request }) (record { 0 = index }) s ≡ output s.phase (λ slot. done tt (confirmed yes s))
+  unfolding output_confirmed confirm confirmed
   yes_is s = refl
 
   module _ (b : List ℕ) (g : Gate) (q : Gated b g) (y : g.refusal ≤ 0) (c : ℕ) (k : Reads b g.capacity c confirm_code) where
     pub confirmed_no : (r : DoneAnswer) → 0 < c → r ≡ done_no c → (r, b) ≡ call done_no done_yes b (output_confirmed (record { 0 = request }) (record { 0 = index }))
     confirmed_no r n e =
-        call_refused done_no done_yes b _ g q y c tt (confirmed (confirmation_of yes)) (planned b g.capacity c k (confirmation_of yes) _ yes_is yes_good) r n e
+        call_refused done_no done_yes b _ g q y c tt (confirmed yes) (planned b g.capacity c k yes _ yes_is yes_good) r n e
 
-    pub confirmed_done : (b' : List ℕ) (r : DoneAnswer) → c ≤ 0 → Changes b b' g.capacity (confirmed (confirmation_of (record { request = record { 0 = request }; read_index = SomeIndex (record { 0 = index }) }))) → r ≡ done_no 0
+    pub confirmed_done : (b' : List ℕ) (r : DoneAnswer) → c ≤ 0 → Changes b b' g.capacity (confirmed (record { request = record { 0 = request }; read_index = Some (record { 0 = index }) })) → r ≡ done_no 0
         → (r, b') ≡ call done_no done_yes b (output_confirmed (record { 0 = request }) (record { 0 = index }))
     confirmed_done b' r n p e =
-        call_done done_no done_yes b _ g q y c tt (confirmed (confirmation_of yes)) (planned b g.capacity c k (confirmation_of yes) _ yes_is yes_good) b' r n p e
+        call_done done_no done_yes b _ g q y c tt (confirmed yes) (planned b g.capacity c k yes _ yes_is yes_good) b' r n p e
 
 -- ---- leadership lost
 
 module _ (request : ℕ) (w : Fits w64 request) where
-  abbrev no : ConfirmationRow
-  no = record { request = record { 0 = request }; read_index = NoIndex }
+  abbrev no : Confirmation
+  no = record { request = record { 0 = request }; read_index = None }
 
-  no_good : (s : State) → confirmation_fits s.config s.limits (confirmation_of no) ≡ true
-  unfolding confirmation_of index_of
+  no_good : (s : State) → confirmation_fits s.config s.limits no ≡ true
   no_good s = and_both _ _ (lt-ltb request (2 ^ 64) w.fits) refl
 
-  no_is : (s : State) → output_lost (record { 0 = request }) s ≡ output s.phase (λ slot. done tt (confirmed (confirmation_of no) s))
-  unfolding output_lost confirm confirmed confirmation_of index_of
+  no_is : (s : State) → output_lost (record { 0 = request }) s ≡ output s.phase (λ slot. done tt (confirmed no s))
+  unfolding output_lost confirm confirmed
   no_is s = refl
 
   module _ (b : List ℕ) (g : Gate) (q : Gated b g) (y : g.refusal ≤ 0) (c : ℕ) (k : Reads b g.capacity c confirm_code) where
     pub lost_no : (r : DoneAnswer) → 0 < c → r ≡ done_no c → (r, b) ≡ call done_no done_yes b (output_lost (record { 0 = request }))
-    lost_no r n e = call_refused done_no done_yes b _ g q y c tt (confirmed (confirmation_of no)) (planned b g.capacity c k (confirmation_of no) _ no_is no_good) r n e
+    lost_no r n e = call_refused done_no done_yes b _ g q y c tt (confirmed no) (planned b g.capacity c k no _ no_is no_good) r n e
 
-    pub lost_done : (b' : List ℕ) (r : DoneAnswer) → c ≤ 0 → Changes b b' g.capacity (confirmed (confirmation_of (record { request = record { 0 = request }; read_index = NoIndex }))) → r ≡ done_no 0
+    pub lost_done : (b' : List ℕ) (r : DoneAnswer) → c ≤ 0 → Changes b b' g.capacity (confirmed (record { request = record { 0 = request }; read_index = None })) → r ≡ done_no 0
         → (r, b') ≡ call done_no done_yes b (output_lost (record { 0 = request }))
-    lost_done b' r n p e = call_done done_no done_yes b _ g q y c tt (confirmed (confirmation_of no)) (planned b g.capacity c k (confirmation_of no) _ no_is no_good) b' r n p e
+    lost_done b' r n p e = call_done done_no done_yes b _ g q y c tt (confirmed no) (planned b g.capacity c k no _ no_is no_good) b' r n p e

@@ -1,12 +1,11 @@
 -- What the proofs of lib.rt cite, and what a call in the sending phase gives. Assumes nothing.
-use Rattle.std.specs.Prelude.{◌≡◌, refl, Bool, true, false, not, ◌&&◌, List, ℕ, ◌+◌, ◌-◌, ◌^◌, ◌≤◌, ◌<◌, ltb}
-use Rattle.std.proofs.Common.{sym, ap₂, subst, ◌∙◌, arith, Fits, lt-ltb, le-ltb, ltb-true}
+use Rattle.std.specs.Prelude.{◌≡◌, refl, Bool, true, false, not, ◌&&◌, List, ℕ, ◌+◌, ◌-◌, ◌^◌, ◌≤◌, ◌<◌, None, Some}
+use Rattle.std.proofs.Common.{sym, subst, ◌∙◌, arith, Fits, lt-ltb, le-ltb, ltb-true}
 use Rattle.std.proofs.Math.Path.{ap}
 use Rattle.std.proofs.Math.Dec.{eqb}
 use Rattle.std.specs.Int.{w64}
-use Rattle.laws.specs.Bools.{pick, and_left}
+use Rattle.laws.specs.Bools.{and_left}
 use Rattle.laws.specs.Decides.{false_true}
-use Rattle.units.specs.declared.NodeOption.TheVariants.{None, Some}
 use Rattle.model.specs.State.{State, Phase, closed, writing, sending, accepted, not_leader}
 use Rattle.model.specs.Calls.{done, output, ask}
 use Rattle.model.specs.Fits.{state_fits, phase_fits}
@@ -20,7 +19,6 @@ use Rattle.state.specs.Fitting.{area_fits, laid_limits}
 use Rattle.state.specs.FitsBy.{fits_test}
 use Rattle.state.specs.Changes.{Inside, Gated, Reads, judged}
 use Rattle.state_header.specs.Header.{phase_of}
-use Rattle.sim_outputs.specs.declared.Sum.{Sum}
 use Rattle.sim_outputs.specs.declared.Sender.{Sender}
 use Rattle.sim_outputs.specs.Outputs.{Passed, sends, sender_of, IsSender, asks_code, Sums}
 

@@ -20,7 +20,7 @@ use Rattle.state.specs.Parts.{phase_slot}
 use Rattle.state.specs.Server.{state_of_server}
 use Rattle.state.specs.Area.{Area, capacity_of}
 use Rattle.state.specs.Fitting.{area_fits, laid_limits}
-use Rattle.state.specs.FitsBy.{fits_test, server_count, server_fits_at, fits_server_one}
+use Rattle.state.specs.FitsBy.{server_fits_at, fits_server_one}
 use Rattle.state.specs.Lens.{server_same, fits_on_server, servers_fit_lem}
 use Rattle.state.specs.Changes.{AreaOf, Changes, Reads, judged}
 use Rattle.state_server.specs.Servers.{server_state_at, server_state_set}

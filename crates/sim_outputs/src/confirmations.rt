@@ -9,7 +9,7 @@ ghost use Rattle.sim_outputs.specs.Confirmations.{confirm_code};
 
 use crate::{asks_code, sender_of};
 use answers::DoneAnswer;
-use clients::confirmations::{Confirmation, IndexOption};
+use clients::confirmations::Confirmation;
 use protocol::RequestId;
 use state::{Capacity, Gate};
 use units::LogIndex;
@@ -41,7 +41,7 @@ pub fn output_confirmed_in(area: &mut [u8], g: Gate, request: u64, read_index: u
     }
     let confirmation = Confirmation {
         request: RequestId(request),
-        read_index: IndexOption::Some(LogIndex(read_index)),
+        read_index: Some(LogIndex(read_index)),
     };
     state_records::append_confirmation(area, f, confirmation);
     answers::done(0)
@@ -63,7 +63,7 @@ pub fn output_lost_in(area: &mut [u8], g: Gate, request: u64) -> DoneAnswer
     }
     let confirmation = Confirmation {
         request: RequestId(request),
-        read_index: IndexOption::None,
+        read_index: None,
     };
     state_records::append_confirmation(area, f, confirmation);
     answers::done(0)

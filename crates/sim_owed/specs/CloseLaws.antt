@@ -1,10 +1,9 @@
 -- What the proofs of closes.rt cite. Assumes nothing.
-use Rattle.std.specs.Prelude.{◌≡◌, refl, true, false, not, eqb, get_or}
+use Rattle.std.specs.Prelude.{◌≡◌, refl, true, false, not, max, eqb, get_or, Option}
 use Rattle.std.proofs.Math.Path.{sym, ap, ap₂, subst}
 use Rattle.std.proofs.Common.{◌∙◌, add-one, arith, length-set, get_or-set_same, get_or-set_other, lt-ltb, le-ltb, eq-eqb, ne_eqb, eqb-true}
 use Rattle.std.proofs.Math.Bool.{Bool}
 use mathlib.Core.List.{List, map}
-use Rattle.std.proofs.Math.Option.{Option, none, some}
 use Prim.Native.Nat.{ℕ, suc, ◌+◌, ◌-◌, ◌≤◌, ◌<◌}
 use Rattle.std.proofs.Math.ListN.{length, set}
 use Rattle.std.proofs.lemmas.List.{length-map}
@@ -19,9 +18,6 @@ use Rattle.model.specs.Simulation.{no_input, running, idle, start_server, first_
 use Rattle.model.specs.Fits.{state_fits}
 use Rattle.state.specs.declared.Capacity.{Capacity}
 use Rattle.state.specs.declared.ServerState.{ServerState}
-use Rattle.state.specs.declared.StatusOption.{StatusOption}
-use Rattle.state.specs.declared.StatusOption.TheVariants as status
-use Rattle.state.specs.Server.{option_status}
 use Rattle.state.specs.Area.{Area, capacity_of}
 use Rattle.state.specs.Fitting.{area_fits}
 use Rattle.state.specs.FitsBy.{server_count}
@@ -115,7 +111,7 @@ pub runs_told : (b : List ℕ) (F : Capacity) (place slot : ℕ) (running : Bool
 unfolding runs_as
 runs_told b F place slot r e = record { to = λ s h ef. sym (ap (λ (t : Bool). pick t r (running s place)) (eq-eqb place slot e)) }
 
-pub runs_read : (b : List ℕ) (F : Capacity) (place slot : ℕ) (running : Bool) (x : StatusOption) (r : Bool) → (place ≡ slot → ⊥)
+pub runs_read : (b : List ℕ) (F : Capacity) (place slot : ℕ) (running : Bool) (x : Option Status) (r : Bool) → (place ≡ slot → ⊥)
     → Reads b F x (status_at place) → r ≡ status_runs x
     → Reads b F r (runs_as place slot running)
 unfolding runs_as status_at
@@ -146,7 +142,7 @@ flag_as s place slot runs l =
 
 module _ (b : List ℕ) (F : Capacity) (place slot : ℕ) (running : Bool) where
   pub seeking_start : Seeking b F place slot running place
-  seeking_start = record { same = λ s h ef. refl }
+  seeking_start = record { same = λ s h ef. refl; upto = omega arith }
 
   module _ (k : ℕ) (p : Seeking b F place slot running k) where
     module _ (r : Bool) (i : k < F.servers) (q : Reads b F r (runs_as k slot running)) where
@@ -164,6 +160,7 @@ module _ (b : List ℕ) (F : Capacity) (place slot : ℕ) (running : Bool) where
       pub seeking_turn : not r ≡ false → Seeking b F place slot running (k + 1)
       seeking_turn t = record {
         same = λ s h ef. p.same s h ef ∙ here s h ef ∙ ap (λ (u : Bool). pick u (stopped_from (k + 1) slot running s) k) (yes r t);
+        upto = omega arith;
       }
 
       pub seeking_found : not r ≡ true → Reads b F k (stopped_from place slot running)
@@ -171,12 +168,13 @@ module _ (b : List ℕ) (F : Capacity) (place slot : ℕ) (running : Bool) where
         to = λ s h ef. sym (p.same s h ef ∙ here s h ef ∙ ap (λ (u : Bool). pick u (stopped_from (k + 1) slot running s) k) (no r t));
       }
 
-    pub seeking_none : F.servers ≤ k → Reads b F k (stopped_from place slot running)
+    pub seeking_none : (r : ℕ) → place ≤ k → F.servers ≤ k → r ≡ max place F.servers → Reads b F r (stopped_from place slot running)
     unfolding stopped_from first_stopped
-    seeking_none l = record {
+    seeking_none r from l e = record {
       to = λ s h ef.
+          let last : r ≡ k = omega (arith, p.upto) in
           let n : s.config.servers - k ≡ 0 = omega (arith, count_is h ef, server_count s (area_fits h)) in
-          sym (p.same s h ef ∙ ap (λ (m : ℕ). first_stopped (set (flags_of s) slot running) k m) n);
+          last ∙ sym (p.same s h ef ∙ ap (λ (m : ℕ). first_stopped (set (flags_of s) slot running) k m) n);
     }
 
 module _ (b : List ℕ) (F : Capacity) (place slot : ℕ) (running : Bool) (k : ℕ) (q : Reads b F k (stopped_from place slot running)) where

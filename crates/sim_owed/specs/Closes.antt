@@ -1,5 +1,5 @@
 -- What goes on once an input is closed: what the contracts of closes.rt cite, and what a caller says of the state in which it closes one. Assumes nothing.
-use Rattle.std.specs.Prelude.{◌≡◌, Bool, true, false, List, map, ℕ, zero, suc, ◌+◌, ◌-◌, eqb, ltb, length, get_or, set}
+use Rattle.std.specs.Prelude.{◌≡◌, Bool, true, false, List, map, ℕ, zero, suc, ◌+◌, ◌-◌, ◌≤◌, max, eqb, ltb, length, get_or, set}
 use Rattle.laws.specs.Bools.{pick}
 use Rattle.laws.specs.Lists.{is_some}
 use Rattle.config.specs.declared.SimConfig.{SimConfig}
@@ -10,8 +10,6 @@ use Rattle.model.specs.Simulation.{Moved, on_server, running, idle, construct_fr
 use Rattle.model.specs.Fits.{phase_fits}
 use Rattle.state.specs.declared.Capacity.{Capacity}
 use Rattle.state.specs.declared.ServerState.{ServerState}
-use Rattle.state.specs.declared.StatusOption.{StatusOption}
-use Rattle.state.specs.declared.StatusOption.TheVariants as status
 use Rattle.state.specs.Area.{Area, capacity_of}
 use Rattle.state.specs.Lens.{ServersIn}
 use Rattle.state.specs.Changes.{Inside, Changes, Reads}
@@ -58,9 +56,10 @@ first_stopped flags place (suc left) = pick (get_or flags place false) (first_st
 unfoldable pub stopped_from : ℕ → ℕ → Bool → State → ℕ
 stopped_from place slot runs s = first_stopped (set (flags_of s) slot runs) place (s.config.servers - place)
 
--- The servers from one place up to another run: the search from the first goes on from the second.
+-- The servers from one place up to another, at most the first or the end, run: the search from the first goes on from the second.
 pub record Seeking (b : List ℕ) (F : Capacity) (place slot : ℕ) (runs : Bool) (k : ℕ) : Type 0 where
   pub same : (s : State) → Area b s → F ≡ capacity_of s → stopped_from place slot runs s ≡ stopped_from k slot runs s
+  pub upto : k ≤ max place F.servers
 
 -- Whether the server at a place, if there is one, can restart.
 unfoldable pub stopped_test : ℕ → State → Bool

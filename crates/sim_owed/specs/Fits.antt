@@ -1,10 +1,9 @@
 -- Question 10 of a start, a stop, a restart and of what is owed, so that a caller can ask it before it changes anything. Assumes nothing.
-use Rattle.std.specs.Prelude.{◌≡◌, Bool, false, ℕ, zero, suc, ◌+◌, ◌-◌, ◌≤◌, ◌<◌, leb, ltb, set}
+use Rattle.std.specs.Prelude.{◌≡◌, Bool, false, ℕ, zero, suc, ◌+◌, ◌-◌, ◌≤◌, ◌<◌, leb, ltb, set, None}
 use Rattle.std.proofs.Math.Path.{refl, sym, ap, ap₂}
 use Rattle.std.proofs.Common.{◌∙◌, zero-add, arith, lt-ltb, le-ltb, le-leb, ltb-true, ltb-false}
 use Rattle.std.proofs.Math.Bool.{true}
 use mathlib.Core.List.{List, [], ◌∷◌, map}
-use Rattle.std.proofs.Math.Option.{none}
 use Rattle.std.proofs.Math.ListN.{length, get_or, get_or-map}
 use Rattle.std.proofs.lemmas.List.{length-map}
 use Rattle.laws.specs.Bools.{pick, cases, ◌and◌, and_true}
@@ -84,7 +83,7 @@ module _ (t : State) (p : SettledIn t) where
 
 -- A server that has stopped.
 abbrev pub stopped_server : Server → Server
-stopped_server v = with_leading (with_crash_on_next_input (with_pending (with_storage (with_status v none) (crash v.storage)) []) false) none
+stopped_server v = with_leading (with_crash_on_next_input (with_pending (with_storage (with_status v None) (crash v.storage)) []) false) None
 
 module _ (t : State) (slot : ℕ) (h : ServersFit t) (i : slot < t.config.servers) where
   stopped_fits : server_fits t.config t.limits (stopped_server (server_at t slot)) ≡ true

@@ -11,7 +11,7 @@ use Rattle.seeds.specs.Seeds.{stream_seed}
 use Rattle.seeds.specs.declared.Stream.TheVariants as stream
 use Rattle.queue.specs.Range.{word}
 use Rattle.storage.specs.Storage.{crash}
-use Rattle.model.specs.State.{State, Server, Owed, start_input, writing, server_at, id_of}
+use Rattle.model.specs.State.{State, Owed, start_input, writing, server_at, id_of}
 use Rattle.model.specs.Fields.{with_storage, with_pending}
 use Rattle.model.specs.Simulation.{Moved, open_start, on_server, start_server, stop_server, restart_server}
 use Rattle.model.specs.Fits.{state_fits, server_fits, server_tests}

@@ -1,7 +1,6 @@
 -- A server started, stopped or restarted: what the contracts of servers.rt cite. Assumes nothing.
-use Rattle.std.specs.Prelude.{◌≡◌, Bool, true, false, List, ℕ, ◌+◌, ◌^◌, ◌<◌, ltb}
+use Rattle.std.specs.Prelude.{◌≡◌, Bool, true, false, List, ℕ, ◌+◌, ◌^◌, ◌<◌, ltb, None}
 use Rattle.laws.specs.Bools.{◌and◌}
-use Rattle.units.specs.declared.TermOption.TheVariants as term
 use Rattle.seeds.specs.Seeds.{stream_seed}
 use Rattle.seeds.specs.declared.Stream.TheVariants as stream
 use Rattle.queue.specs.Range.{word}
@@ -10,7 +9,6 @@ use Rattle.model.specs.Simulation.{open_start, Moved, start_server, stop_server,
 use Rattle.model.specs.Fits.{state_fits}
 use Rattle.state.specs.declared.Capacity.{Capacity}
 use Rattle.state.specs.declared.ServerState.{ServerState}
-use Rattle.state.specs.declared.StatusOption.TheVariants as status
 use Rattle.state.specs.Area.{Area, capacity_of}
 use Rattle.state.specs.Changes.{Changes}
 use Rattle.answers.specs.declared.InputNumbers.{InputNumbers}
@@ -60,14 +58,14 @@ start_at slot owed s = start_server s slot owed
 -- The state of a server that has stopped.
 unfoldable pub stopped_state : ServerState → ServerState
 stopped_state x = record {
-  status = status.None;
+  status = None;
   incarnation = x.incarnation;
   election = x.election;
   heartbeat = x.heartbeat;
   crash_on_next_input = false;
   next_apply = x.next_apply;
   pending = x.pending;
-  leading = term.None;
+  leading = None;
 }
 
 -- The simulation with the server at a place stopped.

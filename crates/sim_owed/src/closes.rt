@@ -8,7 +8,7 @@ ghost use Rattle.sim_owed.specs.Closes.{uncrashed_state, HealsOne, runs_as, stop
 
 use crate::{Owed, servers};
 use answers::InputNumbers;
-use state::{Capacity, OpenInput, ServerState, StatusOption};
+use state::{Capacity, OpenInput, ServerState};
 
 // ---- nothing is owed
 
@@ -80,14 +80,12 @@ fn first_stopped(area: &[u8], f: Capacity, place: u64, slot: u64, running: bool)
     requires { Inside area.now f }
     ensures { Reads area.now f result (stopped_from place slot running) }
 {
-    let mut k = place;
-    while k < f.servers {
+    for k in place..f.servers {
         if !runs_as(area, f, k, slot, running) {
             return k;
         }
-        k += 1;
     }
-    k
+    place.max(f.servers)
 }
 
 // Whether a HealAll can go on: the first server that is stopped can restart.
@@ -138,12 +136,10 @@ pub fn heal_from(area: &mut [u8], f: Capacity, place: u64) -> InputNumbers
     requires { Inside area.old f }
     ensures { Opens area.old area.new f result (heal_at place) }
 {
-    let mut k = place;
-    while k < f.servers {
+    for k in place..f.servers {
         if !heal_one(area, f, k) {
             return servers::restart_server(area, f, k, Owed::Healing(k + 1));
         }
-        k += 1;
     }
     close_phase(area, f)
 }

@@ -9,8 +9,8 @@ use crate::Owed;
 use answers::{InputNumbers, opened};
 use seeds::Stream;
 use sim_outputs::sum64;
-use state::{Capacity, OpenInput, ServerState, StatusOption};
-use units::{NodeId, TermOption};
+use state::{Capacity, OpenInput, ServerState};
+use units::NodeId;
 
 // ---- a start
 
@@ -68,14 +68,14 @@ fn stopped(x: ServerState) -> ServerState
     ensures { result ≡ stopped_state x }
 {
     ServerState {
-        status: StatusOption::None,
+        status: None,
         incarnation: x.incarnation,
         election: x.election,
         heartbeat: x.heartbeat,
         crash_on_next_input: false,
         next_apply: x.next_apply,
         pending: x.pending,
-        leading: TermOption::None,
+        leading: None,
     }
 }
 

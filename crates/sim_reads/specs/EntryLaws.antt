@@ -1,21 +1,19 @@
 -- What the proof of the read of an entry cites. Assumes nothing.
-use Rattle.std.specs.Prelude.{◌≡◌, refl, Bool, true, ℕ, ◌-◌, ◌≤◌, ◌<◌, length}
+use Rattle.std.specs.Prelude.{◌≡◌, refl, Bool, true, ℕ, ◌-◌, ◌≤◌, ◌<◌, length, Option, None, Some}
 use Rattle.std.proofs.Common.{sym, ◌∙◌}
 use Rattle.std.proofs.Math.Path.{ap}
 use mathlib.Core.List.{List}
-use Rattle.std.proofs.Math.Option.{Option, none, some}
 use native.Mathlib.Omega.{arith}
 use Rattle.std.proofs.Math.Dec.{leb}
 use Rattle.std.proofs.Math.Seq.{sets}
 use borrow.Author.Tests.{le-leb, lt-leb}
 use Rattle.laws.specs.Bools.{pick, cases, ◌and◌}
-use Rattle.units.specs.Types.{Payload, noop, command, Entry}
-use Rattle.units.specs.declared.Term.{Term}
+use Rattle.units.specs.Types.{Payload, noop, command, Entry, shape_of}
 use Rattle.layout.specs.Payload.{body_of}
 use Rattle.raft_log.specs.Log.{entry_at}
-use Rattle.raft_log.specs.Places.{kind_in, place_of, place_at, bytes_in}
-use Rattle.raft_log.specs.declared.Place.{Place}
-use Rattle.raft_log.specs.declared.Place.TheVariants as place
+use Rattle.raft_log.specs.Places.{place_of, place_at, bytes_in}
+use Rattle.raft_log.specs.declared.EntryShape.{EntryShape}
+use Rattle.units.specs.declared.PayloadShape.TheVariants.{Noop, Command}
 use Rattle.model.specs.State.{State, server_at}
 use Rattle.model.specs.Calls.{Out, refused, done, in_cluster}
 use Rattle.model.specs.Reads as reads
@@ -31,35 +29,37 @@ use Rattle.answers.specs.Answers.{payload_kind, commandBytes, entry_no, entry_ye
 use Rattle.answers.specs.Numbers.{entry_bytes, reading_bytes, bytes_of}
 use Rattle.state_disk.specs.Disks.{log_at, ReadsEntryAt}
 use Rattle.sim_reads.specs.declared.ServerAsked.{ServerAsked}
-use Rattle.sim_reads.specs.Servers.{server_code, AsksServer, entry_given, EntryRead}
+use Rattle.sim_reads.specs.Servers.{server_code, AsksServer, shape_given, entry_given, EntryRead}
 use Rattle.sim_reads.specs.Laws.{cluster_known}
 
 -- ---- in numbers
 
-pub entry_absent : (o : Place) (r : EntryAnswer) → o ≡ place.None → r ≡ entry_no 0 → r ≡ entry_given o
+pub entry_absent : (o : Option EntryShape) (r : EntryAnswer) → o ≡ None → r ≡ entry_no 0 → r ≡ entry_given o
 unfolding entry_given
 entry_absent o r e q = q ∙ ap entry_given (sym e)
 
-pub entry_noop : (o : Place) (term : Term) → o ≡ place.Noop term → record { refusal = 0; present = 1; term = term.0; kind = 0; length = 0 } ≡ entry_given o
+pub entry_noop : (o : Option EntryShape) (d : EntryShape) → o ≡ Some d → d.payload ≡ Noop
+    → record { refusal = 0; present = 1; term = d.term.0; kind = 0; length = 0 } ≡ entry_given o
 unfolding entry_given
-entry_noop o term e = ap entry_given (sym e)
+entry_noop o d e f = ap (shape_given d.term) (sym f) ∙ ap entry_given (sym e)
 
-pub entry_command : (o : Place) (term : Term) (n : ℕ) → o ≡ place.Command term n → record { refusal = 0; present = 1; term = term.0; kind = 1; length = n } ≡ entry_given o
+pub entry_command : (o : Option EntryShape) (d : EntryShape) (n : ℕ) → o ≡ Some d → d.payload ≡ Command n
+    → record { refusal = 0; present = 1; term = d.term.0; kind = 1; length = n } ≡ entry_given o
 unfolding entry_given
-entry_command o term n e = ap entry_given (sym e)
+entry_command o d n e f = ap (shape_given d.term) (sym f) ∙ ap entry_given (sym e)
 
 entry_same : (o : Option Entry) → entry_given (place_of o) ≡ entry_yes o
 unfolding entry_given
-entry_same none = refl
-entry_same (some e) = by e.payload
+entry_same None = refl
+entry_same (Some e) = by e.payload
   where
-    by : (p : Payload) → entry_given (kind_in e.term p) ≡ record { refusal = 0; present = 1; term = e.term.0; kind = payload_kind p; length = length (commandBytes p) }
+    by : (p : Payload) → shape_given e.term (shape_of p) ≡ record { refusal = 0; present = 1; term = e.term.0; kind = payload_kind p; length = length (commandBytes p) }
     by noop = refl
     by (command bs) = refl
 
 bytes_same : (o : Option Entry) → bytes_in o ≡ entry_bytes o
-bytes_same none = refl
-bytes_same (some e) = by e.payload
+bytes_same None = refl
+bytes_same (Some e) = by e.payload
   where
     by : (p : Payload) → body_of p ≡ commandBytes p
     by noop = refl
@@ -123,7 +123,7 @@ module _ (b : List ℕ) (g : Gate) (server index : ℕ) (z : List ℕ) (q : Gate
         unfolding reads.read_entry
         entry_nine r i e = stops 9 r (rw (known, lt-leb (decode b).limits.payload (length z) (omega (arith, limit))) refl) e
 
-        pub entry_read : (p : Place) (z' : List ℕ) (r : EntryAnswer) → g.capacity.limits.payload ≤ length z → ReadsEntryAt b g.capacity o.slot (record { 0 = index }) p z z'
+        pub entry_read : (p : Option EntryShape) (z' : List ℕ) (r : EntryAnswer) → g.capacity.limits.payload ≤ length z → ReadsEntryAt b g.capacity o.slot (record { 0 = index }) p z z'
             → r ≡ entry_given p → EntryRead b server index z z' r
         unfolding reads.read_entry log_at place_at
         entry_read p z' r i x e =

@@ -1,8 +1,7 @@
 -- What the proofs of the reads of one server cite. Assumes nothing.
-use Rattle.std.specs.Prelude.{◌≡◌, refl, Bool, List, ℕ, ◌+◌, ◌-◌, ◌≤◌, ◌<◌, length}
+use Rattle.std.specs.Prelude.{◌≡◌, refl, Bool, List, ℕ, ◌+◌, ◌-◌, ◌≤◌, ◌<◌, length, Option, None, Some}
 use Rattle.std.proofs.Math.Path.{sym, ap}
 use Rattle.std.proofs.Common.{ap₂, ◌∙◌, le-leb}
-use Rattle.std.proofs.Math.Option.{some}
 use native.Mathlib.Omega.{arith}
 use Rattle.std.proofs.Math.Dec.{leb}
 use Rattle.std.proofs.Math.ListN.{get_or}
@@ -24,9 +23,6 @@ use Rattle.model.specs.Reads.{read_hard_state, read_log, read_status, read_appli
 use Rattle.state.specs.declared.Capacity.{Capacity}
 use Rattle.state.specs.declared.Gate.{Gate}
 use Rattle.state.specs.declared.ServerState.{ServerState}
-use Rattle.state.specs.declared.StatusOption.{StatusOption}
-use Rattle.state.specs.declared.StatusOption.TheVariants as status
-use Rattle.state.specs.Server.{status_option, status_there}
 use Rattle.state.specs.Decode.{decode}
 use Rattle.state.specs.Fitting.{area_fits}
 use Rattle.state.specs.FitsBy.{server_count}
@@ -101,16 +97,16 @@ pub hard_state_told : (h : HardState) (n m : ℕ) → n ≡ nodePresent h.voted_
 hard_state_told h n m en em = ap₂ (λ (i j : ℕ). record { refusal = 0; term = h.term.0; voted = i; vote = j }) en em
 
 pub status_told_lem : (x : Status) (k n m : ℕ) → k ≡ role_number x.role → n ≡ nodePresent x.leader → m ≡ nodeId x.leader
-    → record { refusal = 0; running = 1; role = k; term = x.term.0; hinted = n; leader = m; commit = x.commit_index.0 } ≡ status_yes (some x)
+    → record { refusal = 0; running = 1; role = k; term = x.term.0; hinted = n; leader = m; commit = x.commit_index.0 } ≡ status_yes (Some x)
 status_told_lem x k n m ek en em =
     ap (λ (i : ℕ). record { refusal = 0; running = 1; role = i; term = x.term.0; hinted = n; leader = m; commit = x.commit_index.0 }) ek
     ∙ ap₂ (λ (i j : ℕ). record { refusal = 0; running = 1; role = role_number x.role; term = x.term.0; hinted = i; leader = j; commit = x.commit_index.0 }) en em
 
-pub status_absent : (o : StatusOption) (r : StatusAnswer) → o ≡ status.None → r ≡ status_no 0 → r ≡ status_given o
+pub status_absent : (o : Option Status) (r : StatusAnswer) → o ≡ None → r ≡ status_no 0 → r ≡ status_given o
 unfolding status_given
 status_absent o r e q = q ∙ ap status_given (sym e)
 
-pub status_present : (o : StatusOption) (x : Status) (r : StatusAnswer) → o ≡ status.Some x → r ≡ status_yes (some x) → r ≡ status_given o
+pub status_present : (o : Option Status) (x : Status) (r : StatusAnswer) → o ≡ Some x → r ≡ status_yes (Some x) → r ≡ status_given o
 unfolding status_given
 status_present o x r e q = q ∙ ap status_given (sym e)
 
@@ -155,11 +151,11 @@ module _ (b : List ℕ) (g : Gate) (server : ℕ) (o : ServerAsked) (q : Gated b
   unfolding read_status
   status_seven = seven status_no status_yes b g server o q y a (read_status server) (λ s. (server_at s (server - 1)).status) (λ s. refl)
 
-  pub status_read : (x : StatusOption) (r : StatusAnswer) → o.code ≤ 0 → Reads b g.capacity x (status_at o.slot) → r ≡ status_given x → r ≡ reading status_no status_yes b (read_status server)
+  pub status_read : (x : Option Status) (r : StatusAnswer) → o.code ≤ 0 → Reads b g.capacity x (status_at o.slot) → r ≡ status_given x → r ≡ reading status_no status_yes b (read_status server)
   unfolding read_status status_at status_given
   status_read x r l p e =
-      tells status_no status_yes b g server o q y a (read_status server) (λ s. (server_at s (server - 1)).status) (λ s. refl) r (status_option x) l
-      (ap status_option (there x status_at l p) ∙ status_there (server_at (decode b) (server - 1)).status) e
+      tells status_no status_yes b g server o q y a (read_status server) (λ s. (server_at s (server - 1)).status) (λ s. refl) r x l
+      (there x status_at l p) e
 
   pub applied_seven : (r : AppliedAnswer) → 0 < o.code → r ≡ applied_no o.code → r ≡ reading applied_no applied_yes b (read_applied server)
   unfolding read_applied

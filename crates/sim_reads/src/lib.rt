@@ -1,8 +1,7 @@
 // The reads of one server (storage, status, applied and sent_by of simulation.rs), behind the gate.
 #![tactic(auto)]
 
-ghost use Rattle.std.specs.Prelude.{◌≡◌, ◌-◌, ◌<◌};
-ghost use Rattle.std.proofs.Math.Option.{some};
+ghost use Rattle.std.specs.Prelude.{◌≡◌, ◌-◌, ◌<◌, Some};
 ghost use Rattle.model.specs.Reads.{read_hard_state, read_log, read_status, read_applied, read_sent_by};
 ghost use Rattle.state.specs.Changes.{Inside, Gated, Reads};
 ghost use Rattle.state.specs.Call.{reading};
@@ -12,11 +11,11 @@ ghost use Rattle.sim_reads.specs.Servers.{AsksServer, log_read, status_given, se
 use answers::{AppliedAnswer, EntryAnswer, HardStateAnswer, LogAnswer, SentByAnswer, StatusAnswer};
 use metrics::Counts;
 use protocol::Status;
-use raft_log::Place;
-use state::{Capacity, Gate, StatusOption};
+use raft_log::EntryShape;
+use state::{Capacity, Gate};
 use state_disk::LogNumbers;
 use storage::HardState;
-use units::{LogIndex, NodeId, NodeOption};
+use units::{LogIndex, NodeId, PayloadShape};
 
 // What a read asks of its server: 0, or 7; the server's place.
 #[derive(Clone, Copy)]
@@ -42,22 +41,22 @@ fn server_asked(f: Capacity, server: u64) -> ServerAsked
 }
 
 // Whether a server is named.
-fn node_present(node: NodeOption) -> u64
+fn node_present(node: Option<NodeId>) -> u64
     ensures { result ≡ nodePresent node }
 {
     match node {
-        NodeOption::None => 0,
-        NodeOption::Some(_) => 1,
+        None => 0,
+        Some(_) => 1,
     }
 }
 
 // Its id, or 0.
-fn node_id(node: NodeOption) -> u64
+fn node_id(node: Option<NodeId>) -> u64
     ensures { result ≡ nodeId node }
 {
     match node {
-        NodeOption::None => 0,
-        NodeOption::Some(id) => id.0,
+        None => 0,
+        Some(id) => id.0,
     }
 }
 
@@ -173,14 +172,14 @@ fn status_no(refusal: u64) -> StatusAnswer
 
 // A running server's status in numbers.
 fn status_some(status: Status) -> StatusAnswer
-    ensures { result ≡ status_yes (some status) }
+    ensures { result ≡ status_yes (Some status) }
 {
     let role = status.role;
     let leader = status.leader;
     StatusAnswer {
         refusal: 0,
         running: 1,
-        role: role.number(),
+        role: u64::from(role),
         term: status.term.0,
         hinted: node_present(leader),
         leader: node_id(leader),
@@ -189,12 +188,12 @@ fn status_some(status: Status) -> StatusAnswer
 }
 
 // A status that may be absent in numbers.
-fn status_yes(status: StatusOption) -> StatusAnswer
+fn status_yes(status: Option<Status>) -> StatusAnswer
     ensures { result ≡ status_given status }
 {
     match status {
-        StatusOption::None => status_no(0),
-        StatusOption::Some(x) => status_some(x),
+        None => status_no(0),
+        Some(x) => status_some(x),
     }
 }
 
@@ -333,22 +332,25 @@ fn entry_no(refusal: u64) -> EntryAnswer
 }
 
 // What stands at an index in numbers.
-fn entry_yes(place: Place) -> EntryAnswer
-    ensures { result ≡ entry_given place }
+fn entry_yes(entry: Option<EntryShape>) -> EntryAnswer
+    ensures { result ≡ entry_given entry }
 {
-    match place {
-        Place::None => entry_no(0),
-        Place::Noop { term } => EntryAnswer {
+    let Some(entry) = entry else {
+        return entry_no(0);
+    };
+    let term = entry.term.0;
+    match entry.payload {
+        PayloadShape::Noop => EntryAnswer {
             refusal: 0,
             present: 1,
-            term: term.0,
+            term,
             kind: 0,
             length: 0,
         },
-        Place::Command { term, length } => EntryAnswer {
+        PayloadShape::Command { length } => EntryAnswer {
             refusal: 0,
             present: 1,
-            term: term.0,
+            term,
             kind: 1,
             length: length as u64,
         },

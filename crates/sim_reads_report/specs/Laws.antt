@@ -1,15 +1,13 @@
 -- What the proofs of the reads of a run's report cite. Assumes nothing.
-use Rattle.std.specs.Prelude.{◌≡◌, Bool, false, not, ℕ, ◌^◌, ◌≤◌, ◌<◌, length}
+use Rattle.std.specs.Prelude.{◌≡◌, Bool, false, not, ℕ, ◌^◌, ◌≤◌, ◌<◌, length, Option, None, Some}
 use Rattle.std.proofs.Math.Path.{refl, sym, ap, ap₂}
 use Rattle.std.proofs.Common.{◌∙◌, arith}
 use Rattle.std.proofs.Math.Bool.{true}
-use mathlib.Core.List.{List, [], ◌∷◌}
-use Rattle.std.proofs.Math.Option.{Option, none, some}
+use mathlib.Core.List.{List}
 use Rattle.std.proofs.Math.Dec.{ltb}
 use Rattle.std.proofs.Math.Seq.{sets}
 use borrow.Author.Tests.{le-leb, lt-leb, not-true, not-false}
 use Rattle.laws.specs.Bools.{pick}
-use Rattle.laws.specs.Decides.{false_true}
 use Rattle.laws.specs.Lists.{at}
 use Rattle.units.specs.Types.{Payload, noop, command}
 use Rattle.layout.specs.declared.marked.Kind.{Kind}
@@ -32,10 +30,6 @@ use Rattle.state.specs.Changes.{Gated, Reads}
 use Rattle.state.specs.Exits.{read_shut, read_refused, read_answered}
 use Rattle.claims.specs.OnArea as claims
 use Rattle.state_header.specs.Header.{metrics_of}
-use Rattle.state_records.specs.declared.ViolationOption.{ViolationOption}
-use Rattle.state_records.specs.declared.ViolationOption.TheVariants as violation
-use Rattle.state_records.specs.declared.PayloadOption.{PayloadOption}
-use Rattle.state_records.specs.declared.PayloadOption.TheVariants as option
 use Rattle.state_records.specs.declared.Sum.{Sum}
 use Rattle.state_records.specs.Records as records
 use Rattle.state_records.specs.Records.{violation_at, payload_kind, payload_bytes, applied_kind, applied_into, ReadsApplied, sum_of, discarded_sum}
@@ -48,19 +42,19 @@ use Rattle.sim_reads_report.specs.Report.{violation_given, metrics_told, kind_gi
 
 -- ---- in numbers
 
-pub violation_absent : (o : ViolationOption) (r : ViolationAnswer) → o ≡ violation.None → r ≡ violation_no 0 → r ≡ violation_given o
+pub violation_absent : (o : Option Violation) (r : ViolationAnswer) → o ≡ None → r ≡ violation_no 0 → r ≡ violation_given o
 unfolding violation_given
 violation_absent o r e q = q ∙ ap violation_given (sym e)
 
-pub violation_present : (o : ViolationOption) (v : Violation) → o ≡ violation.Some v
-    → record { refusal = 0; present = 1; time = v.time.0; check = v.check; count = v.count; numbers = v.first ∷ v.second ∷ v.third ∷ v.fourth ∷ v.fifth ∷ [] } ≡ violation_given o
+pub violation_present : (o : Option Violation) (v : Violation) → o ≡ Some v
+    → record { refusal = 0; present = 1; time = v.time.0; check = v.check; count = v.count; numbers = v.numbers } ≡ violation_given o
 unfolding violation_given
 violation_present o v e = ap violation_given (sym e)
 
 violation_same : (o : Option checks.Violation) → violation_given (records.violation_given o) ≡ violation_yes o
 unfolding violation_given records.violation_given
-violation_same none = refl
-violation_same (some v) = refl
+violation_same None = refl
+violation_same (Some v) = refl
 
 pub metrics_are : (b : List ℕ) (F : Capacity) (discarded gaps : ℕ) (m : Metrics) → Reads b F m metrics_of
     → Reads b F
@@ -88,25 +82,25 @@ pub kind_command : (k : Kind) (n : ℕ) → k ≡ kind.Command n → record { re
 unfolding kind_given
 kind_command k n e = ap kind_given (sym e)
 
-pub payload_absent : (o : PayloadOption) (r : AppliedEntryAnswer) → o ≡ option.None → r ≡ applied_entry_no 0 → r ≡ applied_given o
+pub payload_absent : (o : Option Kind) (r : AppliedEntryAnswer) → o ≡ None → r ≡ applied_entry_no 0 → r ≡ applied_given o
 unfolding applied_given
 payload_absent o r e q = q ∙ ap applied_given (sym e)
 
-pub payload_present : (o : PayloadOption) (k : Kind) (r : AppliedEntryAnswer) → o ≡ option.Some k → r ≡ kind_given k → r ≡ applied_given o
+pub payload_present : (o : Option Kind) (k : Kind) (r : AppliedEntryAnswer) → o ≡ Some k → r ≡ kind_given k → r ≡ applied_given o
 unfolding applied_given
 payload_present o k r e q = q ∙ ap applied_given (sym e)
 
 applied_same : (o : Option Payload) → applied_given (payload_kind o) ≡ applied_entry_yes o
 unfolding applied_given payload_kind kind_given
-applied_same none = refl
-applied_same (some noop) = refl
-applied_same (some (command bs)) = refl
+applied_same None = refl
+applied_same (Some noop) = refl
+applied_same (Some (command bs)) = refl
 
 bytes_same : (o : Option Payload) → payload_bytes o ≡ applied_bytes o
 unfolding payload_bytes
-bytes_same none = refl
-bytes_same (some noop) = refl
-bytes_same (some (command bs)) = refl
+bytes_same None = refl
+bytes_same (Some noop) = refl
+bytes_same (Some (command bs)) = refl
 
 -- ---- violations and metrics
 
@@ -118,7 +112,7 @@ module _ (b : List ℕ) (g : Gate) (q : Gated b g) (y : g.refusal ≤ 0) where
   here : {X : Type 0} {x : X} {get : State → X} → Reads b g.capacity x get → x ≡ get (decode b)
   here p = p.to (decode b) (q.area z) (q.capacity z)
 
-  pub violation_read : (place : ℕ) (x : ViolationOption) (r : ViolationAnswer) → Reads b g.capacity x (violation_at place) → r ≡ violation_given x
+  pub violation_read : (place : ℕ) (x : Option Violation) (r : ViolationAnswer) → Reads b g.capacity x (violation_at place) → r ≡ violation_given x
       → r ≡ reading violation_no violation_yes b (read_violation place)
   unfolding violation_at read_violation
   violation_read place x r p e =
@@ -181,7 +175,7 @@ module _ (b : List ℕ) (g : Gate) (index : ℕ) (z : List ℕ) (q : Gated b g) 
           buffer = ap (λ (a : Answer). sets z 0 (bytes_of a)) (read_refused no claims.same b told g q y (no 9) 9 (ap (given (λ x. got (got_applied_entry x))) k) refl);
         }
 
-    pub applied_read : (p : PayloadOption) (z' : List ℕ) (r : AppliedEntryAnswer) → g.capacity.limits.payload ≤ length z → ReadsApplied b g.capacity index p z z' → r ≡ applied_given p
+    pub applied_read : (p : Option Kind) (z' : List ℕ) (r : AppliedEntryAnswer) → g.capacity.limits.payload ≤ length z → ReadsApplied b g.capacity index p z z' → r ≡ applied_given p
         → AppliedRead b index z z' r
     unfolding bytes_of reading_bytes read_outcome reads.read_applied_entry applied_kind applied_into
     applied_read p z' r i x e =

@@ -9,9 +9,9 @@ ghost use Rattle.answers.specs.Answers.{violation_no, violation_yes, metrics_no,
 ghost use Rattle.sim_reads_report.specs.Report.{violation_given, metrics_told, kind_given, applied_given, AppliedRead};
 
 use answers::{AppliedEntryAnswer, MetricsAnswer, ViolationAnswer};
+use checks::violations::Violation;
 use layout::marked::Kind;
 use state::{Capacity, Gate};
-use state_records::{PayloadOption, ViolationOption};
 use units::LogIndex;
 
 // ---- violations
@@ -31,19 +31,22 @@ fn violation_no(refusal: u64) -> ViolationAnswer
 }
 
 // A violation that may be absent in numbers.
-fn violation_yes(violation: ViolationOption) -> ViolationAnswer
+fn violation_yes(violation: Option<Violation>) -> ViolationAnswer
     ensures { result ≡ violation_given violation }
 {
     match violation {
-        ViolationOption::None => violation_no(0),
-        ViolationOption::Some(v) => ViolationAnswer {
-            refusal: 0,
-            present: 1,
-            time: v.time.0,
-            check: v.check,
-            count: v.count,
-            numbers: [v.first, v.second, v.third, v.fourth, v.fifth],
-        },
+        None => violation_no(0),
+        Some(v) => {
+            let numbers = v.numbers;
+            ViolationAnswer {
+                refusal: 0,
+                present: 1,
+                time: v.time.0,
+                check: v.check,
+                count: v.count,
+                numbers,
+            }
+        }
     }
 }
 
@@ -156,12 +159,12 @@ fn applied_some(kind: Kind) -> AppliedEntryAnswer
 }
 
 // A payload that may be absent in numbers.
-fn applied_entry_yes(payload: PayloadOption) -> AppliedEntryAnswer
+fn applied_entry_yes(payload: Option<Kind>) -> AppliedEntryAnswer
     ensures { result ≡ applied_given payload }
 {
     match payload {
-        PayloadOption::None => applied_entry_no(0),
-        PayloadOption::Some(kind) => applied_some(kind),
+        None => applied_entry_no(0),
+        Some(kind) => applied_some(kind),
     }
 }
 

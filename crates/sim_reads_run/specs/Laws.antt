@@ -1,5 +1,5 @@
 -- What the proofs of the reads of the run cite. Assumes nothing.
-use Rattle.std.specs.Prelude.{◌≡◌, Bool, true, List, ℕ, ◌+◌, ◌≤◌, ◌<◌, ltb}
+use Rattle.std.specs.Prelude.{◌≡◌, Bool, true, List, ℕ, ◌+◌, ◌≤◌, ◌<◌, ltb, Option, None, Some}
 use Rattle.std.proofs.Math.Path.{refl, ap}
 use Rattle.std.proofs.Common.{sym, ap₂, subst, ◌∙◌, arith, eq-eqb, ne_eqb, le-leb, lt-ltb, le-ltb, ltb-true}
 use Rattle.std.proofs.lemmas.Bool.{lt-leb}
@@ -9,13 +9,7 @@ use Rattle.units.specs.declared.Term.{Term}
 use Rattle.units.specs.declared.LogIndex.{LogIndex}
 use Rattle.config.specs.declared.SimConfig.{SimConfig}
 use Rattle.config.specs.declared.Limits.{Limits}
-use Rattle.leader.specs.declared.LeaderOption.{LeaderOption}
-use Rattle.leader.specs.declared.LeaderOption.TheVariants as led
 use Rattle.checks_durability.specs.declared.replies.Reply.{Reply}
-use Rattle.clients.specs.Confirmations.{index_of, confirmation_of}
-use Rattle.clients.specs.declared.confirmations.Confirmation.{Confirmation}
-use Rattle.clients.specs.declared.confirmations.IndexOption.{IndexOption}
-use Rattle.clients.specs.declared.confirmations.IndexOption.TheVariants as index
 use Rattle.model.specs.State.{State, Input, start_input, message_input, timer_input, propose_input, direct, from_client, confirm_input, Phase, closed, writing, sending}
 use Rattle.model.specs.Simulation.{leader_of}
 use Rattle.model.specs.Fits.{phase_fits}
@@ -34,11 +28,7 @@ use Rattle.state.specs.Call.{reading}
 use Rattle.state.specs.Changes.{Inside, Gated, Reads}
 use Rattle.state.specs.Exits.{read_answered}
 use Rattle.state_header.specs.Header.{phase_of}
-use Rattle.state_records.specs.declared.ReplyOption.{ReplyOption}
-use Rattle.state_records.specs.declared.ReplyOption.TheVariants as reply
-use Rattle.state_records.specs.declared.ConfirmationOption.{ConfirmationOption}
-use Rattle.state_records.specs.declared.ConfirmationOption.TheVariants as confirmation
-use Rattle.state_records.specs.Records.{reply_of, reply_at, confirmation_read, confirmation_at}
+use Rattle.state_records.specs.Records.{reply_of, reply_at, confirmation_at}
 use Rattle.answers.specs.declared.LeaderAnswer.{LeaderAnswer}
 use Rattle.answers.specs.declared.RunAnswer.{RunAnswer}
 use Rattle.answers.specs.declared.SettingsAnswer.{SettingsAnswer}
@@ -47,53 +37,55 @@ use Rattle.answers.specs.declared.ConfirmationAnswer.{ConfirmationAnswer}
 use Rattle.answers.specs.Answers as answer
 use Rattle.answers.specs.Answers.{leader_no, leader_yes, run_no, run_yes, settings_no, settings_yes, reply_no, reply_yes, confirmation_no, confirmation_yes, phaseNumber, open_server, open_kind}
 use Rattle.sim_reads_run.specs.Run.{leader_given, server_number, kind_number, run_numbers, settings_read, reply_given, flag_given, index_given, confirmation_told, confirmation_given}
+use Rattle.leader.specs.declared.Leading.{Leading}
+use Rattle.clients.specs.declared.confirmations.Confirmation.{Confirmation}
 
 -- ---- answers in numbers
 
-pub leader_absent : (o : LeaderOption) (r : LeaderAnswer) → o ≡ led.None → r ≡ leader_no 0 → r ≡ leader_given o
+pub leader_absent : (o : Option Leading) (r : LeaderAnswer) → o ≡ None → r ≡ leader_no 0 → r ≡ leader_given o
 unfolding leader_given
 leader_absent o r e q = q ∙ ap leader_given (sym e)
 
-pub leader_present : (o : LeaderOption) (id : NodeId) (term : Term) → o ≡ led.Some id term → record { refusal = 0; present = 1; server = id.0; term = term.0 } ≡ leader_given o
+pub leader_present : (o : Option Leading) (id : NodeId) (term : Term) → o ≡ Some (record { id = id; term = term }) → record { refusal = 0; present = 1; server = id.0; term = term.0 } ≡ leader_given o
 unfolding leader_given
 leader_present o id term e = ap leader_given (sym e)
 
-pub reply_absent : (o : ReplyOption) (r : ReplyAnswer) → o ≡ reply.None → r ≡ reply_no 0 → r ≡ reply_given o
+pub reply_absent : (o : Option Reply) (r : ReplyAnswer) → o ≡ None → r ≡ reply_no 0 → r ≡ reply_given o
 unfolding reply_given reply_of
 reply_absent o r e q = q ∙ ap reply_given (sym e)
 
-pub reply_present : (o : ReplyOption) (x : Reply) → o ≡ reply.Some x
+pub reply_present : (o : Option Reply) (x : Reply) → o ≡ Some x
     → record { refusal = 0; present = 1; sent = x.sent.0; received = x.received.0; index = x.index.0; client = x.client; sequence = x.seq } ≡ reply_given o
 unfolding reply_given reply_of
 reply_present o x e = ap reply_given (sym e)
 
-pub flag_none : (o : IndexOption) → o ≡ index.None → 0 ≡ flag_given o
-unfolding flag_given index_of
+pub flag_none : (o : Option LogIndex) → o ≡ None → 0 ≡ flag_given o
+unfolding flag_given
 flag_none o e = ap flag_given (sym e)
 
-pub flag_some : (o : IndexOption) (x : LogIndex) → o ≡ index.Some x → 1 ≡ flag_given o
-unfolding flag_given index_of
+pub flag_some : (o : Option LogIndex) (x : LogIndex) → o ≡ Some x → 1 ≡ flag_given o
+unfolding flag_given
 flag_some o x e = ap flag_given (sym e)
 
-pub index_none : (o : IndexOption) → o ≡ index.None → 0 ≡ index_given o
-unfolding index_given index_of
+pub index_none : (o : Option LogIndex) → o ≡ None → 0 ≡ index_given o
+unfolding index_given
 index_none o e = ap index_given (sym e)
 
-pub index_some : (o : IndexOption) (x : LogIndex) → o ≡ index.Some x → x.0 ≡ index_given o
-unfolding index_given index_of
+pub index_some : (o : Option LogIndex) (x : LogIndex) → o ≡ Some x → x.0 ≡ index_given o
+unfolding index_given
 index_some o x e = ap index_given (sym e)
 
 pub confirmation_told_lem : (c : Confirmation) (n m : ℕ) → n ≡ flag_given c.read_index → m ≡ index_given c.read_index
     → record { refusal = 0; present = 1; request = c.request.0; confirmed = n; read_index = m } ≡ confirmation_told c
-unfolding confirmation_told confirmation_of flag_given index_given
+unfolding confirmation_told flag_given index_given
 confirmation_told_lem c n m en em = ap₂ (λ (i j : ℕ). record { refusal = 0; present = 1; request = c.request.0; confirmed = i; read_index = j }) en em
 
-pub confirmation_absent : (o : ConfirmationOption) (r : ConfirmationAnswer) → o ≡ confirmation.None → r ≡ confirmation_no 0 → r ≡ confirmation_given o
-unfolding confirmation_given confirmation_read
+pub confirmation_absent : (o : Option Confirmation) (r : ConfirmationAnswer) → o ≡ None → r ≡ confirmation_no 0 → r ≡ confirmation_given o
+unfolding confirmation_given
 confirmation_absent o r e q = q ∙ ap confirmation_given (sym e)
 
-pub confirmation_present : (o : ConfirmationOption) (x : Confirmation) (r : ConfirmationAnswer) → o ≡ confirmation.Some x → r ≡ confirmation_told x → r ≡ confirmation_given o
-unfolding confirmation_given confirmation_read confirmation_told
+pub confirmation_present : (o : Option Confirmation) (x : Confirmation) (r : ConfirmationAnswer) → o ≡ Some x → r ≡ confirmation_told x → r ≡ confirmation_given o
+unfolding confirmation_given confirmation_told
 confirmation_present o x r e q = q ∙ ap confirmation_given (sym e)
 
 -- ---- the run
@@ -194,7 +186,7 @@ module _ (b : List ℕ) (g : Gate) (q : Gated b g) (y : g.refusal ≤ 0) where
   here : {X : Type 0} {x : X} {get : State → X} → Reads b g.capacity x get → x ≡ get (decode b)
   here p = p.to (decode b) (q.area z) (q.capacity z)
 
-  pub leader_read : (x : LeaderOption) (r : LeaderAnswer) → Reads b g.capacity x leader_of → r ≡ leader_given x → r ≡ reading leader_no leader_yes b read_leader
+  pub leader_read : (x : Option Leading) (r : LeaderAnswer) → Reads b g.capacity x leader_of → r ≡ leader_given x → r ≡ reading leader_no leader_yes b read_leader
   unfolding leader_given read_leader
   leader_read x r p e = read_answered leader_no leader_yes b read_leader g q y r (leader_of (decode b)) (decode b) refl (e ∙ ap leader_yes (here p))
 
@@ -206,11 +198,11 @@ module _ (b : List ℕ) (g : Gate) (q : Gated b g) (y : g.refusal ≤ 0) where
   unfolding read_settings
   settings_read_lem r e = read_answered settings_no settings_yes b read_settings g q y r _ (decode b) refl (e ∙ ap (λ (G : Capacity). settings_yes (settings_read G)) (q.capacity z))
 
-  pub reply_read : (place : ℕ) (x : ReplyOption) (r : ReplyAnswer) → Reads b g.capacity (reply_of x) (reply_at place) → r ≡ reply_given x → r ≡ reading reply_no reply_yes b (read_reply place)
+  pub reply_read : (place : ℕ) (x : Option Reply) (r : ReplyAnswer) → Reads b g.capacity (reply_of x) (reply_at place) → r ≡ reply_given x → r ≡ reading reply_no reply_yes b (read_reply place)
   unfolding reply_given reply_at read_reply
   reply_read place x r p e = read_answered reply_no reply_yes b (read_reply place) g q y r _ (decode b) refl (e ∙ ap reply_yes (here p))
 
-  pub confirmation_read_lem : (place : ℕ) (x : ConfirmationOption) (r : ConfirmationAnswer) → Reads b g.capacity (confirmation_read x) (confirmation_at place) → r ≡ confirmation_given x
+  pub confirmation_read_lem : (place : ℕ) (x : Option Confirmation) (r : ConfirmationAnswer) → Reads b g.capacity x (confirmation_at place) → r ≡ confirmation_given x
       → r ≡ reading confirmation_no confirmation_yes b (read_confirmation place)
   unfolding confirmation_given confirmation_at read_confirmation
   confirmation_read_lem place x r p e = read_answered confirmation_no confirmation_yes b (read_confirmation place) g q y r _ (decode b) refl (e ∙ ap confirmation_yes (here p))

@@ -9,10 +9,11 @@ ghost use Rattle.answers.specs.Answers.{leader_no, leader_yes, run_no, run_yes, 
 ghost use Rattle.sim_reads_run.specs.Run.{leader_given, server_number, kind_number, run_numbers, settings_read, reply_given, flag_given, index_given, confirmation_told, confirmation_given};
 
 use answers::{ConfirmationAnswer, LeaderAnswer, ReplyAnswer, RunAnswer, SettingsAnswer};
-use clients::confirmations::{Confirmation, IndexOption};
-use leader::LeaderOption;
+use checks_durability::replies::Reply;
+use clients::confirmations::Confirmation;
+use leader::Leading;
 use state::{Capacity, Gate};
-use state_records::{ConfirmationOption, ReplyOption};
+use units::LogIndex;
 
 // ---- the leader
 
@@ -29,12 +30,12 @@ fn leader_no(refusal: u64) -> LeaderAnswer
 }
 
 // A leader that may be absent in numbers.
-fn leader_yes(leader: LeaderOption) -> LeaderAnswer
+fn leader_yes(leader: Option<Leading>) -> LeaderAnswer
     ensures { result ≡ leader_given leader }
 {
     match leader {
-        LeaderOption::None => leader_no(0),
-        LeaderOption::Some { id, term } => LeaderAnswer {
+        None => leader_no(0),
+        Some(Leading { id, term }) => LeaderAnswer {
             refusal: 0,
             present: 1,
             server: id.0,
@@ -211,12 +212,12 @@ fn reply_no(refusal: u64) -> ReplyAnswer
 }
 
 // A reply that may be absent in numbers.
-fn reply_yes(reply: ReplyOption) -> ReplyAnswer
+fn reply_yes(reply: Option<Reply>) -> ReplyAnswer
     ensures { result ≡ reply_given reply }
 {
     match reply {
-        ReplyOption::None => reply_no(0),
-        ReplyOption::Some(x) => ReplyAnswer {
+        None => reply_no(0),
+        Some(x) => ReplyAnswer {
             refusal: 0,
             present: 1,
             sent: x.sent.0,
@@ -258,22 +259,22 @@ fn confirmation_no(refusal: u64) -> ConfirmationAnswer
 }
 
 // Whether there is a read index.
-fn index_flag(index: IndexOption) -> u64
+fn index_flag(index: Option<LogIndex>) -> u64
     ensures { result ≡ flag_given index }
 {
     match index {
-        IndexOption::None => 0,
-        IndexOption::Some(_) => 1,
+        None => 0,
+        Some(_) => 1,
     }
 }
 
 // The read index, or 0.
-fn index_number(index: IndexOption) -> u64
+fn index_number(index: Option<LogIndex>) -> u64
     ensures { result ≡ index_given index }
 {
     match index {
-        IndexOption::None => 0,
-        IndexOption::Some(x) => x.0,
+        None => 0,
+        Some(x) => x.0,
     }
 }
 
@@ -292,12 +293,12 @@ fn confirmation_some(confirmation: Confirmation) -> ConfirmationAnswer
 }
 
 // A confirmation that may be absent in numbers.
-fn confirmation_yes(confirmation: ConfirmationOption) -> ConfirmationAnswer
+fn confirmation_yes(confirmation: Option<Confirmation>) -> ConfirmationAnswer
     ensures { result ≡ confirmation_given confirmation }
 {
     match confirmation {
-        ConfirmationOption::None => confirmation_no(0),
-        ConfirmationOption::Some(x) => confirmation_some(x),
+        None => confirmation_no(0),
+        Some(x) => confirmation_some(x),
     }
 }
 

@@ -1,15 +1,12 @@
 -- What the proofs of the delay's functions cite, and question 10 of a delay drawn. Assumes nothing.
 use Rattle.std.specs.Prelude.{◌≡◌, Bool, true, List, ℕ, ◌+◌, ◌^◌, ◌≤◌, ◌<◌, eqb, ltb, set}
-use Rattle.std.proofs.Common.{sym, ap, ap₂, subst, ◌∙◌, arith, lt-ltb}
+use Rattle.std.proofs.Common.{sym, ap, ap₂, subst, ◌∙◌, arith}
 use Rattle.laws.specs.Bools.{allb, and_left}
 use Rattle.laws.proofs.BoolLaws.{and_right, and_both}
-use Rattle.rng.specs.declared.Rng.{Rng}
-use Rattle.rng.specs.Rng.{under, next_u64, moved}
 use Rattle.network.specs.declared.Network.{Network}
 use Rattle.network.specs.declared.Delayed.{Delayed}
 use Rattle.network.specs.Network.{delay, network_in_range, DelaysFit}
 use Rattle.network.specs.Ranges.{in_range_lem, delays_fit}
-use Rattle.queue.specs.Range.{word}
 use Rattle.model.specs.State.{State}
 use Rattle.model.specs.Fits.{state_fits, state_tests}
 use Rattle.state.specs.declared.Capacity.{Capacity}

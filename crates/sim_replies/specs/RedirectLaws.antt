@@ -1,5 +1,5 @@
 -- What the proofs of the redirect cite, and question 10 of it. Assumes nothing.
-use Rattle.std.specs.Prelude.{◌≡◌, Bool, not, ◌&&◌, List, eqb}
+use Rattle.std.specs.Prelude.{◌≡◌, Bool, not, ◌&&◌, List, eqb, Option, None, Some}
 use Rattle.std.proofs.Math.Path.{refl, sym, ap}
 use Rattle.std.proofs.Common.{ap₂, subst, ◌∙◌}
 use Rattle.std.proofs.Math.Bool.{true, false}
@@ -10,8 +10,6 @@ use borrow.Author.Tests.{lt-ltb, ltb-true, eqb-true, eq-eqb, ne_eqb}
 use Rattle.laws.specs.Bools.{pick, cases, ◌and◌, and_left}
 use Rattle.laws.proofs.BoolLaws.{and_right, and_both, true_and, code_and}
 use Rattle.laws.specs.Decides.{false_true}
-use Rattle.units.specs.declared.NodeOption.{NodeOption}
-use Rattle.units.specs.declared.NodeOption.TheVariants.{None, Some}
 use Rattle.client.specs.declared.ClientKey.{ClientKey}
 use Rattle.queue.specs.declared.Event.{Event}
 use Rattle.queue.specs.declared.Event.TheVariants as event
@@ -29,6 +27,7 @@ use Rattle.state_queue.specs.Events.{queue_room}
 use Rattle.sim_replies.specs.Replies.{network_fits, client_told, tell_test, refuses_client, hint_in, redirect_count, redirected, redirect_test}
 use Rattle.sim_replies.specs.Laws.{network_fits_lem}
 use Rattle.sim_replies.specs.TellLaws.{event_fits_in, fits_told, told_event, room_told, server_told}
+use Rattle.units.specs.declared.NodeId.{NodeId}
 
 -- ---- the numbers of an input
 
@@ -125,7 +124,7 @@ pub redirect_none : (b : List ℕ) (F : Capacity) (o : OpenInput) (t : Bool) →
 redirect_none b F o true e n = absurd (false_true n)
 redirect_none b F o false e n = record { to = λ s l h fit. subst (λ (u : State). AreaOf b l F u) (sym (redirected_none o s (sym e))) h }
 
-pub redirect_told : (b b' : List ℕ) (F : Capacity) (o : OpenInput) (t : Bool) (hint : NodeOption) → o.slot < F.servers → t ≡ refuses_client o → not t ≡ false → hint ≡ hint_in o
+pub redirect_told : (b b' : List ℕ) (F : Capacity) (o : OpenInput) (t : Bool) (hint : Option NodeId) → o.slot < F.servers → t ≡ refuses_client o → not t ≡ false → hint ≡ hint_in o
     → Changes b b' F (client_told o.slot (record { client = o.client % 4294967296; seq = o.seq }) (event.ClientRedirect o.client o.attempt hint))
     → Changes b b' F (redirected o)
 redirect_told b b' F o false hint i e n eh p = absurd (false_true (sym n))
@@ -138,7 +137,7 @@ redirect_told b b' F o true hint i e n eh p = record {
       let below : o.client < s.config.clients = ltb-true _ _ (and_right _ _ good) in
       let same : o.client % 4294967296 ≡ o.client = omega (arith, (laid_limits h.area.laid).clients) in
       let k : client_told o.slot (record { client = o.client % 4294967296; seq = o.seq }) (event.ClientRedirect o.client o.attempt hint) s ≡ redirected o s =
-      ap₂ (λ (c : ℕ) (x : NodeOption). client_told o.slot (record { client = c; seq = o.seq }) (event.ClientRedirect o.client o.attempt x) s) same eh ∙ sym is in
+      ap₂ (λ (c : ℕ) (x : Option NodeId). client_told o.slot (record { client = c; seq = o.seq }) (event.ClientRedirect o.client o.attempt x) s) same eh ∙ sym is in
       subst (λ (u : State). AreaOf b' l F u) k (p.to s l h (ap state_fits k ∙ fit));
 }
 

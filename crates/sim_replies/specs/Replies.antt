@@ -1,9 +1,7 @@
 -- What a server sends to a client (lib.rt): what contracts cite. Assumes nothing.
-use Rattle.std.specs.Prelude.{◌≡◌, Bool, true, List, ℕ, eqb, ltb}
+use Rattle.std.specs.Prelude.{◌≡◌, Bool, true, List, ℕ, eqb, ltb, Option, None, Some}
 use Rattle.laws.specs.Bools.{pick, ◌and◌}
 use Rattle.laws.specs.Order.{pairs, remove_by}
-use Rattle.units.specs.declared.NodeOption.{NodeOption}
-use Rattle.units.specs.declared.NodeOption.TheVariants.{None, Some}
 use Rattle.client.specs.Key.{key_of}
 use Rattle.client.specs.declared.ClientKey.{ClientKey}
 use Rattle.network.specs.declared.Network.{Network}
@@ -20,6 +18,7 @@ use Rattle.state.specs.Parts.{input_in, verdict_in}
 use Rattle.state.specs.Changes.{Reads}
 use Rattle.state_queue.specs.Events.{queue_room}
 use Rattle.sim_outputs.specs.declared.Sum.{Sum}
+use Rattle.units.specs.declared.NodeId.{NodeId}
 
 -- ---- a delay
 
@@ -73,7 +72,7 @@ unfoldable pub refuses_client : OpenInput → Bool
 refuses_client o = eqb o.input 4 and ltb 0 o.verdict
 
 -- The leader that its refusal names.
-unfoldable pub hint_in : OpenInput → NodeOption
+unfoldable pub hint_in : OpenInput → Option NodeId
 hint_in o = pick (eqb o.verdict 1) None (Some (record { 0 = o.leader }))
 
 -- How many events its redirect is.

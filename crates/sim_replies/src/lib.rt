@@ -23,7 +23,7 @@ use network::{Delayed, Network};
 use queue::Event;
 use sim_outputs::Sum;
 use state::{Capacity, OpenInput};
-use units::{Duration, NodeId, NodeOption, SimTime};
+use units::{Duration, NodeId, SimTime};
 
 // ---- a delay
 
@@ -109,13 +109,13 @@ fn refuses_client(input: OpenInput) -> bool
 }
 
 // The leader that a refusal names.
-fn hint_of(input: OpenInput) -> NodeOption
+fn hint_of(input: OpenInput) -> Option<NodeId>
     ensures { result ≡ hint_in input }
 {
     if input.verdict == 1 {
-        NodeOption::None
+        None
     } else {
-        NodeOption::Some(NodeId(input.leader))
+        Some(NodeId(input.leader))
     }
 }
 

@@ -1,11 +1,9 @@
 -- The fault of a call's numbers and groups (given.rt): what the contracts cite. Assumes nothing.
-use Rattle.std.specs.Prelude.{◌≡◌, Bool, true, false, List, [], ◌∷◌, ℕ, ◌^◌, ◌≤◌, leb, ltb, eqb, length, get_or, replicate}
+use Rattle.std.specs.Prelude.{◌≡◌, Bool, true, false, List, [], ◌∷◌, ℕ, ◌^◌, ◌≤◌, leb, ltb, eqb, length, get_or, replicate, Option, None, Some}
 use Rattle.laws.specs.Bools.{pick, every, ◌and◌}
 use Rattle.words.specs.Words.{le}
 use Rattle.faults.specs.Fault as faults
 use Rattle.faults.specs.declared.Fault.{Fault}
-use Rattle.faults.specs.declared.FaultOption.{FaultOption}
-use Rattle.faults.specs.declared.FaultOption.TheVariants.{None, Some}
 use Rattle.queue.specs.declared.Event.TheVariants as event
 use Rattle.queue.specs.Numbers.{words_of}
 use Rattle.queue.specs.Range.{words_fit}
@@ -44,16 +42,16 @@ second_by kind second = get_or (0 ∷ 0 ∷ 0 ∷ 0 ∷ 0 ∷ second ∷ second 
 -- ---- the questions
 
 -- Whether every server that a fault names is in the cluster; numbers that are no fault's name none.
-unfoldable pub targets_of : ℕ → FaultOption → Bool
+unfoldable pub targets_of : ℕ → Option Fault → Bool
 targets_of servers None = true
 targets_of servers (Some fault) = faults.targets_known servers fault
 
 -- The same of a partition by its groups.
-unfoldable pub targets_in : ℕ → ℕ → FaultOption → List ℕ → Bool
+unfoldable pub targets_in : ℕ → ℕ → Option Fault → List ℕ → Bool
 targets_in servers kind fault groups = pick (eqb kind 4) (members_in servers groups) (targets_of servers fault)
 
 -- Whether numbers are those of a fault, and within limits.
-unfoldable pub within_of : FaultOption → Bool
+unfoldable pub within_of : Option Fault → Bool
 within_of None = false
 within_of (Some fault) = faults.within_limits fault
 

@@ -1,5 +1,6 @@
 -- What the proofs of given.rt cite, and what groups known make of a partition. Assumes nothing.
-use Rattle.std.specs.Prelude.{◌≡◌, Bool, true, false, ◌&&◌, List, [], ◌∷◌, ◌++◌, leb, eqb, length, drop, replicate}
+use Rattle.std.specs.Prelude.{◌≡◌, Bool, true, false, ◌&&◌, List, [], ◌∷◌, ◌++◌, leb, eqb, length, drop, replicate, Option, None, Some, Result}
+use Rattle.std.specs.Result.{result_ok}
 use Rattle.std.proofs.Math.Path.{refl, sym, ap, ap₂}
 use Rattle.std.proofs.Common.{subst, ◌∙◌, div-lt_iff_lt-mul, one-mul, drop_of_length-le, pow_pos, pow_mono, shl_exact, take_all, Fits}
 use Prim.Native.Nat.{ℕ, zero, suc, ◌+◌, ◌*◌, ◌/◌, ◌%◌, ◌^◌, ◌≤◌, ◌<◌}
@@ -18,8 +19,6 @@ use Rattle.words.specs.Words.{le, le_at}
 use Rattle.faults.specs.Fault as faults
 use Rattle.faults.specs.Laws.{Numbers, numbers_of_fault}
 use Rattle.faults.specs.declared.Fault.{Fault}
-use Rattle.faults.specs.declared.FaultOption.{FaultOption}
-use Rattle.faults.specs.declared.FaultOption.TheVariants.{None, Some}
 use Rattle.queue.specs.declared.Event.TheVariants as event
 use Rattle.queue.specs.Numbers.{words_of, fault_or}
 use Rattle.queue.specs.Range.{word, words_fit}
@@ -183,7 +182,7 @@ module _ (kind second : ℕ) where
 
 -- ---- targets_of, targets_in, within_of
 
-module _ (servers : ℕ) (fault : FaultOption) where
+module _ (servers : ℕ) (fault : Option Fault) where
   pub targets_none : fault ≡ None → true ≡ targets_of servers fault
   unfolding targets_of
   targets_none e = sym (ap (targets_of servers) e)
@@ -201,7 +200,7 @@ module _ (servers : ℕ) (fault : FaultOption) where
     unfolding targets_in
     targets_others n q = q ∙ sym (ap (λ (t : Bool). pick t (members_in servers groups) (targets_of servers fault)) (ne_eqb kind 4 n))
 
-module _ (fault : FaultOption) where
+module _ (fault : Option Fault) where
   pub within_none : fault ≡ None → false ≡ within_of fault
   unfolding within_of
   within_none e = sym (ap within_of e)
@@ -212,7 +211,7 @@ module _ (fault : FaultOption) where
 
 -- ---- fault_asked
 
-there : (o : FaultOption) → within_of o ≡ true → o ≡ Some (fault_or o)
+there : (o : Option Fault) → within_of o ≡ true → o ≡ Some (fault_or o)
 unfolding within_of
 there None e = absurd (false_true e)
 there (Some f) e = refl
@@ -225,8 +224,12 @@ numbers_small kind a b f hk ha hb n =
     (and_both _ _ (ap word n.first ∙ lt-ltb a (2 ^ 64) ha.fits) (and_both _ _
     (ap word n.second ∙ lt-ltb b (2 ^ 64) hb.fits) refl)))
 
-module _ (servers kind first second : ℕ) (groups : List ℕ) (w a b : ℕ) (option : FaultOption)
-    (pw : GroupsWord groups w) (pa : a ≡ first_by kind first w) (pb : b ≡ second_by kind second) (po : option ≡ faults.fault_of kind a b) where
+module _ {E : Type 0} (servers kind first second : ℕ) (groups : List ℕ) (w a b : ℕ) (option : Option Fault) (read : Result Fault E)
+    (pw : GroupsWord groups w) (pa : a ≡ first_by kind first w) (pb : b ≡ second_by kind second)
+    (pr : result_ok read ≡ faults.fault_of kind a b) (pk : option ≡ result_ok read) where
+  po : option ≡ faults.fault_of kind a b
+  po = pk ∙ pr
+
   by_word : (kind ≡ 4 → w ≡ groups_word groups) → option ≡ fault_given kind first second groups
   unfolding fault_given first_by second_by
   by_word e = po ∙ ap₂ (faults.fault_of kind) (pa ∙ first_same kind first w (groups_word groups) e) pb
@@ -242,27 +245,27 @@ module _ (servers kind first second : ℕ) (groups : List ℕ) (w a b : ℕ) (op
   known_same =
       cases (eqb kind 4)
       (λ t. rw t)
-      (λ t. ap (λ (o : FaultOption). targets_in servers kind o groups) (by_word (λ e. absurd (false_true (sym t ∙ eq-eqb kind 4 e)))))
+      (λ t. ap (λ (o : Option Fault). targets_in servers kind o groups) (by_word (λ e. absurd (false_true (sym t ∙ eq-eqb kind 4 e)))))
 
   fits_same : (groups_few kind (length groups) and within_of option) ≡ (groups_few kind (length groups) and within_of
       (fault_given kind first second groups))
   unfolding ◌and◌
   fits_same =
       cases (groups_few kind (length groups))
-      (λ t. ap (λ (o : FaultOption). groups_few kind (length groups) and within_of o) (few_same t))
+      (λ t. ap (λ (o : Option Fault). groups_few kind (length groups) and within_of o) (few_same t))
       (λ t. rw t)
 
   pub asked_fault : (known few within : Bool) (fault : Fault) → known ≡ targets_in servers kind option groups → few
       ≡ groups_few kind (length groups)
       → within ≡ within_of option → fault ≡ fault_or option → Fits w64 kind → Fits w64 a → Fits w64 b
       → AsksFault servers kind first second groups (record { known = known; fits = few && within; fault = fault })
-  asked_fault known few within fault pk pf pi pz hk ha hb =
+  asked_fault known few within fault pt pf pi pz hk ha hb =
       let joined : (few && within) ≡ (groups_few kind (length groups) and within_of option) =
       code_and few within ∙ ap₂ (λ (t u : Bool). t and u) pf pi in
       let given : (few && within) ≡ true → option ≡ Some fault =
       λ t. there option (and_right _ _ (sym joined ∙ t)) ∙ ap Some (sym pz) in
       record {
-        known = pk ∙ known_same;
+        known = pt ∙ known_same;
         fits = joined ∙ fits_same;
         fault = λ t. sym (few_same (and_left _ _ (sym joined ∙ t))) ∙ given t;
         small = λ t. numbers_small kind a b fault hk ha hb (numbers_of_fault kind a b fault (sym po ∙ given t));

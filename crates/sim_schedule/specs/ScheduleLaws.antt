@@ -1,5 +1,5 @@
 -- What the proofs of lib.rt cite. Assumes nothing.
-use Rattle.std.specs.Prelude.{◌≡◌, refl, Bool, false, not, ◌&&◌, List, ℕ, ◌^◌, ◌≤◌, ◌<◌, max, leb, eqb}
+use Rattle.std.specs.Prelude.{◌≡◌, refl, Bool, false, not, ◌&&◌, List, ℕ, ◌^◌, ◌≤◌, ◌<◌, max, leb, eqb, Option, None, Some}
 use Rattle.std.proofs.Math.Path.{sym, ap, subst}
 use Rattle.std.proofs.Common.{ap₂, ◌∙◌, arith, eqb-true, leb-true, lt-ltb, ltb-true}
 use Rattle.std.proofs.Math.Bool.{true}
@@ -9,13 +9,11 @@ use Rattle.laws.proofs.BoolLaws.{and_right, and_both, code_and}
 use Rattle.laws.specs.Decides.{false_true}
 use Rattle.faults.specs.Fault as faults
 use Rattle.faults.specs.declared.Fault.{Fault}
-use Rattle.faults.specs.declared.FaultOption.{FaultOption}
-use Rattle.faults.specs.declared.FaultOption.TheVariants.{None, Some}
 use Rattle.queue.specs.declared.Event.TheVariants as event
 use Rattle.queue.specs.Numbers.{fault_or, words_of}
 use Rattle.queue.specs.Queue.{Scheduled}
 use Rattle.queue.specs.Range.{words_fit}
-use Rattle.model.specs.State.{State, Phase, closed, writing, sending}
+use Rattle.model.specs.State.{State}
 use Rattle.model.specs.Calls as calls
 use Rattle.model.specs.Calls.{Out, done, ask, is_closed, with_fault, fault_given, schedule}
 use Rattle.model.specs.Fits.{state_fits}
@@ -23,7 +21,7 @@ use Rattle.state.specs.declared.Capacity.{Capacity}
 use Rattle.state.specs.declared.Gate.{Gate}
 use Rattle.state.specs.declared.OpenInput.{OpenInput}
 use Rattle.state.specs.declared.Run.{Run}
-use Rattle.state.specs.Parts.{open_of, phase_kind}
+use Rattle.state.specs.Parts.{open_of}
 use Rattle.state.specs.Area.{Area, capacity_of, run_of}
 use Rattle.state.specs.Fitting.{area_fits, laid_limits}
 use Rattle.state.specs.FitsBy.{fits_test, server_count}
@@ -87,10 +85,10 @@ abbrev given : State → Out (Unit {0})
 given s = done tt s
 
 -- The call with its questions as tests, of the fault that is given.
-abbrev asks : Bool → Bool → Bool → FaultOption → (Fault → State) → Out (Unit {0})
+abbrev asks : Bool → Bool → Bool → Option Fault → (Fault → State) → Out (Unit {0})
 asks c k e x op = ask c 6 (ask k 7 (ask e 9 (with_fault x (λ f. done tt (op f)))))
 
-judged_asks : (c k e : Bool) (x : FaultOption) (op : Fault → State) (r : Bool)
+judged_asks : (c k e : Bool) (x : Option Fault) (op : Fault → State) (r : Bool)
     → ((f : Fault) → x ≡ Some f → k ≡ true → e ≡ true → faults.within_limits f ≡ true → state_fits (op f) ≡ r)
     → judged (asks c k e x op) ≡ schedule_code c k (e and within_of x) r
 unfolding judged schedule_code within_of ◌and◌
@@ -104,7 +102,7 @@ judged_asks true true true (Some f) op r h = by (faults.within_limits f) refl
     by true e = ap (λ (u : Bool). pick u 0 10) (h f refl refl refl e)
     by false e = refl
 
-asks_done : (c k e : Bool) (x : FaultOption) (op : Fault → State) (r : Bool) (f : Fault) → x ≡ Some f
+asks_done : (c k e : Bool) (x : Option Fault) (op : Fault → State) (r : Bool) (f : Fault) → x ≡ Some f
     → schedule_code c k (e and within_of x) r ≡ 0
     → asks c k e x op ≡ done tt (op f)
 unfolding schedule_code within_of ◌and◌
@@ -115,7 +113,7 @@ asks_done true true true None op r f q z = absurd (omega arith)
 asks_done true true true (Some g) op r f q z = by (faults.within_limits g) z
   where
     by : (t : Bool) → ◌≡◌ {A = ℕ} (pick (true and t) (pick r 0 10) 9) 0 → ask t 9 (given (op g)) ≡ given (op f)
-    by true z = ap (λ (o : FaultOption). done tt (op (fault_or o))) q
+    by true z = ap (λ (o : Option Fault). done tt (op (fault_or o))) q
     by false z = absurd (omega arith)
 
 code_args : (c k a r : Bool) → schedule_code c k a r ≡ 0 → a ≡ true
@@ -125,7 +123,7 @@ code_args true true false r z = absurd (omega arith)
 code_args true false a r z = absurd (omega arith)
 code_args false k a r z = absurd (omega arith)
 
-targets_same : (s : State) (x : FaultOption) → calls.targets_known s x ≡ targets_of (length s.servers) x
+targets_same : (s : State) (x : Option Fault) → calls.targets_known s x ≡ targets_of (length s.servers) x
 unfolding targets_of
 targets_same s None = refl
 targets_same s (Some f) = refl
@@ -135,7 +133,7 @@ targets_same s (Some f) = refl
 -- a partition whose groups are known
 in_partition : (servers first second : ℕ) (groups : List ℕ) (f : Fault) → servers ≤ 8 → fault_given 4 first second groups ≡ Some f
     → members_in servers groups ≡ true → length groups ≤ 8 → faults.targets_known servers f ≡ true
-unfolding targets_of fault_given faults.fault_of faults.only
+unfolding targets_of fault_given faults.fault_of
 in_partition servers first second groups f l e m n = sym (ap (targets_of servers) e) ∙ members_known_lem servers 8 groups l n m
 
 -- targets that are known are those of a fault in range
@@ -171,7 +169,7 @@ module _ (b : List ℕ) (F : Capacity) (time kind first second : ℕ) (groups : 
     (run : Run)
     (po : Reads b F o (λ s. open_of (phase_of s))) (pq : AsksFault F.servers kind first second groups q)
     (pr : Reads b F room (queue_room 1)) (pw : Reads b F run run_of) where
-  abbrev fault : FaultOption
+  abbrev fault : Option Fault
   fault = fault_given kind first second groups
 
   abbrev early : Bool

@@ -5,7 +5,7 @@ ghost use Rattle.queue.specs.Numbers.{fault_or};
 ghost use Rattle.sim_schedule.specs.Given.{members_in, WordIn, GroupsWord, groups_few, first_by, second_by};
 ghost use Rattle.sim_schedule.specs.Given.{targets_of, targets_in, within_of, AsksFault};
 
-use faults::{Fault, FaultOption};
+use faults::{Fault, FaultNumbers};
 
 // What is asked of the fault.
 #[derive(Clone, Copy)]
@@ -42,13 +42,11 @@ fn members_in(servers: u64, groups: &[u8]) -> bool
     ensures { result ≡ members_in servers groups.now }
 {
     let limit = group_limit(servers);
-    let mut i = 0;
-    while i < groups.len() {
+    for i in 0..groups.len() {
         let group = group_at(groups, i);
         if limit <= group {
             return false;
         }
-        i += 1;
     }
     true
 }
@@ -114,18 +112,18 @@ fn second_by(kind: u64, second: u64) -> u64
 // ---- the questions
 
 // Whether every server that a fault names is in the cluster; numbers that are no fault's name none.
-fn targets_of(servers: u64, fault: FaultOption) -> bool
+fn targets_of(servers: u64, fault: Option<Fault>) -> bool
     requires { servers ≤ 8 }
     ensures { result ≡ targets_of servers fault }
 {
     match fault {
-        FaultOption::None => true,
-        FaultOption::Some(given) => faults::targets_known(servers, given),
+        None => true,
+        Some(given) => faults::targets_known(servers, given),
     }
 }
 
 // The same of a partition by its groups, however many there are.
-fn targets_in(servers: u64, kind: u64, fault: FaultOption, groups: &[u8]) -> bool
+fn targets_in(servers: u64, kind: u64, fault: Option<Fault>, groups: &[u8]) -> bool
     requires { servers ≤ 8 }
     ensures { result ≡ targets_in servers kind fault groups.now }
 {
@@ -137,22 +135,22 @@ fn targets_in(servers: u64, kind: u64, fault: FaultOption, groups: &[u8]) -> boo
 }
 
 // Whether numbers are those of a fault, and within limits.
-fn within_of(fault: FaultOption) -> bool
+fn within_of(fault: Option<Fault>) -> bool
     ensures { result ≡ within_of fault }
 {
     match fault {
-        FaultOption::None => false,
-        FaultOption::Some(given) => faults::within_limits(given),
+        None => false,
+        Some(given) => faults::within_limits(given),
     }
 }
 
 // A fault that is there, or any.
-fn fault_or(fault: FaultOption) -> Fault
+fn fault_or(fault: Option<Fault>) -> Fault
     ensures { result ≡ fault_or fault }
 {
     match fault {
-        FaultOption::None => Fault::HealAll,
-        FaultOption::Some(given) => given,
+        None => Fault::HealAll,
+        Some(given) => given,
     }
 }
 
@@ -164,7 +162,12 @@ pub fn fault_asked(servers: u64, kind: u64, first: u64, second: u64, groups: &[u
     let word = groups_word(groups);
     let a = first_by(kind, first, word);
     let b = second_by(kind, second);
-    let fault = faults::fault_of(kind, a, b);
+    let fault = Fault::try_from(FaultNumbers {
+        kind,
+        first: a,
+        second: b,
+    })
+    .ok();
     let known = targets_in(servers, kind, fault, groups);
     let few = groups_few(kind, groups.len());
     let within = within_of(fault);

@@ -1,7 +1,7 @@
 -- What the proofs of lib.rt cite. Assumes nothing.
 use Rattle.std.proofs.Math.Path.{◌≡◌, refl, sym, ap, ap₂}
 use Rattle.std.proofs.Common.{subst, ◌∙◌, eq-eqb, ne_eqb, lt-ltb, ltb-true, Fits}
-use Rattle.std.specs.Prelude.{Bool, true, false, ◌&&◌, ◌||◌, List, leb, eqb}
+use Rattle.std.specs.Prelude.{Bool, true, false, ◌&&◌, ◌||◌, List, leb, eqb, Option}
 use Prim.Native.Nat.{ℕ, zero, suc, ◌^◌, ◌≤◌, ◌<◌}
 use native.Mathlib.Omega.{arith}
 use Rattle.std.proofs.lemmas.Bool.{lt-leb}
@@ -9,7 +9,6 @@ use Rattle.std.specs.Int.{w64}
 use Rattle.laws.specs.Bools.{pick, pick_both, cases, ◌and◌, and_left, and_assoc}
 use Rattle.laws.proofs.BoolLaws.{and_right, and_both, code_and}
 use Rattle.laws.specs.Decides.{false_true}
-use Rattle.units.specs.declared.NodeOption.{NodeOption}
 use Rattle.queue.specs.Range.{word}
 use Rattle.model.specs.State.{State, direct, from_client, Input, start_input, message_input, timer_input, propose_input, confirm_input, Verdict, accepted, not_leader, Owed, Phase, closed, writing, sending}
 use Rattle.model.specs.Simulation.{no_input}
@@ -43,6 +42,7 @@ use Rattle.sim_seal.specs.declared.SealPlan.{SealPlan}
 use Rattle.sim_seal.specs.Cuts.{cut_at, cut_test}
 use Rattle.sim_seal.specs.CutLaws.{fits_cut, cut_is}
 use Rattle.sim_seal.specs.Seals.{given_kind, given_leader, sealed_numbers, args_given, crashes_at, sealing_at, outcome_at, seal_test, SealPlanned}
+use Rattle.units.specs.declared.NodeId.{NodeId}
 
 -- ---- the verdict in numbers
 
@@ -168,7 +168,7 @@ verdict_fits_lem s input refusal present leader w a =
     ∙ by input may (node_option present leader) (pick_both (λ h. node_fits h ≡ true) (eqb present 1) w refl))
     (λ t. ap (λ (u : Bool). verdict_fits s.config s.limits input (pick u (not_leader (node_option present leader)) accepted)) t)
   where
-    by : (input : Input) → can_be_refused input ≡ true → (hint : NodeOption) → node_fits hint ≡ true
+    by : (input : Input) → can_be_refused input ≡ true → (hint : Option NodeId) → node_fits hint ≡ true
         → verdict_fits s.config s.limits input (not_leader hint) ≡ true
     by start_input m hint h = absurd (false_true m)
     by message_input m hint h = absurd (false_true m)

@@ -1,5 +1,5 @@
 -- What the proofs of a seal that does not cut cite, and question 10 of it. Assumes nothing.
-use Rattle.std.specs.Prelude.{◌≡◌, refl, Bool, not, ◌&&◌, List, ◌∷◌, ℕ, ◌+◌, ◌≤◌, ◌<◌, eqb, length, drop, get_or}
+use Rattle.std.specs.Prelude.{◌≡◌, refl, Bool, not, ◌&&◌, List, ◌∷◌, ℕ, ◌+◌, ◌≤◌, ◌<◌, eqb, length, drop, get_or, Option, None, Some}
 use Rattle.std.proofs.Math.Path.{sym, ap, ap₂}
 use Rattle.std.proofs.Common.{subst, ◌∙◌, add-one, arith, drop_of_length-le, drop-cons}
 use Rattle.std.proofs.Math.Bool.{true, false}
@@ -8,10 +8,10 @@ use Rattle.laws.proofs.BoolLaws.{and_right, and_both, true_and, code_and}
 use Rattle.laws.specs.Decides.{false_true}
 use Rattle.units.specs.declared.LogIndex.{LogIndex}
 use Rattle.units.specs.declared.SimTime.{SimTime}
-use Rattle.metrics.specs.Metrics.{record_sync, none_counted, counters_fit, metrics_fit, counted}
+use Rattle.metrics.specs.Metrics.{record_sync, none_counted, counters_fit, metrics_fit, Counting}
 use Rattle.metrics.specs.declared.Metrics.{Metrics}
-use Rattle.metrics.specs.declared.Counted.{Counted}
-use Rattle.metrics.specs.Laws.{counted_fits}
+use Rattle.std.specs.Option.{is_some, unwrap_or}
+use Rattle.metrics.specs.Laws.{counted_fits, given_is}
 use Rattle.raft_log.specs.Log.{entry_at}
 use Rattle.storage.specs.Storage.{Write, write_hard_state, write_put, write_truncate, put_index, written, unsynced, unsynced_bytes}
 use Rattle.storage.specs.Waiting.{nothing}
@@ -37,9 +37,9 @@ use Rattle.state_disk.specs.declared.SyncTold.{SyncTold}
 use Rattle.state_disk.specs.Disks.{unsynced_at, synced_at, SyncsAt}
 use Rattle.state_disk.specs.DiskLaws.{fits_synced}
 use Rattle.state_checks.specs.Checked.{entry_of}
-use Rattle.state_checks.specs.Acts.{ChangesWhere, WriteFlags, write_checked}
+use Rattle.state_checks.specs.Acts.{ChangesWhere, WriteFlags, write_checked, writes_checked}
 use Rattle.state_checks.specs.FitLaws.{fits_checks}
-use Rattle.state_checks.specs.LoopLaws.{writes_checked, writes_done, writes_turn, before_writes}
+use Rattle.state_checks.specs.LoopLaws.{writes_done, writes_turn, before_writes}
 use Rattle.state_asks.specs.Asks.{Asks, log_of, waiting_of, write_count_of, written_index_of, write_asked_of, after_writes, checker_code, WritesTold}
 use Rattle.sim_seal_sync.specs.Syncs.{write_checked_at, rest_checked, writes_checked_at, Waits, Checking, metrics_after, count_test, CountsSync, sync_counted, sync_at, sync_test, SyncsInput}
 
@@ -142,18 +142,21 @@ wrote : (t : Bool) → not t ≡ false → t ≡ true
 wrote true e = refl
 wrote false e = absurd (false_true (sym e))
 
-counted_next : (m next : Metrics) → (counted m next).fits ≡ true → (counted m next).metrics ≡ next
-unfolding counted
-counted_next m next e = cases (counters_fit next) (λ t. rw t) (λ t. absurd (false_true (sym t ∙ sym (counted_fits m next) ∙ e)))
+inner : (m x : Metrics) → Some m ≡ Some x → x ≡ m
+inner m x e = cc
+
+given : (r : Option Metrics) → is_some r ≡ true → (m : Metrics) × (r ≡ Some m)
+given None e = absurd (false_true e)
+given (Some m) e = (m, refl)
 
 module _ (b : List ℕ) (F : Capacity) (k : ℕ) (told : SyncTold) (m : Metrics) (qt : Reads b F told (unsynced_at k)) (qm : Reads b F m metrics_of) where
-  pub count_none : not told.wrote ≡ true → CountsSync b F k (record { fits = true; metrics = m })
+  pub count_none : not told.wrote ≡ true → CountsSync b F k (Some m)
   unfolding unsynced_at metrics_of count_test metrics_after
   count_none w = record {
     fits =
         record { to = λ s h ef. sym (ap (λ (t : Bool). pick t (counters_fit (record_sync s.metrics (unsynced_bytes (server_at s k).storage.waiting))) true) (no s h ef)) };
-    metrics = λ t. record {
-      to = λ s h ef. qm.to s h ef
+    metrics = λ x t. record {
+      to = λ s h ef. inner m x t ∙ qm.to s h ef
           ∙ sym (ap (λ (t : Bool). pick t (record_sync s.metrics (unsynced_bytes (server_at s k).storage.waiting)) s.metrics) (no s h ef));
     };
   }
@@ -161,17 +164,17 @@ module _ (b : List ℕ) (F : Capacity) (k : ℕ) (told : SyncTold) (m : Metrics)
       no : (s : State) → Area b s → F ≡ capacity_of s → unsynced (server_at s k).storage ≡ false
       no s h ef = sym (ap (λ (x : SyncTold). x.wrote) (qt.to s h ef)) ∙ not_wrote told.wrote w
 
-  pub count_some : (r : Counted) → not told.wrote ≡ false → r ≡ counted m (record_sync m told.bytes) → CountsSync b F k r
+  pub count_some : (r : Option Metrics) → not told.wrote ≡ false → Counting (record_sync m told.bytes) r → CountsSync b F k r
   unfolding unsynced_at metrics_of count_test metrics_after
   count_some r w e = record {
     fits = record {
       to = λ s h ef.
-          ap (λ (x : Counted). x.fits) e ∙ counted_fits m (record_sync m told.bytes) ∙ ap counters_fit (next s h ef)
+          ap is_some e.value ∙ counted_fits (record_sync m told.bytes) ∙ ap counters_fit (next s h ef)
           ∙ sym (ap (λ (t : Bool). pick t (counters_fit (record_sync s.metrics (unsynced_bytes (server_at s k).storage.waiting))) true) (yes s h ef));
     };
-    metrics = λ t. record {
+    metrics = λ x t. record {
       to = λ s h ef.
-          ap (λ (x : Counted). x.metrics) e ∙ counted_next m (record_sync m told.bytes) (sym (ap (λ (x : Counted). x.fits) e) ∙ t)
+          given_is counters_fit (record_sync m told.bytes) x (sym t ∙ e.value)
           ∙ next s h ef
           ∙ sym (ap (λ (t : Bool). pick t (record_sync s.metrics (unsynced_bytes (server_at s k).storage.waiting)) s.metrics) (yes s h ef));
     };
@@ -250,28 +253,30 @@ is_zero : (t : Bool) → eqb (pick t 0 10) 0 ≡ t
 is_zero true = refl
 is_zero false = refl
 
-pub sync_asked : (b : List ℕ) (F : Capacity) (k : ℕ) (asked : WritesAsked) (c : Counted) → Asks b F (WritesTold k asked)
-    → CountsSync b F k c
-    → Reads b F (eqb asked.code 0 && c.fits) (sync_test k)
+pub sync_asked : (b : List ℕ) (F : Capacity) (k : ℕ) (asked : WritesAsked) (c : Option Metrics) (fits : Bool) → Asks b F (WritesTold k asked)
+    → CountsSync b F k c → fits ≡ is_some c
+    → Reads b F (eqb asked.code 0 && fits) (sync_test k)
 unfolding sync_test checker_code
-sync_asked b F k asked c q p = record {
+sync_asked b F k asked c fits q p e = record {
   to = λ s h ef.
-      code_and (eqb asked.code 0) c.fits
-      ∙ ap₂ (λ (t u : Bool). t and u) (ap (λ (n : ℕ). eqb n 0) (q.to s h ef).code ∙ is_zero (checker_fits s.config s.limits (after_writes k s))) (p.fits.to s h ef);
+      code_and (eqb asked.code 0) fits
+      ∙ ap₂ (λ (t u : Bool). t and u) (ap (λ (n : ℕ). eqb n 0) (q.to s h ef).code ∙ is_zero (checker_fits s.config s.limits (after_writes k s))) (e ∙ p.fits.to s h ef);
 }
 
 -- ---- what is done
 
-pub counted_synced : (b b₁ b₂ : List ℕ) (F : Capacity) (k : ℕ) (c : Counted) (told : SyncTold) → k < F.servers → CountsSync b F k c
-    → Changes b b₁ F (metrics_set c.metrics) → SyncsAt b₁ b₂ F k told → Changes b b₂ F (sync_counted k)
+pub counted_synced : (b b₁ b₂ : List ℕ) (F : Capacity) (k : ℕ) (c : Option Metrics) (old next : Metrics) (told : SyncTold) → k < F.servers → CountsSync b F k c
+    → next ≡ unwrap_or c old → Changes b b₁ F (metrics_set next) → SyncsAt b₁ b₂ F k told → Changes b b₂ F (sync_counted k)
 unfolding sync_counted
-counted_synced b b₁ b₂ F k c told i q p y = record {
+counted_synced b b₁ b₂ F k c old next told i q en p y = record {
   to = λ s r h t.
       let f : state_fits s ≡ true = area_fits h.area in
       let j : k < s.config.servers = subst (λ (G : Capacity). k < G.servers) h.capacity i in
       let u : count_test k s ≡ true = and_left _ _ (sym (fits_counted s k (fits_test s f 12) (servers_fit_lem s f) j) ∙ t) in
-      let e : metrics_set c.metrics s ≡ metrics_set (metrics_after k s) s =
-      ap (λ (m : Metrics). metrics_set m s) ((q.metrics (q.fits.to s h.area h.capacity ∙ u)).to s h.area h.capacity) in
+      let g = given c (q.fits.to s h.area h.capacity ∙ u) in
+      let is : next ≡ g.0 = en ∙ ap (λ (x : Option Metrics). unwrap_or x old) g.1 in
+      let e : metrics_set next s ≡ metrics_set (metrics_after k s) s =
+      ap (λ (m : Metrics). metrics_set m s) (is ∙ (q.metrics g.0 g.1).to s h.area h.capacity) in
       let v : state_fits (metrics_set (metrics_after k s) s) ≡ true = set_fits s k f u in
       y.changes.to (metrics_set (metrics_after k s) s) r (subst (AreaOf b₁ r F) e (p.to s r h (ap state_fits e ∙ v))) t;
 }

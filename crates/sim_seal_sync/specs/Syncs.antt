@@ -1,9 +1,9 @@
 -- A seal that does not cut: what contracts cite. Assumes nothing.
-use Rattle.std.specs.Prelude.{◌≡◌, Bool, true, List, ℕ, length, drop}
+use Rattle.std.specs.Prelude.{◌≡◌, Bool, true, List, ℕ, length, drop, Option, Some}
 use Rattle.laws.specs.Bools.{pick, ◌and◌}
 use Rattle.metrics.specs.Metrics.{record_sync, counters_fit}
 use Rattle.metrics.specs.declared.Metrics.{Metrics}
-use Rattle.metrics.specs.declared.Counted.{Counted}
+use Rattle.std.specs.Option.{is_some}
 use Rattle.storage.specs.Storage.{unsynced, unsynced_bytes, written}
 use Rattle.model.specs.State.{State, Phase, server_at}
 use Rattle.model.specs.Fields.{with_checker}
@@ -14,8 +14,7 @@ use Rattle.state.specs.Parts.{open_of}
 use Rattle.state.specs.Changes.{Inside, Changes, Reads}
 use Rattle.state_header.specs.Header.{metrics_set, phase_set}
 use Rattle.state_disk.specs.Disks.{synced_at}
-use Rattle.state_checks.specs.Acts.{ChangesWhere, write_checked}
-use Rattle.state_checks.specs.LoopLaws.{writes_checked}
+use Rattle.state_checks.specs.Acts.{ChangesWhere, write_checked, writes_checked}
 use Rattle.state_asks.specs.Asks.{waiting_of, write_count_of, written_index_of, after_writes}
 
 -- ---- the written indexes
@@ -57,9 +56,9 @@ count_test k s =
     pick (unsynced v.storage) (counters_fit (record_sync s.metrics (unsynced_bytes v.storage.waiting))) true
 
 -- Whether they fit was answered, and where they do, the metrics.
-pub record CountsSync (b : List ℕ) (F : Capacity) (k : ℕ) (r : Counted) : Type 0 where
-  pub fits : Reads b F r.fits (count_test k)
-  pub metrics : r.fits ≡ true → Reads b F r.metrics (metrics_after k)
+pub record CountsSync (b : List ℕ) (F : Capacity) (k : ℕ) (r : Option Metrics) : Type 0 where
+  pub fits : Reads b F (is_some r) (count_test k)
+  pub metrics : (m : Metrics) → r ≡ Some m → Reads b F m (metrics_after k)
 
 -- The state with the server at k synced, and that counted.
 unfoldable pub sync_counted : ℕ → State → State

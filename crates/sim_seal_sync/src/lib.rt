@@ -6,7 +6,7 @@ ghost use Rattle.std.specs.Prelude.{◌≡◌, ◌<◌};
 ghost use Rattle.state.specs.Changes.{Inside, Changes, Reads};
 ghost use Rattle.sim_seal_sync.specs.Syncs.{write_checked_at, writes_checked_at, CountsSync, sync_counted, sync_test, SyncsInput};
 
-use metrics::Counted;
+use metrics::Metrics;
 use state::{Capacity, OpenInput};
 use state_asks::writes;
 use state_checks::acts;
@@ -33,17 +33,15 @@ fn check_writes(area: &mut [u8], f: Capacity, slot: usize)
     ensures { Changes area.old area.new f (writes_checked_at slot) }
 {
     let n = writes::write_count(area, f, slot);
-    let mut i = 0;
-    while i < n {
+    for i in 0..n {
         check_write(area, f, slot, i as usize);
-        i += 1;
     }
 }
 
 // ---- the sync
 
-// The metrics with a sync counted, where it writes something, and whether they fit.
-fn count_sync(area: &[u8], f: Capacity, slot: usize) -> Counted
+// The metrics with a sync counted, where it writes something; none where they do not fit.
+fn count_sync(area: &[u8], f: Capacity, slot: usize) -> Option<Metrics>
     requires inside { Inside area.now f }
     requires slot_lt_servers { slot < f.servers }
     ensures { CountsSync area.now f slot result }
@@ -51,10 +49,7 @@ fn count_sync(area: &[u8], f: Capacity, slot: usize) -> Counted
     let told = state_disk::unsynced_of(area, f, slot);
     let m = state_header::metrics_of(area, f);
     if !told.wrote {
-        return Counted {
-            fits: true,
-            metrics: m,
-        };
+        return Some(m);
     }
     m.record_sync(told.bytes)
 }
@@ -65,8 +60,8 @@ fn sync_counted(area: &mut [u8], f: Capacity, slot: usize)
     requires slot_lt_servers { slot < f.servers }
     ensures { Changes area.old area.new f (sync_counted slot) }
 {
-    let counted = count_sync(area, f, slot);
-    let next = counted.metrics;
+    let m = state_header::metrics_of(area, f);
+    let next = count_sync(area, f, slot).unwrap_or(m);
     state_header::set_metrics(area, f, next);
     state_disk::sync(area, f, slot);
 }
@@ -80,8 +75,8 @@ pub fn sync_fits(area: &[u8], f: Capacity, slot: u64) -> bool
     ensures { Reads area.now f result (sync_test slot) }
 {
     let asked = writes::writes_asked(area, f, slot as usize);
-    let counted = count_sync(area, f, slot as usize);
-    (asked.code == 0) & counted.fits
+    let fits = count_sync(area, f, slot as usize).is_some();
+    (asked.code == 0) & fits
 }
 
 // The open input is sealed by a sync; `input` are its numbers then.

@@ -1,5 +1,5 @@
 -- What the proofs of the writes cite. Assumes nothing.
-use Rattle.std.specs.Prelude.{◌≡◌, refl, Bool, true, List, ℕ}
+use Rattle.std.specs.Prelude.{◌≡◌, true, List, ℕ, Option}
 use Rattle.std.proofs.Common.{sym, ap, ◌∙◌}
 use Rattle.std.proofs.Math.Path.{subst}
 use Rattle.laws.proofs.BoolLaws.{and_right}
@@ -8,8 +8,8 @@ use Rattle.network.specs.declared.Network.{Network}
 use Rattle.network.specs.declared.Routed.{Routed}
 use Rattle.network.specs.Network.{route}
 use Rattle.metrics.specs.declared.Metrics.{Metrics}
-use Rattle.metrics.specs.declared.Counted.{Counted}
-use Rattle.metrics.specs.Metrics.{metrics_fit, counters_fit, record_send, counted}
+use Rattle.std.specs.Option.{unwrap_or}
+use Rattle.metrics.specs.Metrics.{metrics_fit, counters_fit, record_send, counted, Counting}
 use Rattle.metrics.specs.Laws.{counters_fit_lem}
 use Rattle.model.specs.State.{State}
 use Rattle.model.specs.Fits.{state_fits}
@@ -35,15 +35,17 @@ route_sent b b' F from to n r pn er k = record {
       subst (λ (x : Network). AreaOf b' l F (network_set x s)) e (k.to s l h (ap (λ (x : Network). state_fits (network_set x s)) e ∙ t));
 }
 
-pub count_sent : (b b' : List ℕ) (F : Capacity) (from bytes entries : ℕ) (m : Metrics) (c : Counted) → Reads b F m metrics_of → c ≡ counted m (record_send m (record { 0 = from }) bytes entries)
-    → Changes b b' F (metrics_set c.metrics) → Changes b b' F (send_counted from bytes entries)
+pub count_sent : (b b' : List ℕ) (F : Capacity) (from bytes entries : ℕ) (m : Metrics) (c : Option Metrics) (next : Metrics) → Reads b F m metrics_of
+    → Counting (record_send m (record { 0 = from }) bytes entries) c → next ≡ unwrap_or c m → Changes b b' F (metrics_set next)
+    → Changes b b' F (send_counted from bytes entries)
 unfolding metrics_of metrics_set send_counted
-count_sent b b' F from bytes entries m c pm ec k = record {
+count_sent b b' F from bytes entries m c next pm ec en k = record {
   to = λ s l h t.
       let new : Metrics = record_send s.metrics (record { 0 = from }) bytes entries in
       let fit : counters_fit new ≡ true = counters_fit_lem s.config.servers new (fits_test (send_counted from bytes entries s) t 12) in
-      let e : c.metrics ≡ new =
-      ap (λ (x : Counted). x.metrics) (ec ∙ ap (λ (x : Metrics). counted x (record_send x (record { 0 = from }) bytes entries)) (pm.to s h.area h.capacity))
+      let e : next ≡ new =
+      en ∙ ap (λ (x : Option Metrics). unwrap_or x m) ec.value
+      ∙ ap (λ (x : Metrics). unwrap_or (counted (record_send x (record { 0 = from }) bytes entries)) x) (pm.to s h.area h.capacity)
       ∙ counted_is s.metrics new fit in
       subst (λ (x : Metrics). AreaOf b' l F (metrics_set x s)) e (k.to s l h (ap (λ (x : Metrics). state_fits (metrics_set x s)) e ∙ t));
 }

@@ -1,5 +1,5 @@
 -- What the proofs of the draws cite. Assumes nothing.
-use Rattle.std.specs.Prelude.{◌≡◌, refl, Bool, true, false, ◌&&◌, List, ℕ, eqb}
+use Rattle.std.specs.Prelude.{◌≡◌, Bool, ◌&&◌, List, ℕ, Option}
 use Rattle.std.proofs.Common.{sym, ap, ap₂, subst, ◌∙◌, eq-eqb, ne_eqb}
 use Rattle.laws.specs.Bools.{pick, cases, ◌and◌, no_and, and_assoc, first_true, second_true}
 use Rattle.laws.proofs.BoolLaws.{code_and}
@@ -9,8 +9,8 @@ use Rattle.network.specs.declared.Routed.{Routed}
 use Rattle.network.specs.Network.{route, DelaysFit}
 use Rattle.network.specs.Ranges.{in_range_lem, delays_fit}
 use Rattle.metrics.specs.declared.Metrics.{Metrics}
-use Rattle.metrics.specs.declared.Counted.{Counted}
-use Rattle.metrics.specs.Metrics.{counters_fit, record_send, counted}
+use Rattle.std.specs.Option.{is_some}
+use Rattle.metrics.specs.Metrics.{counters_fit, record_send, Counting}
 use Rattle.metrics.specs.Laws.{counted_fits}
 use Rattle.model.specs.State.{State}
 use Rattle.state.specs.declared.Capacity.{Capacity}
@@ -21,7 +21,6 @@ use Rattle.state.specs.Fitting.{area_fits}
 use Rattle.state.specs.FitsBy.{fits_test}
 use Rattle.state.specs.Changes.{Reads}
 use Rattle.state_header.specs.Header.{settings_of, network_of, metrics_of}
-use Rattle.state_header.specs.Laws.{counted_is}
 use Rattle.state_queue.specs.Events.{queue_room}
 use Rattle.sim_outputs.specs.Outputs.{Passed}
 use Rattle.sim_send.specs.declared.MailPlan.{MailPlan}
@@ -61,16 +60,12 @@ bytes_no b F size c r n = record {
 
 -- ---- what counting answers
 
-chosen : (t : Bool) (a b : Counted) → a.fits ≡ true → b.fits ≡ false → (pick t a b).fits ≡ t
-chosen true a b e f = e
-chosen false a b e f = f
-
-pub counters_read : (b : List ℕ) (F : Capacity) (from bytes entries : ℕ) (m : Metrics) (c : Counted) → Reads b F m metrics_of → c ≡ counted m (record_send m (record { 0 = from }) bytes entries)
-    → Reads b F c.fits (counters_room from bytes entries)
+pub counters_read : (b : List ℕ) (F : Capacity) (from bytes entries : ℕ) (m : Metrics) (c : Option Metrics) (fits : Bool) → Reads b F m metrics_of
+    → Counting (record_send m (record { 0 = from }) bytes entries) c → fits ≡ is_some c → Reads b F fits (counters_room from bytes entries)
 unfolding metrics_of counters_room
-counters_read b F from bytes entries m c r e = record {
+counters_read b F from bytes entries m c fits r e t = record {
   to = λ s h ef.
-      ap (λ (x : Counted). x.fits) e ∙ counted_fits m (record_send m (record { 0 = from }) bytes entries)
+      t ∙ ap is_some e.value ∙ counted_fits (record_send m (record { 0 = from }) bytes entries)
       ∙ ap (λ (x : Metrics). counters_fit (record_send x (record { 0 = from }) bytes entries)) (r.to s h ef);
 }
 

@@ -1,23 +1,16 @@
 -- What the proofs of the functions by value and of the questions cite. Assumes nothing.
-use Rattle.std.specs.Prelude.{◌≡◌, refl, Bool, true, false, not, ◌&&◌, List, ℕ, ◌+◌, ◌^◌, ◌≤◌, ◌<◌, leb, ltb, length}
+use Rattle.std.specs.Prelude.{◌≡◌, refl, Bool, true, false, ◌&&◌, List, ℕ, ◌+◌, ◌^◌, ◌≤◌, leb, ltb, length, Option, None, Some}
 use Rattle.std.proofs.Common.{sym, ap, ap₂, subst, ◌∙◌, arith, Fits, leb-true, ltb-true}
 use Rattle.std.specs.Int.{w64}
-use Rattle.laws.specs.Bools.{pick, ◌and◌, and_left, first_true, second_true}
-use Rattle.laws.proofs.BoolLaws.{and_right, code_and}
-use Rattle.laws.specs.Decides.{false_true}
+use Rattle.laws.specs.Bools.{◌and◌, first_true, second_true}
+use Rattle.laws.proofs.BoolLaws.{code_and}
 use Rattle.units.specs.declared.Duration.{Duration}
 use Rattle.network.specs.declared.Route.{Route}
 use Rattle.network.specs.declared.Route.TheVariants.{Dropped, Delivered}
-use Rattle.network.specs.declared.Duplicate.{Duplicate}
-use Rattle.network.specs.declared.Duplicate.TheVariants.{None, After}
-use Rattle.model.specs.State.{State}
-use Rattle.model.specs.Calls.{in_cluster}
 use Rattle.faults.specs.Fault as faults
 use Rattle.state.specs.declared.Capacity.{Capacity}
-use Rattle.state.specs.Area.{Area, capacity_of}
 use Rattle.state.specs.Fitting.{area_fits}
 use Rattle.state.specs.FitsBy.{server_count}
-use Rattle.state.specs.Changes.{Reads}
 use Rattle.sim_outputs.specs.declared.Sum.{Sum}
 use Rattle.sim_outputs.specs.declared.Sender.{Sender}
 use Rattle.sim_outputs.specs.Outputs.{Passed, sends, IsSender, asks_code, Sums}
@@ -78,20 +71,20 @@ pub mail_dropped : (now : ℕ) (r : Route) → r ≡ Dropped → MailPlanned now
 unfolding mail_of mail_fits
 mail_dropped now r e = subst (λ (x : Route). MailPlanned now x (record { fits = true; mail = mail.Dropped })) (sym e) (record { fits = refl; mail = λ t. refl })
 
-pub mail_passed : (now : ℕ) (r : Route) (d : Duration) (dup : Duplicate) (p : MailPlan) → r ≡ Delivered d dup → MailPlanned now (Delivered d dup) p → MailPlanned now r p
+pub mail_passed : (now : ℕ) (r : Route) (d : Duration) (dup : Option Duration) (p : MailPlan) → r ≡ Delivered d dup → MailPlanned now (Delivered d dup) p → MailPlanned now r p
 mail_passed now r d dup p e h = subst (λ (x : Route). MailPlanned now x p) (sym e) h
 
-pub mail_single : (now : ℕ) (d : Duration) (dup : Duplicate) (a : Sum) → Sums now d.0 a → dup ≡ None → MailPlanned now (Delivered d dup) (record { fits = a.fits; mail = mail.Once a.value })
+pub mail_single : (now : ℕ) (d : Duration) (dup : Option Duration) (a : Sum) → Sums now d.0 a → dup ≡ None → MailPlanned now (Delivered d dup) (record { fits = a.fits; mail = mail.Once a.value })
 unfolding mail_of mail_fits
 mail_single now d dup a p n =
-    subst (λ (x : Duplicate). MailPlanned now (Delivered d x) (record { fits = a.fits; mail = mail.Once a.value })) (sym n)
+    subst (λ (x : Option Duration). MailPlanned now (Delivered d x) (record { fits = a.fits; mail = mail.Once a.value })) (sym n)
     (record { fits = p.fits; mail = λ t. ap mail.Once (p.value t) })
 
-pub mail_double : (now : ℕ) (d c : Duration) (dup : Duplicate) (a b : Sum) → Sums now d.0 a → dup ≡ After c → Sums now c.0 b
+pub mail_double : (now : ℕ) (d c : Duration) (dup : Option Duration) (a b : Sum) → Sums now d.0 a → dup ≡ Some c → Sums now c.0 b
     → MailPlanned now (Delivered d dup) (record { fits = a.fits && b.fits; mail = mail.Twice a.value b.value })
 unfolding mail_of mail_fits
 mail_double now d c dup a b p n q =
-    subst (λ (x : Duplicate). MailPlanned now (Delivered d x) (record { fits = a.fits && b.fits; mail = mail.Twice a.value b.value })) (sym n)
+    subst (λ (x : Option Duration). MailPlanned now (Delivered d x) (record { fits = a.fits && b.fits; mail = mail.Twice a.value b.value })) (sym n)
     (record {
       fits = code_and a.fits b.fits ∙ ap₂ (λ (x y : Bool). x and y) p.fits q.fits;
       mail = λ t. ap₂ mail.Twice (p.value (first_true a.fits b.fits t)) (q.value (second_true a.fits b.fits t));

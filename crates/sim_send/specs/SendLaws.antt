@@ -1,5 +1,5 @@
 -- What the proof of output_send_in cites: question 10 of a message sent, the definition, and the exits. Assumes nothing.
-use Rattle.std.specs.Prelude.{◌≡◌, Bool, List, [], ◌∷◌, ℕ, zero, suc, ◌+◌, ◌^◌, ◌≤◌, ◌<◌, eqb, leb, length, get_or, set}
+use Rattle.std.specs.Prelude.{◌≡◌, Bool, List, [], ◌∷◌, ℕ, suc, ◌+◌, ◌^◌, ◌≤◌, ◌<◌, eqb, leb, length, get_or, set, None, Some}
 use Rattle.std.proofs.Math.Path.{refl, sym, ap, ap₂}
 use Rattle.std.proofs.Common.{subst, ◌∙◌, arith}
 use Rattle.std.proofs.Math.Bool.{true, false}
@@ -7,7 +7,6 @@ use Rattle.std.proofs.Math.Dec.{ltb}
 use borrow.Author.Tests.{lt-ltb, le-leb}
 use Rattle.laws.specs.Bools.{pick, pick_both, ◌and◌, allb, and_left, and_true, every}
 use Rattle.laws.proofs.BoolLaws.{and_right, and_both}
-use Rattle.laws.specs.Decides.{false_true}
 use Rattle.words.specs.Words.{Bytes}
 use Rattle.rng.specs.declared.Rng.{Rng}
 use Rattle.rng.specs.Rng.{under, next_u64, moved}
@@ -18,16 +17,14 @@ use Rattle.network.specs.declared.Routed.{Routed}
 use Rattle.network.specs.declared.Chance.{Chance}
 use Rattle.network.specs.declared.Route.{Route}
 use Rattle.network.specs.declared.Route.TheVariants.{Dropped, Delivered}
-use Rattle.network.specs.declared.Duplicate.TheVariants.{None, After}
 use Rattle.network.specs.Network.{network_in_range, route, delivered, chance, delay, with_rng, link}
-use Rattle.metrics.specs.declared.Metrics.{Metrics}
-use Rattle.metrics.specs.Metrics.{metrics_fit, counters_fit, record_send}
+use Rattle.metrics.specs.Metrics.{metrics_fit, record_send}
 use Rattle.metrics.specs.Laws.{sent_in_range}
 use Rattle.queue.specs.Range.{word, byte, message_room}
 use Rattle.queue.specs.Queue.{Scheduled}
-use Rattle.model.specs.State.{State, Phase, closed, writing, sending, accepted, not_leader, id_of}
+use Rattle.model.specs.State.{State, id_of}
 use Rattle.model.specs.Simulation.{send, push_routed}
-use Rattle.model.specs.Calls.{done, output, ask, in_cluster, output_send}
+use Rattle.model.specs.Calls.{done, in_cluster, output_send}
 use Rattle.model.specs.Fits.{state_fits, state_tests}
 use Rattle.state.specs.declared.Capacity.{Capacity}
 use Rattle.state.specs.declared.Gate.{Gate}
@@ -36,7 +33,7 @@ use Rattle.state.specs.Area.{Area, capacity_of}
 use Rattle.state.specs.Fitting.{area_fits, laid_limits}
 use Rattle.state.specs.FitsBy.{fits_test}
 use Rattle.state.specs.Call.{call}
-use Rattle.state.specs.Changes.{Gated, Changes, Reads, Planned, judged}
+use Rattle.state.specs.Changes.{Gated, Changes, Planned, judged}
 use Rattle.state.specs.Exits.{call_refused, call_done}
 use Rattle.answers.specs.declared.DoneAnswer.{DoneAnswer}
 use Rattle.answers.specs.Answers.{done_no, done_yes}
@@ -202,7 +199,7 @@ pushed_mail : (s : State) (from to : NodeId) (entries : ℕ) (message : List ℕ
 unfolding mailed mail_of letters pushed_all pushed
 pushed_mail s from to entries message Dropped = refl
 pushed_mail s from to entries message (Delivered d None) = refl
-pushed_mail s from to entries message (Delivered d (After c)) = refl
+pushed_mail s from to entries message (Delivered d (Some c)) = refl
 
 send_is : (s : State) (k to entries : ℕ) (message : List ℕ)
     → send s k (record { 0 = to }) message entries ≡ sent (mail_due (k + 1) to s) (k + 1) to (bytes_counted (length message) s) entries message s

@@ -1,10 +1,9 @@
 -- What sending a message asks, draws and does (lib.rt): what its contracts cite. Assumes nothing.
-use Rattle.std.specs.Prelude.{◌≡◌, Bool, true, List, [], ◌∷◌, ℕ, ◌+◌, ◌^◌, ◌≤◌, ◌<◌, leb, ltb, eqb}
+use Rattle.std.specs.Prelude.{◌≡◌, Bool, true, List, [], ◌∷◌, ℕ, ◌+◌, ◌^◌, ◌≤◌, ◌<◌, leb, ltb, eqb, None, Some}
 use Rattle.laws.specs.Bools.{pick, ◌and◌}
 use Rattle.units.specs.declared.NodeId.{NodeId}
 use Rattle.network.specs.declared.Route.{Route}
 use Rattle.network.specs.declared.Route.TheVariants.{Dropped, Delivered}
-use Rattle.network.specs.declared.Duplicate.TheVariants.{None, After}
 use Rattle.network.specs.Network.{route}
 use Rattle.metrics.specs.Metrics.{counters_fit, record_send}
 use Rattle.queue.specs.Queue.{Scheduled}
@@ -59,7 +58,7 @@ pub record Between (from to : ℕ) : Type 0 where
 unfoldable pub mail_of : ℕ → Route → Mail
 mail_of now Dropped = mail.Dropped
 mail_of now (Delivered d None) = mail.Once (now + d.0)
-mail_of now (Delivered d (After e)) = mail.Twice (now + d.0) (now + e.0)
+mail_of now (Delivered d (Some e)) = mail.Twice (now + d.0) (now + e.0)
 
 -- Whether its times have 64 bits.
 unfoldable pub mail_fits : Mail → Bool

@@ -26,7 +26,7 @@ ghost use Rattle.sim_send.specs.Sends.{
 };
 
 use answers::DoneAnswer;
-use network::{Duplicate, Route};
+use network::{Link, Route};
 use queue::Event;
 use state::{Capacity, Gate};
 use units::{Duration, NodeId, SimTime};
@@ -82,16 +82,16 @@ fn send_asked(area: &[u8], f: Capacity, to: u64, size: u64, entries: u64) -> Sen
 // ---- what is drawn
 
 // When a message arrives, from its delays.
-fn mail_within(at: u64, delay: Duration, duplicate: Duplicate) -> MailPlan
+fn mail_within(at: u64, delay: Duration, duplicate: Option<Duration>) -> MailPlan
     ensures { MailPlanned at (Delivered delay duplicate) result }
 {
     let first = sim_outputs::sum64(at, delay.0);
     match duplicate {
-        Duplicate::None => MailPlan {
+        None => MailPlan {
             fits: first.fits,
             mail: Mail::Once { at: first.value },
         },
-        Duplicate::After(later) => {
+        Some(later) => {
             let second = sim_outputs::sum64(at, later.0);
             MailPlan {
                 fits: first.fits & second.fits,
@@ -135,7 +135,10 @@ fn mail_drawn(area: &[u8], f: Capacity, from: u64, to: u64) -> MailPlan
     ensures { MailDrawn area.now f from to result }
 {
     let n = state_header::network_of(area, f);
-    let routed = n.route(NodeId(from), NodeId(to));
+    let routed = n.route(Link {
+        from: NodeId(from),
+        to: NodeId(to),
+    });
     let route = routed.route;
     let run = state_header::run_of(area, f);
     mail_of(run.now.0, route)
@@ -157,8 +160,7 @@ fn counters_room(area: &[u8], f: Capacity, from: u64, to: u64, bytes: u64, entri
     ensures { Reads area.now f result (counters_room from bytes entries) }
 {
     let m = state_header::metrics_of(area, f);
-    let counted = m.record_send(NodeId(from), bytes, entries);
-    counted.fits
+    m.record_send(NodeId(from), bytes, entries).is_some()
 }
 
 // Question 10's number where something does not fit, else 0.
@@ -193,7 +195,10 @@ fn route_send(area: &mut [u8], f: Capacity, from: u64, to: u64)
     ensures { Changes area.old area.new f (send_routed from to) }
 {
     let n = state_header::network_of(area, f);
-    let routed = n.route(NodeId(from), NodeId(to));
+    let routed = n.route(Link {
+        from: NodeId(from),
+        to: NodeId(to),
+    });
     let next = routed.network;
     state_header::set_network(area, f, next);
 }
@@ -205,8 +210,7 @@ fn count_send(area: &mut [u8], f: Capacity, from: u64, to: u64, bytes: u64, entr
     ensures { Changes area.old area.new f (send_counted from bytes entries) }
 {
     let m = state_header::metrics_of(area, f);
-    let counted = m.record_send(NodeId(from), bytes, entries);
-    let next = counted.metrics;
+    let next = m.record_send(NodeId(from), bytes, entries).unwrap_or(m);
     state_header::set_metrics(area, f, next);
 }
 

@@ -1,15 +1,13 @@
 -- What the proofs of content.rt cite. Assumes nothing.
-use Rattle.std.specs.Prelude.{◌≡◌, true, drop}
+use Rattle.std.specs.Prelude.{◌≡◌, true, drop, None}
 use Rattle.std.proofs.Math.Path.{refl, sym, ap, ap₂, subst}
 use Rattle.std.proofs.Common.{◌∙◌, add-one}
 use mathlib.Core.List.{List, [], ◌∷◌, ◌++◌, append_assoc, append-nil}
-use Rattle.std.proofs.Math.Option.{none}
 use Prim.Native.Nat.{ℕ, zero, suc, ◌+◌, ◌-◌, ◌*◌, ◌≤◌, ◌<◌}
 use native.Mathlib.Omega.{arith}
 use Rattle.std.proofs.Math.ListN.{length, length-append}
 use Rattle.std.proofs.lemmas.List.{length-replicate}
 use Rattle.std.proofs.Math.Seq.{sets, length-sets, drop_at}
-use Rattle.laws.specs.Bools.{◌and◌}
 use Rattle.laws.proofs.BoolLaws.{and_both}
 use Rattle.words.specs.Words.{bytes, bytes_of as bytesOfNumber}
 use Rattle.words.specs.Lift.{bytes_one, length_bytes}
@@ -22,7 +20,8 @@ use Rattle.seeds.specs.declared.Stream.TheVariants.{Workload, Network}
 use Rattle.config.specs.declared.SimConfig.{SimConfig}
 use Rattle.config.specs.declared.Limits.{Limits}
 use Rattle.config.specs.Limits.{area_length}
-use Rattle.clients.specs.Clients.{Client, client_words}
+use Rattle.clients.specs.Clients.{client_words}
+use Rattle.clients.specs.declared.Client.{Client}
 use Rattle.model.specs.State.{State, new_server}
 use Rattle.model.specs.Simulation.{draw_targets, new_servers, unstarted}
 use Rattle.model.specs.Fits.{state_fits}
@@ -155,7 +154,7 @@ module _ (b : List ℕ) (F : Capacity) where
 
 -- A client that has sent nothing, with its target.
 abbrev new_client : ℕ → Client
-new_client target = record { target = target; next_seq = 0; attempt = 0; outstanding = none }
+new_client target = record { target = target; next_seq = 0; attempt = 0; outstanding = None }
 
 clients_more : (cs : List Client) (c : Client) → clients_words (cs ++ c ∷ []) ≡ clients_words cs ++ client_words c
 unfolding clients_words

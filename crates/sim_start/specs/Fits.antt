@@ -1,8 +1,7 @@
 -- Question 10 of a new state: accepted settings have one that fits. Assumes nothing.
-use Rattle.std.specs.Prelude.{◌≡◌, true, false, [], eqb, leb, length, replicate, drop}
+use Rattle.std.specs.Prelude.{◌≡◌, true, false, [], eqb, leb, length, replicate, drop, Option, None}
 use Rattle.std.proofs.Math.Path.{refl}
-use Rattle.std.proofs.Math.Option.{Option, none}
-use Prim.Native.Nat.{ℕ, zero, suc, ◌+◌, ◌-◌, ◌^◌, ◌≤◌, ◌<◌}
+use Prim.Native.Nat.{ℕ, zero, suc, ◌+◌, ◌^◌, ◌≤◌, ◌<◌}
 use Rattle.std.proofs.Common.{arith}
 use Rattle.std.proofs.lemmas.List.{length-replicate}
 use borrow.Author.Tests.{eq-eqb, le-leb, lt-ltb, leb-true}
@@ -10,7 +9,7 @@ use Rattle.laws.specs.Bools.{◌and◌, and_left, every}
 use Rattle.laws.proofs.BoolLaws.{and_both, and_right}
 use Rattle.laws.specs.Order.{chain}
 use Rattle.layout.specs.Tables.{Table}
-use Rattle.rng.specs.Rng.{under, next_u64, moved}
+use Rattle.rng.specs.Rng.{under}
 use Rattle.rng.specs.Laws.{under_lt}
 use Rattle.rng.specs.declared.Rng.{Rng}
 use Rattle.seeds.specs.Seeds.{stream_rng}
@@ -69,7 +68,7 @@ unfolding metrics_fit counters_fit totals_fit ◌and◌
 no_metrics_fit S = and_both _ _ refl (and_both _ _ (none_beyond S 8) refl)
 
 -- a log without entries
-empty_places_fit : (p n : ℕ) → every (place p).good (replicate n none) ≡ true
+empty_places_fit : (p n : ℕ) → every (place p).good (replicate n None) ≡ true
 unfolding ◌and◌
 empty_places_fit p zero = refl
 empty_places_fit p (suc n) = empty_places_fit p n
@@ -97,7 +96,7 @@ module _ (config : SimConfig) (limits : Limits) where
   unfolding chain
   new_server_fits =
       let n : ℕ = limits.log_indexes in
-      let disk = and_both _ _ (and_both _ _ refl refl) (and_both _ _ (eq-eqb (length (replicate {A = Option Rattle.units.specs.Types.Entry} n none)) n (length-replicate n none)) (empty_places_fit limits.payload n)) in
+      let disk = and_both _ _ (and_both _ _ refl refl) (and_both _ _ (eq-eqb (length (replicate {A = Option Rattle.units.specs.Types.Entry} n None)) n (length-replicate n None)) (empty_places_fit limits.payload n)) in
       and_both _ _ refl
       (and_both _ _ (and_both _ _ disk (and_both _ _ disk (and_both _ _ (no_rows_fit (waiting_in n limits.payload) limits.writes refl) refl)))
       (and_both _ _ refl (and_both _ _ refl (and_both _ _ refl (and_both _ _ refl

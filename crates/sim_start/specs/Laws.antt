@@ -3,7 +3,7 @@ use Rattle.std.proofs.Math.Path.{◌≡◌, refl, sym, ap, ap₂, subst}
 use Rattle.std.proofs.Common.{◌∙◌, arith, Fits}
 use Rattle.std.proofs.Math.Bool.{Bool, true, false}
 use mathlib.Core.List.{List, [], ◌∷◌, ◌++◌}
-use Prim.Native.Nat.{ℕ, zero, suc, ◌+◌, ◌-◌, ◌^◌, ◌≤◌, ◌<◌}
+use Prim.Native.Nat.{ℕ, zero, suc, ◌+◌, ◌^◌, ◌≤◌, ◌<◌}
 use Rattle.std.proofs.Math.Dec.{eqb, leb, ltb}
 use Rattle.std.proofs.Math.ListN.{length, drop}
 use Rattle.std.specs.Prelude.{get_or}
@@ -17,7 +17,8 @@ use Rattle.seeds.specs.Seeds.{stream_seed, stream_rng}
 use Rattle.seeds.specs.declared.Stream.TheVariants as stream
 use Rattle.config.specs.declared.SimConfig.{SimConfig}
 use Rattle.config.specs.declared.Limits.{Limits}
-use Rattle.config.specs.declared.Judged.{Judged}
+use Rattle.std.specs.declared.result.Result.{Result}
+use Rattle.units.specs.declared.refusal.Refusal.{Refusal}
 use Rattle.config.specs.Limits.{judge, judged_number, area_length, InLimits}
 use Rattle.queue.specs.Queue.{Scheduled}
 use Rattle.model.specs.State.{State, Phase, closed, writing, start_input, construction, new_server}
@@ -47,7 +48,7 @@ use Rattle.sim_start.specs.Fits.{accepted_limits, spread_fits, fits_unstarted}
 
 -- ---- the questions
 
-module _ (size : ℕ) (config : SimConfig) (limits : Limits) (j : Judged) (n : ℕ) (ej : j ≡ judge config limits) (en : n ≡ judged_number j) where
+module _ (size : ℕ) (config : SimConfig) (limits : Limits) (j : Result (Unit {0}) Refusal) (n : ℕ) (ej : j ≡ judge config limits) (en : n ≡ judged_number j) where
   number : n ≡ judged_number (judge config limits)
   number = en ∙ ap judged_number ej
 

@@ -1,5 +1,5 @@
 -- A simulation that begins, in its area: what the contracts of lib.rt cite. Assumes nothing.
-use Rattle.std.specs.Prelude.{◌≡◌, Bool, true, List, [], ◌∷◌, ◌++◌, ℕ, ◌+◌, ◌*◌, ◌≤◌, ◌<◌, eqb, leb, ltb, length, drop}
+use Rattle.std.specs.Prelude.{◌≡◌, Bool, true, List, [], ◌∷◌, ◌++◌, ℕ, ◌+◌, ◌*◌, ◌≤◌, ◌<◌, eqb, leb, ltb, drop}
 use Rattle.laws.specs.Bools.{pick}
 use Rattle.rng.specs.declared.Rng.{Rng}
 use Rattle.seeds.specs.Seeds.{stream_rng}
@@ -8,7 +8,8 @@ use Rattle.config.specs.declared.SimConfig.{SimConfig}
 use Rattle.config.specs.declared.Limits.{Limits}
 use Rattle.config.specs.Limits.{judge, judged_number}
 use Rattle.layout.specs.Code.{flat}
-use Rattle.clients.specs.Clients.{Client, client_words}
+use Rattle.clients.specs.Clients.{client_words}
+use Rattle.clients.specs.declared.Client.{Client}
 use Rattle.model.specs.State.{State, writing, start_input, construction}
 use Rattle.model.specs.Fields.{with_workload, with_phase}
 use Rattle.model.specs.Fits.{state_fits}

@@ -1,9 +1,8 @@
 -- The content of a new state is its words and zeros. Assumes nothing.
-use Rattle.std.specs.Prelude.{◌≡◌, refl, ℕ, zero, suc, ◌+◌, ◌-◌, ◌*◌, length, set, replicate}
+use Rattle.std.specs.Prelude.{◌≡◌, refl, ℕ, zero, suc, ◌+◌, ◌-◌, ◌*◌, length, set, replicate, None}
 use Rattle.std.proofs.Common.{sym, ◌∙◌, zero-mul, suc-mul}
 use Rattle.std.proofs.Math.Path.{ap, ap₂}
 use mathlib.Core.List.{List, [], ◌∷◌, ◌++◌, map, append_assoc, append-nil}
-use Rattle.std.proofs.Math.Option.{none}
 use native.Mathlib.Omega.{arith}
 use Rattle.std.proofs.Math.ListN.{length-append}
 use Rattle.std.proofs.lemmas.List.{length-replicate}
@@ -31,7 +30,8 @@ use Rattle.clients.specs.Confirmations.{confirmations}
 use Rattle.network_words.specs.NetworkCode.{network_code}
 use Rattle.network_words.specs.Links.{from_bits}
 use Rattle.metrics_words.specs.MetricsCode.{metrics_code}
-use Rattle.clients.specs.Clients.{Client, client_words}
+use Rattle.clients.specs.Clients.{client_words}
+use Rattle.clients.specs.declared.Client.{Client}
 use Rattle.model.specs.State.{State, new_server}
 use Rattle.model.specs.Simulation.{draw_targets, new_servers, unstarted}
 use Rattle.model.specs.Fits.{phase_fits}
@@ -47,7 +47,7 @@ use Rattle.sim_start.specs.FillLaws.{zeros_add, zeros_then}
 -- ---- a server that has never started
 
 -- a log without entries
-empty_places : (p n : ℕ) → flat (place p).enc (replicate n none) ≡ zeros (n * (2 + words_for p))
+empty_places : (p n : ℕ) → flat (place p).enc (replicate n None) ≡ zeros (n * (2 + words_for p))
 empty_places p zero = ap zeros (sym (zero-mul (2 + words_for p)))
 empty_places p (suc n) =
     ap (λ (l : List ℕ). zeros (2 + words_for p) ++ l) (empty_places p n)
@@ -69,10 +69,10 @@ module _ (F : Capacity) where
   abbrev P : ℕ
   P = F.limits.payload
 
-  log_zeros : lay (place P) (log_words F) (replicate L none) ≡ zeros (log_words F)
+  log_zeros : lay (place P) (log_words F) (replicate L None) ≡ zeros (log_words F)
   log_zeros =
-      no_more (flat (place P).enc (replicate L none)) (log_words F) (length (replicate L none) * (2 + words_for P))
-      (ap (λ (n : ℕ). n * (2 + words_for P)) (sym (length-replicate L none)))
+      no_more (flat (place P).enc (replicate L None)) (log_words F) (length (replicate L None) * (2 + words_for P))
+      (ap (λ (n : ℕ). n * (2 + words_for P)) (sym (length-replicate L None)))
       ∙ empty_places P L
 
   -- the words of a new server: its next index to apply is 1, and all else is zero

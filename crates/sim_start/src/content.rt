@@ -135,11 +135,9 @@ fn store_servers(area: &mut [u8], f: Capacity)
     ensures { Writes area.old area.new (bytes_of f) 512 (new_server_words f f.servers) }
 {
     let n = f.servers as usize;
-    let mut slot = 0;
-    while slot < n {
+    for slot in 0..n {
         let at = sizes::block_at(f, slot);
         words::store(area, at + 18, 1);
-        slot += 1;
     }
 }
 
@@ -151,12 +149,10 @@ fn draw_targets(area: &mut [u8], f: Capacity, g: Rng) -> Rng
     let at = sizes::clients_at(f);
     let n = f.clients as usize;
     let mut next = g;
-    let mut c = 0;
-    while c < n {
-        let d = rng::drawn_under(next, f.servers);
+    for c in 0..n {
+        let d = next.drawn_under(f.servers);
         words::store(area, at + c * 8, d.value);
         next = d.next;
-        c += 1;
     }
     next
 }

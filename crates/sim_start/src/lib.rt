@@ -14,6 +14,7 @@ use config::{Limits, SimConfig};
 use seeds::Stream;
 use state::{Capacity, OpenInput};
 use units::NodeId;
+use units::refusal::answer_number;
 
 pub mod content; // the words of a new state
 
@@ -21,7 +22,7 @@ pub mod content; // the words of a new state
 fn start_plan(size: u64, config: SimConfig, limits: Limits) -> u64
     ensures { StartAsked size config limits result }
 {
-    let judged = config::judge(config, limits).number();
+    let judged = answer_number(config::judge(config, limits));
     if 0 < judged {
         return judged;
     }

@@ -1,5 +1,5 @@
 -- What the proofs of events.rt cite. Assumes nothing.
-use Rattle.std.specs.Prelude.{◌≡◌, refl, Bool, true, false, not, ◌&&◌, List, [], ◌∷◌, ℕ, ◌+◌, ◌-◌, ◌≤◌, ◌<◌, length}
+use Rattle.std.specs.Prelude.{◌≡◌, refl, Bool, true, false, not, ◌&&◌, List, [], ◌∷◌, ℕ, ◌+◌, ◌-◌, ◌≤◌, ◌<◌, length, Option, Some}
 use Rattle.std.proofs.Math.Path.{sym, ap}
 use Rattle.std.proofs.Common.{ap₂, subst, ◌∙◌, arith}
 use Rattle.std.proofs.Math.Seq.{sets}
@@ -8,7 +8,6 @@ use Rattle.laws.specs.Bools.{pick, ◌and◌, and_left}
 use Rattle.laws.proofs.BoolLaws.{and_right, code_and}
 use Rattle.units.specs.declared.LogIndex.{LogIndex}
 use Rattle.units.specs.declared.NodeId.{NodeId}
-use Rattle.units.specs.declared.NodeOption.{NodeOption}
 use Rattle.units.specs.declared.SimTime.{SimTime}
 use Rattle.protocol.specs.declared.Timer.{Timer}
 use Rattle.faults.specs.Fault as faults
@@ -33,8 +32,6 @@ use Rattle.state.specs.Changes.{Inside, AreaOf, Changes, Reads}
 use Rattle.state_header.specs.Header.{now_set, events_set}
 use Rattle.state_header.specs.Laws.{fits_now, fits_events}
 use Rattle.state_queue.specs.Events.{queue_length, first_of, next_event, CopiesMessage, dequeued}
-use Rattle.state_queue.specs.declared.NextEvent.{NextEvent}
-use Rattle.state_queue.specs.declared.NextEvent.TheVariants.{Some}
 use Rattle.answers.specs.declared.InputNumbers.{InputNumbers}
 use Rattle.sim_outputs.specs.declared.Sum.{Sum}
 use Rattle.sim_outputs.specs.Outputs.{Sums, Passed}
@@ -88,7 +85,7 @@ module _ (F : Capacity) (e : Event) (i : EventIn F e) where
   pub arrive_client : (slot c seq attempt : ℕ) → e ≡ event.ClientArrive slot c seq attempt → c < F.clients
   arrive_client slot c seq attempt q = ltb-true c F.clients (and_right _ _ (ranged (event.ClientArrive slot c seq attempt) q))
 
-  pub redirect_client : (c attempt : ℕ) (hint : NodeOption) → e ≡ event.ClientRedirect c attempt hint → c < F.clients
+  pub redirect_client : (c attempt : ℕ) (hint : Option NodeId) → e ≡ event.ClientRedirect c attempt hint → c < F.clients
   redirect_client c attempt hint q = ltb-true c F.clients (ranged (event.ClientRedirect c attempt hint) q)
 
   pub retry_client : (c attempt : ℕ) → e ≡ event.ClientRetry c attempt → c < F.clients
@@ -145,7 +142,7 @@ module _ (b : List ℕ) (F : Capacity) (time room : ℕ) (e : Event) (r : Bool) 
   unfolding process_test
   arrive_test_lem slot c seq attempt q p = by_kind (event.ClientArrive slot c seq attempt) (arrive_test slot c seq) (λ s. refl) q p
 
-  pub redirect_test_lem : (c attempt : ℕ) (hint : NodeOption) → e ≡ event.ClientRedirect c attempt hint → Reads b F r (redirect_test time room c attempt hint) → Reads b F r (process_test time room e)
+  pub redirect_test_lem : (c attempt : ℕ) (hint : Option NodeId) → e ≡ event.ClientRedirect c attempt hint → Reads b F r (redirect_test time room c attempt hint) → Reads b F r (process_test time room e)
   unfolding process_test
   redirect_test_lem c attempt hint q p = by_kind (event.ClientRedirect c attempt hint) (redirect_test time room c attempt hint) (λ s. refl) q p
 
@@ -190,7 +187,7 @@ pub first_is : (b : List ℕ) (F : Capacity) (e : Earliest) → Reads b F (Some 
 unfolding next_event first_of
 first_is b F e p s h ef x q k = same (p.to s h ef ∙ ap first_of k)
   where
-    same : {r y : Earliest} → ◌≡◌ {A = NextEvent} (Some r) (Some y) → r ≡ y
+    same : {r y : Earliest} → ◌≡◌ {A = (Option Earliest)} (Some r) (Some y) → r ≡ y
     same e = cc
 
 module _ (b : List ℕ) (F : Capacity) (e : Earliest) (w : EventWords) (z : List ℕ) (n : Next b F e) (ew : w ≡ words_of e.event) where
@@ -296,7 +293,7 @@ module _ (b b' : List ℕ) (F : Capacity) (e : Event) (size : ℕ) (r : InputNum
   unfolding processed process
   arrive_done slot c seq attempt q p = no_message (event.ClientArrive slot c seq attempt) (λ m s. refl) q p
 
-  pub redirect_done : (c attempt : ℕ) (hint : NodeOption) → e ≡ event.ClientRedirect c attempt hint → Opens b b' F r (processed (event.ClientRedirect c attempt hint) []) → Processes b b' F r e size
+  pub redirect_done : (c attempt : ℕ) (hint : Option NodeId) → e ≡ event.ClientRedirect c attempt hint → Opens b b' F r (processed (event.ClientRedirect c attempt hint) []) → Processes b b' F r e size
   unfolding processed process
   redirect_done c attempt hint q p = no_message (event.ClientRedirect c attempt hint) (λ m s. refl) q p
 

@@ -1,10 +1,10 @@
 -- What the proofs of lib.rt cite: questions 6 and 9, the definition, and the exits. Assumes nothing.
 use Rattle.std.proofs.Math.Path.{◌≡◌, refl, sym, ap, subst}
 use Rattle.std.proofs.Common.{◌∙◌}
-use Rattle.std.specs.Prelude.{Bool, not, length}
+use Rattle.std.specs.Prelude.{Bool, not, length, Option, None, Some}
 use Rattle.std.proofs.Math.Bool.{true, false}
 use mathlib.Core.List.{List, [], ◌∷◌, ◌++◌}
-use Prim.Native.Nat.{ℕ, ◌+◌, ◌-◌, ◌^◌, ◌≤◌, ◌<◌, max}
+use Prim.Native.Nat.{ℕ, ◌+◌, ◌^◌, ◌≤◌, ◌<◌, max}
 use native.Mathlib.Omega.{arith}
 use Rattle.std.proofs.Math.Dec.{eqb, leb}
 use Rattle.std.proofs.Math.ListN.{drop}
@@ -17,7 +17,7 @@ use Rattle.queue.specs.Queue.{Scheduled, Queue, pop}
 use Rattle.queue.specs.Range.{word}
 use Rattle.queue.specs.Table.{rest}
 use Rattle.queue.specs.declared.table.Earliest.{Earliest}
-use Rattle.model.specs.State.{State, Phase, closed, writing, sending}
+use Rattle.model.specs.State.{State}
 use Rattle.model.specs.Fields.{with_now, with_queue, with_events}
 use Rattle.model.specs.Simulation.{Moved, no_input, process}
 use Rattle.model.specs.Calls.{Out, refused, done, ask, is_closed, Stepped, stepped, step}
@@ -45,8 +45,6 @@ use Rattle.state_header.specs.Header.{phase_of, now_set, events_set}
 use Rattle.state_header.specs.Laws.{fits_now, kind_closed, kind_open}
 use Rattle.state_queue.specs.Events.{first_of, next_event, dequeued}
 use Rattle.state_queue.specs.Laws.{first_in_range}
-use Rattle.state_queue.specs.declared.NextEvent.{NextEvent}
-use Rattle.state_queue.specs.declared.NextEvent.TheVariants.{None, Some}
 use Rattle.answers.specs.declared.InputNumbers.{InputNumbers}
 use Rattle.answers.specs.declared.SteppedAnswer.{SteppedAnswer}
 use Rattle.answers.specs.Answers.{input_of, no_input_numbers, stepped_no, stepped_of, stepped_yes}
@@ -114,15 +112,15 @@ now_stays b F deadline run q l = record {
 -- ---- the definition
 
 -- Whether there is an event.
-unfoldable there : NextEvent → Bool
+unfoldable there : Option Earliest → Bool
 there None = false
 there (Some e) = true
 
-none_some : {e : Earliest} → ◌≡◌ {A = NextEvent} (Some e) None → ⊥
+none_some : {e : Earliest} → ◌≡◌ {A = (Option Earliest)} (Some e) None → ⊥
 unfolding there
 none_some y = false_true (ap there (sym y))
 
-none_queued : (l : Queue) → ◌≡◌ {A = NextEvent} (first_of l) None → l ≡ []
+none_queued : (l : Queue) → ◌≡◌ {A = (Option Earliest)} (first_of l) None → l ≡ []
 unfolding first_of
 none_queued [] y = refl
 none_queued (x ∷ l) y = absurd (none_some y)
@@ -267,7 +265,7 @@ module _ (b : List ℕ) (F : Capacity) (deadline : ℕ) (z : List ℕ) where
         let t = raised_fits s deadline (length z) (area_fits p.area) c in
         acts (record { due = false; opening = no_input }) (now_raised deadline s) b' z r e t (k.to s (drop (bytes_of F) b) here t) refl (er ∙ ap (stepped_of 0) ei)
 
-    pub step_rested : (c : ℕ) (o : NextEvent) (b' : List ℕ) (i : InputNumbers) (r : SteppedAnswer) → Reads b F c (step_code deadline (length z)) → c ≤ 0 → Reads b F o next_event → o ≡ None → Changes b b' F (now_raised deadline)
+    pub step_rested : (c : ℕ) (o : Option Earliest) (b' : List ℕ) (i : InputNumbers) (r : SteppedAnswer) → Reads b F c (step_code deadline (length z)) → c ≤ 0 → Reads b F o next_event → o ≡ None → Changes b b' F (now_raised deadline)
         → i ≡ no_input_numbers → r ≡ stepped_of 0 i → StepDone b b' deadline z z r
     unfolding next_event
     step_rested c o b' i r q l n e k ei er =
@@ -285,9 +283,9 @@ asked_of b F deadline size c p q l =
 
 -- ---- the first event
 
-pub next_of : (b : List ℕ) (F : Capacity) (o : NextEvent) (e : Earliest) → Passed b F → Reads b F o next_event → o ≡ Some e → Next b F e
+pub next_of : (b : List ℕ) (F : Capacity) (o : Option Earliest) (e : Earliest) → Passed b F → Reads b F o next_event → o ≡ Some e → Next b F e
 next_of b F o e p q n =
-    let first : Reads b F (Some e) next_event = subst (λ (x : NextEvent). Reads b F x next_event) n q in
+    let first : Reads b F (Some e) next_event = subst (λ (x : Option Earliest). Reads b F x next_event) n q in
     let i = first_in_range b F e first (decode b) p.area p.capacity in
     record {
       passed = p;
@@ -311,7 +309,7 @@ module _ (b : List ℕ) (F : Capacity) (e : Earliest) (n : Next b F e) where
   unfolding next_event first_of
   head = by (decode b).queue refl (n.first.to (decode b) p.area p.capacity)
     where
-      by : (l : Queue) → (decode b).queue ≡ l → ◌≡◌ {A = NextEvent} (Some e) (first_of l) → Head
+      by : (l : Queue) → (decode b).queue ≡ l → ◌≡◌ {A = (Option Earliest)} (Some e) (first_of l) → Head
       by [] k y = absurd (none_some y)
       by (x ∷ l) k y = record { first = x; others = l; is = k; numbers = first_is b F e n.first (decode b) p.area p.capacity x l k }
 

@@ -1,5 +1,5 @@
 -- What a step asks and does: what the contracts cite. Assumes nothing.
-use Rattle.std.specs.Prelude.{◌≡◌, Bool, true, List, [], ◌∷◌, ℕ, ◌+◌, ◌-◌, ◌^◌, ◌≤◌, max, leb, eqb, length, drop}
+use Rattle.std.specs.Prelude.{◌≡◌, Bool, true, List, [], ◌∷◌, ℕ, ◌+◌, ◌-◌, ◌^◌, ◌≤◌, max, leb, eqb, length, drop, Some}
 use Rattle.std.proofs.lemmas.List.Edits.{sets}
 use Rattle.laws.specs.Bools.{pick, ◌and◌}
 use Rattle.units.specs.declared.SimTime.{SimTime}
@@ -24,7 +24,6 @@ use Rattle.state.specs.Sizes.{bytes_of}
 use Rattle.state.specs.Changes.{AreaOf, Reads}
 use Rattle.state_header.specs.Header.{now_set, events_set}
 use Rattle.state_queue.specs.Events.{next_event, dequeued}
-use Rattle.state_queue.specs.declared.NextEvent.TheVariants.{Some}
 use Rattle.answers.specs.declared.InputNumbers.{InputNumbers}
 use Rattle.answers.specs.declared.SteppedAnswer.{SteppedAnswer}
 use Rattle.answers.specs.Answers.{input_of, stepped_no, stepped_yes}

@@ -15,8 +15,9 @@ ghost use Rattle.sim_step.specs.Steps.{
 };
 
 use answers::InputNumbers;
+use queue::Event;
+use queue::numbers::EventWords;
 use queue::table::Earliest;
-use queue::{Event, numbers};
 use sim_clients::{redirects, replies};
 use sim_events::{arrivals, client_events, deliveries};
 use state::Capacity;
@@ -112,7 +113,7 @@ pub fn copy_message(area: &[u8], f: Capacity, e: Earliest, buffer: &mut [u8])
     ensures { Copied area.now f e buffer.old buffer.new }
 {
     let event = e.event;
-    let w = numbers::words_of(event);
+    let w = EventWords::from(event);
     if w.kind != 1 {
         return;
     }

@@ -18,7 +18,6 @@ ghost use Rattle.sim_step.specs.Steps.{
 use answers::{InputNumbers, SteppedAnswer, opened};
 use queue::table::Earliest;
 use state::{Capacity, Gate};
-use state_queue::NextEvent;
 use units::SimTime;
 
 pub mod events; // the first event: whether the state after it fits, and what it does
@@ -103,11 +102,11 @@ fn step_passed(area: &mut [u8], f: Capacity, deadline: u64, buffer: &mut [u8]) -
     }
     let next = state_queue::first_event(area, f);
     match next {
-        NextEvent::None => {
+        None => {
             raise_now(area, f, deadline);
             opened::stepped(0, answers::no_input())
         }
-        NextEvent::Some(e) => step_next(area, f, deadline, e, buffer),
+        Some(e) => step_next(area, f, deadline, e, buffer),
     }
 }
 

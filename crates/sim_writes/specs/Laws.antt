@@ -1,5 +1,5 @@
 -- What the proofs of the writes cite. Assumes nothing.
-use Rattle.std.specs.Prelude.{◌≡◌, Bool, false, List, ℕ, zero, suc, ◌≤◌, ◌<◌, eqb, leb}
+use Rattle.std.specs.Prelude.{◌≡◌, Bool, false, List, ℕ, zero, suc, ◌≤◌, ◌<◌, eqb, leb, None, Some}
 use Rattle.std.proofs.Math.Path.{refl, sym, ap, subst}
 use Rattle.std.proofs.Common.{◌∙◌}
 use Rattle.std.proofs.Math.Bool.{true}
@@ -9,8 +9,8 @@ use borrow.Author.Tests.{eq-eqb, ne_eqb, le-leb, lt-leb, eqb-true, ltb-true}
 use Rattle.laws.specs.Decides.{false_true}
 use Rattle.laws.specs.Bools.{pick, cases, ◌and◌, and_left, no_and}
 use Rattle.laws.proofs.BoolLaws.{and_both, and_no}
-use Rattle.units.specs.Types.{payload_of}
-use Rattle.units.specs.declared.NodeOption.TheVariants.{None, Some}
+use Rattle.units.specs.Types.{Payload, noop, command, payload_of}
+use Rattle.layout.specs.Payload.{body_of}
 use Rattle.storage.specs.declared.HardState.{HardState}
 use Rattle.storage.specs.Storage.{Write, write_hard_state, write_put, write_truncate}
 use Rattle.model.specs.State.{State, Input, Owed, Phase, closed, writing, sending}
@@ -120,10 +120,22 @@ module _ (b : List ℕ) (F : Capacity) (k index term kind : ℕ) (bytes : List �
           stopped 9 (omega arith)
           (λ s h ef. rw (within s ef, and_no (leb kind 1) (leb (length bytes) (pick (eqb kind 0) 0 s.limits.payload)) (lt-leb (length bytes) _ (subst (λ (n : ℕ). n < length bytes) (most_is s ef) i))) refl)
 
-      pub put_made : (b' : List ℕ) (n : ℕ) → length bytes ≤ most
-          → WritesAt b b' F k (write_put (record { 0 = index }) (record { term = record { 0 = term }; payload = payload_of kind bytes })) n → PutsAt b b' F k index term kind bytes n
+      -- the payload that is lent is as long as it may be
+      pub put_bound : (y : Payload) → length bytes ≤ most → y ≡ payload_of kind bytes → length (body_of y) ≤ F.limits.payload
+      unfolding payload_of
+      put_bound y i e =
+          subst (λ (v : Payload). length (body_of v) ≤ F.limits.payload) (sym e) (by (eqb kind 0) (subst (λ (n : ℕ). length bytes ≤ n) x.is i))
+        where
+          by : (t : Bool) → length bytes ≤ pick t 0 F.limits.payload → length (body_of (pick t noop (command bytes))) ≤ F.limits.payload
+          by true l = omega arith
+          by false l = l
+
+      pub put_made : (y : Payload) (b' : List ℕ) (n : ℕ) → length bytes ≤ most → y ≡ payload_of kind bytes
+          → WritesAt b b' F k (write_put (record { 0 = index }) (record { term = record { 0 = term }; payload = y })) n → PutsAt b b' F k index term kind bytes n
       unfolding put_of entry_put judged written write_answer
-      put_made b' n i w =
+      put_made y b' n i e v =
+          let w : WritesAt b b' F k (write_put (record { 0 = index }) (record { term = record { 0 = term }; payload = payload_of kind bytes })) n =
+          subst (λ (o : Payload). WritesAt b b' F k (write_put (record { 0 = index }) (record { term = record { 0 = term }; payload = o })) n) e v in
           let gives : (s : State) → Area b s → F ≡ capacity_of s → put_of k index term kind bytes s ≡ done tt (entry_put k index term kind bytes s) =
           λ s h ef. rw (within s ef, and_both (leb kind 1) (leb (length bytes) (pick (eqb kind 0) 0 s.limits.payload)) (le-leb kind 1 m) (le-leb (length bytes) _ (subst (λ (n : ℕ). length bytes ≤ n) (most_is s ef) i))) refl in
           record {

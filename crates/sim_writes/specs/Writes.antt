@@ -8,7 +8,7 @@ use Rattle.model.specs.State.{State}
 use Rattle.model.specs.Calls as calls
 use Rattle.model.specs.Calls.{Out, ask, node_option, is_payload}
 use Rattle.state.specs.declared.Capacity.{Capacity}
-use Rattle.state.specs.Parts.{phase_kind, phase_slot}
+use Rattle.state.specs.Parts.{phase_kind}
 use Rattle.state.specs.Area.{Area, capacity_of}
 use Rattle.state.specs.Changes.{Changes, Planned, Reads}
 use Rattle.state_disk.specs.Disks.{written}

@@ -11,7 +11,7 @@ ghost use Rattle.sim_writes.specs.Writes.{AsksWriting, hard_state_given, MostByt
 use answers::DoneAnswer;
 use state::{Capacity, Gate};
 use storage::HardState;
-use units::{LogIndex, NodeId, NodeOption, Term};
+use units::{LogIndex, NodeId, Term};
 
 // What a write asks of the phase: 0, or 6; the place of the open input's server.
 #[derive(Clone, Copy)]
@@ -43,12 +43,12 @@ fn hard_state_given(term: u64, present: u64, vote: u64) -> HardState
     if present == 1 {
         HardState {
             term: Term(term),
-            voted_for: NodeOption::Some(NodeId(vote)),
+            voted_for: Some(NodeId(vote)),
         }
     } else {
         HardState {
             term: Term(term),
-            voted_for: NodeOption::None,
+            voted_for: None,
         }
     }
 }
@@ -121,15 +121,8 @@ fn put_at(
     if most < (payload.len() as u64) {
         return 9;
     }
-    state_disk::write_put(
-        area,
-        f,
-        k as usize,
-        LogIndex(index),
-        Term(term),
-        kind,
-        payload,
-    )
+    let given = units::payload_of(kind, payload);
+    state_disk::write_put(area, f, k as usize, LogIndex(index), Term(term), given)
 }
 
 // An entry put at an index of the log.

@@ -1,10 +1,9 @@
 -- Each state that fits has a content: the other half of question 5. Assumes nothing.
-use Rattle.std.specs.Prelude.{◌≡◌, Bool, false, eqb, ltb, ℕ, zero, suc, ◌+◌, ◌-◌, ◌*◌, ◌^◌, ◌≤◌, ◌<◌, length, get_or}
+use Rattle.std.specs.Prelude.{◌≡◌, Bool, false, eqb, ltb, ℕ, zero, suc, ◌+◌, ◌-◌, ◌*◌, ◌^◌, ◌≤◌, ◌<◌, length, get_or, Option, None, Some}
 use Rattle.std.proofs.Math.Path.{refl, ap}
 use Rattle.std.proofs.Common.{sym, ap₂, subst, ◌∙◌, arith, eqb-true, eq-eqb, lt-ltb, ltb-true, leb-true, le-leb}
 use Rattle.std.proofs.Math.Bool.{true}
 use mathlib.Core.List.{List, [], ◌∷◌, ◌++◌}
-use Rattle.std.proofs.Math.Option.{Option, none, some}
 use Rattle.std.proofs.Math.Dec.{leb}
 use Rattle.laws.specs.Bools.{◌and◌, allb, and_left, every}
 use Rattle.laws.proofs.BoolLaws.{and_right, and_both, every_by, allb_in}
@@ -14,8 +13,6 @@ use Rattle.layout.specs.Code.{Code}
 use Rattle.layout.specs.Tables.{Table, Holds, content}
 use Rattle.layout.specs.Marked.{words_for}
 use Rattle.layout.specs.Applied.{applied}
-use Rattle.config.specs.declared.Judged.{Judged}
-use Rattle.config.specs.declared.Judged.TheVariants.{Accepted, Servers, Consensus, Settings}
 use Rattle.config.specs.Limits.{judge, judged_number, InLimits}
 use Rattle.config.specs.Laws.{in_limits}
 use Rattle.queue.specs.Table.{events}
@@ -44,7 +41,6 @@ use Rattle.words.specs.Lift.{length_bytes}
 use Rattle.words.specs.Zero.{allz_zeros}
 use Rattle.network_words.specs.NetworkCode.{network_code}
 use Rattle.metrics_words.specs.MetricsCode.{metrics_code}
-use Rattle.units.specs.declared.NodeOption.TheVariants.{None, Some}
 use Rattle.checks.specs.declared.Check.{Check}
 use Rattle.checks.specs.declared.Check.TheVariants.{ElectionSafety, StateMachineSafety, ApplyOrder, UniqueEntries, Durability, Liveness, LogMatching, LeaderCompleteness}
 use Rattle.checks.specs.Checks.{check_number}
@@ -191,12 +187,12 @@ module _ (s : State) (h : state_fits s ≡ true) where
   confirmation_good x p = and_both _ _ (and_both _ _ (and_left _ _ p) (and_both _ _ (flag x.read_index) (and_both _ _ (by x.read_index (and_right _ _ p)) refl))) refl
     where
       flag : (o : Option LogIndex) → Bits (flag_of o)
-      flag none = refl
-      flag (some y) = refl
+      flag None = refl
+      flag (Some y) = refl
 
       by : (o : Option LogIndex) → if_some (λ (index : LogIndex). ltb index.0 (2 ^ 64)) o ≡ true → Bits (number_of (λ (y : LogIndex). y.0) o)
-      by none q = refl
-      by (some y) q = q
+      by None q = refl
+      by (Some y) q = q
 
   confirmations_good : (confirmations_code (capacity_of s) (counts_of s)).good s.confirmations ≡ true
   confirmations_good = table_good confirmations s.limits.history (length s.confirmations) s.confirmations (omega arith) (and_both _ _ (and_left _ _ (t 15)) (and_both _ _ (every_by _ _ confirmation_good s.confirmations (and_right _ _ (t 15))) refl)) refl
@@ -209,16 +205,16 @@ module _ (s : State) (h : state_fits s ≡ true) where
       (and_both _ _ (flag x.outstanding) (and_both _ _ (seq x.outstanding o) (and_both _ _ (sent x.outstanding o) (and_both _ _ refl (and_both _ _ refl refl)))))))) (and_left _ _ p)
     where
       flag : (o : Option Outstanding) → Bits (flag_of o)
-      flag none = refl
-      flag (some y) = refl
+      flag None = refl
+      flag (Some y) = refl
 
       seq : (o : Option Outstanding) → if_some (outstanding_fits s.config s.limits) o ≡ true → Bits (number_of (λ (y : Outstanding). y.seq) o)
-      seq none q = refl
-      seq (some y) q = and_left _ _ q
+      seq None q = refl
+      seq (Some y) q = and_left _ _ q
 
       sent : (o : Option Outstanding) → if_some (outstanding_fits s.config s.limits) o ≡ true → Bits (number_of (λ (y : Outstanding). y.first_sent.0) o)
-      sent none q = refl
-      sent (some y) q = and_right _ _ q
+      sent None q = refl
+      sent (Some y) q = and_right _ _ q
 
   clients_good : (clients_code (capacity_of s)).good s.clients ≡ true
   clients_good =

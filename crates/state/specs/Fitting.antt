@@ -1,17 +1,17 @@
 -- What laid in an area fits: question 5 lets through only states of which `state_fits` is true. Assumes nothing.
-use Rattle.std.specs.Prelude.{◌≡◌, refl, Bool, true, false, List, [], ◌∷◌, ◌++◌, ℕ, zero, suc, ◌+◌, ◌*◌, ◌^◌, ◌≤◌, ◌<◌, eqb, leb, ltb, length}
+use Rattle.std.specs.Prelude.{◌≡◌, refl, Bool, true, false, List, [], ◌∷◌, ◌++◌, ℕ, zero, suc, ◌+◌, ◌*◌, ◌^◌, ◌≤◌, ◌<◌, eqb, leb, ltb, length, Option, None, Some, Result, Ok, Err}
 use Rattle.std.proofs.Common.{sym, ap, ap₂, ◌∙◌, arith, eqb-true}
-use Rattle.std.proofs.Math.Option.{Option, none, some}
 use Rattle.laws.specs.Bools.{◌and◌, allb, and_left, every}
 use Rattle.laws.proofs.BoolLaws.{and_right, and_both, every_by}
+use Rattle.laws.specs.Decides.{false_true}
 use Rattle.units.specs.Types.{Payload}
 use Rattle.units.specs.declared.LogIndex.{LogIndex}
 use Rattle.layout.specs.Code.{Code}
 use Rattle.layout.specs.Tables.{Table, Holds, content}
 use Rattle.layout.specs.Marked.{words_for}
 use Rattle.layout.specs.Applied.{applied}
-use Rattle.config.specs.declared.Judged.{Judged}
-use Rattle.config.specs.declared.Judged.TheVariants.{Accepted, Servers, Consensus, Settings}
+use Rattle.units.specs.declared.refusal.Refusal.{Refusal}
+use Rattle.units.specs.RefusalLaws.{refusal_positive}
 use Rattle.config.specs.Limits.{judge, judged_number, InLimits}
 use Rattle.config.specs.Laws.{in_limits}
 use Rattle.queue.specs.Table.{events}
@@ -30,19 +30,17 @@ use Rattle.clients.specs.Confirmations.{confirmations}
 use Rattle.state.specs.Area.{Regions, LaysOut, Area, regions, capacity_of, counts_of}
 use Rattle.state.specs.ServerFits.{table_fits_lem, server_fits_lem}
 
-pub accepted_is : (r : Judged) → eqb (judged_number r) 0 ≡ true → r ≡ Accepted
-accepted_is Accepted h = refl
-accepted_is Servers h = cc
-accepted_is Consensus h = cc
-accepted_is Settings h = cc
+pub accepted_is : (r : Result (Unit {0}) Refusal) → eqb (judged_number r) 0 ≡ true → r ≡ Ok tt
+accepted_is (Ok u) h = refl
+accepted_is (Err why) h = absurd (false_true (sym (refusal_positive why) ∙ h))
 
 module _ (s : State) (i : InLimits s.config.servers s.config.clients s.limits) where
   confirmation_fits_lem : (x : Confirmation) → confirmations.row.good x ≡ true → confirmation_fits s.config s.limits x ≡ true
   confirmation_fits_lem x h = and_both _ _ (and_left _ _ (and_left _ _ h)) (by x.read_index (and_left _ _ (and_right _ _ (and_right _ _ (and_left _ _ h)))))
     where
       by : (o : Option LogIndex) → ltb (number_of (λ (x : LogIndex). x.0) o) (2 ^ 64) ≡ true → if_some (λ (index : LogIndex). ltb index.0 (2 ^ 64)) o ≡ true
-      by none h = refl
-      by (some x) h = h
+      by None h = refl
+      by (Some x) h = h
 
   client_fits_lem : (x : Client) → (client_code s.config.servers).good x ≡ true → client_state_fits s.config s.limits x ≡ true
   client_fits_lem x h =
@@ -53,8 +51,8 @@ module _ (s : State) (i : InLimits s.config.servers s.config.clients s.limits) w
       and_both _ _ (and_right _ _ h) (and_both _ _ (and_left _ _ w₁) (and_both _ _ (and_left _ _ w₂) (by x.outstanding (and_left _ _ w₄) (and_left _ _ (and_right _ _ w₄)))))
     where
       by : (o : Option Outstanding) → ltb (number_of (λ (x : Outstanding). x.seq) o) (2 ^ 64) ≡ true → ltb (number_of (λ (x : Outstanding). x.first_sent.0) o) (2 ^ 64) ≡ true → if_some (outstanding_fits s.config s.limits) o ≡ true
-      by none a b = refl
-      by (some x) a b = and_both _ _ a b
+      by None a b = refl
+      by (Some x) a b = and_both _ _ a b
 
   wider : (k j : ℕ) → 0 < k → 0 < k + j
   wider k j h = omega arith

@@ -1,16 +1,12 @@
 -- What the proofs of the loads and stores cite. Assumes nothing.
-use Rattle.std.specs.Prelude.{◌≡◌, refl, Bool, true, false, List, [], ◌∷◌, ℕ, zero, suc, ◌+◌, ◌*◌, ◌≤◌, eqb, length, get_or}
+use Rattle.std.specs.Prelude.{◌≡◌, refl, Bool, true, false, List, [], ◌∷◌, ℕ, zero, suc, ◌+◌, ◌*◌, ◌≤◌, eqb, length, get_or, Option, None, Some}
 use Rattle.std.proofs.Math.Path.{sym}
 use Rattle.std.proofs.Common.{ap, ap₂, ◌∙◌, arith, eq-eqb, ne_eqb}
 use Rattle.std.proofs.lemmas.List.Edits.{sets}
 use Rattle.laws.specs.Bools.{pick}
 use Rattle.words.specs.Words.{W, bytes}
 use Rattle.layout.specs.Regions.{store_whole}
-use Rattle.units.specs.declared.NodeOption.{NodeOption}
-use Rattle.units.specs.declared.NodeOption.TheVariants.{None, Some}
 use Rattle.units.specs.declared.Term.{Term}
-use Rattle.units.specs.declared.TermOption.{TermOption}
-use Rattle.units.specs.declared.TermOption.TheVariants as term
 use Rattle.units.specs.declared.LogIndex.{LogIndex}
 use Rattle.protocol.specs.Numbers.{role_number}
 use Rattle.protocol.specs.declared.Role.{Role}
@@ -25,9 +21,8 @@ use Rattle.state.specs.declared.Run.{Run}
 use Rattle.state.specs.declared.TableCounts.{TableCounts}
 use Rattle.state.specs.declared.OpenInput.{OpenInput}
 use Rattle.state.specs.declared.ServerState.{ServerState}
-use Rattle.state.specs.declared.StatusOption.{StatusOption}
-use Rattle.state.specs.declared.StatusOption.TheVariants as status
 use Rattle.state.specs.Parts.{capacity_in, settings_in, run_in, run_words, counts_in, counts_words, open_in, open_words, node_flag, node_number, node_in, hard_state_at, storage_state_of, storage_state_in, storage_state_words, status_words, term_flag, term_number, term_in, role_in, status_in, server_state_of, server_state_in, bool_in}
+use Rattle.units.specs.declared.NodeId.{NodeId}
 
 -- ---- a struct of words that were loaded one by one
 
@@ -51,7 +46,7 @@ module _ (ws : List ℕ) where
       → record { phase = a; slot = b; input = c; client = d; seq = e; attempt = f; verdict = g; leader = h; owed = i; next = j } ≡ open_in ws
   open_loaded p q r s t u v w x y = cc
 
-  pub hard_state_loaded : (i : ℕ) {f n t : ℕ} {o : NodeOption} → f ≡ get_or ws (i + 1) 0 → n ≡ get_or ws (i + 2) 0 → t ≡ get_or ws i 0 → o ≡ node_in f n → record { term = record { 0 = t }; voted_for = o } ≡ hard_state_at ws i
+  pub hard_state_loaded : (i : ℕ) {f n t : ℕ} {o : (Option NodeId)} → f ≡ get_or ws (i + 1) 0 → n ≡ get_or ws (i + 2) 0 → t ≡ get_or ws i 0 → o ≡ node_in f n → record { term = record { 0 = t }; voted_for = o } ≡ hard_state_at ws i
   hard_state_loaded i e₁ e₂ e₀ eo = cc
 
   pub storage_state_loaded : {c d : HardState} {w g : ℕ} → c ≡ hard_state_at ws 0 → d ≡ hard_state_at ws 3 → w ≡ get_or ws 6 0 → g ≡ get_or ws 7 0 → record { current = c; durable = d; waiting = w; discarded = g } ≡ storage_state_in ws
@@ -82,12 +77,12 @@ module _ (b b' : List ℕ) where
       → b' ≡ sets b (8 * 0) (bytes (v.current.term.0 ∷ f ∷ n ∷ v.durable.term.0 ∷ p ∷ q ∷ v.waiting ∷ v.discarded ∷ [])) → b' ≡ bytes (storage_state_words v)
   storage_state_stored v f n p q l ef en ep eq e = e ∙ rw (ef, en, ep, eq) (store_whole b (storage_state_words v) l)
 
-  pub no_status_stored : (o : StatusOption) → o ≡ status.None → length b ≡ 48 → b' ≡ sets b (8 * 0) (bytes (0 ∷ 0 ∷ 0 ∷ 0 ∷ 0 ∷ 0 ∷ [])) → b' ≡ bytes (status_words o)
-  no_status_stored o eo l e = e ∙ store_whole b (0 ∷ 0 ∷ 0 ∷ 0 ∷ 0 ∷ 0 ∷ []) l ∙ ap (λ (x : StatusOption). bytes (status_words x)) (sym eo)
+  pub no_status_stored : (o : Option Status) → o ≡ None → length b ≡ 48 → b' ≡ sets b (8 * 0) (bytes (0 ∷ 0 ∷ 0 ∷ 0 ∷ 0 ∷ 0 ∷ [])) → b' ≡ bytes (status_words o)
+  no_status_stored o eo l e = e ∙ store_whole b (0 ∷ 0 ∷ 0 ∷ 0 ∷ 0 ∷ 0 ∷ []) l ∙ ap (λ (x : Option Status). bytes (status_words x)) (sym eo)
 
-  pub status_stored : (o : StatusOption) (x : Status) (r f n : ℕ) → o ≡ status.Some x → length b ≡ 48 → r ≡ role_number x.role → f ≡ node_flag x.leader → n ≡ node_number x.leader
+  pub status_stored : (o : Option Status) (x : Status) (r f n : ℕ) → o ≡ Some x → length b ≡ 48 → r ≡ role_number x.role → f ≡ node_flag x.leader → n ≡ node_number x.leader
       → b' ≡ sets b (8 * 0) (bytes (1 ∷ r ∷ x.term.0 ∷ f ∷ n ∷ x.commit_index.0 ∷ [])) → b' ≡ bytes (status_words o)
-  status_stored o x r f n eo l er ef en e = e ∙ rw (er, ef, en) (store_whole b (status_words (status.Some x)) l) ∙ ap (λ (y : StatusOption). bytes (status_words y)) (sym eo)
+  status_stored o x r f n eo l er ef en e = e ∙ rw (er, ef, en) (store_whole b (status_words (Some x)) l) ∙ ap (λ (y : Option Status). bytes (status_words y)) (sym eo)
 
 -- ---- by cases
 
@@ -99,13 +94,13 @@ pub node_some : (flag id : ℕ) → (flag ≡ 0 → ⊥) → Some (record { 0 = 
 unfolding node_in
 node_some flag id e = ap (λ (b : Bool). pick b None (Some (record { 0 = id }))) (sym (ne_eqb flag 0 e))
 
-pub term_none : (flag t : ℕ) → flag ≡ 0 → term.None ≡ term_in flag t
+pub term_none : (flag t : ℕ) → flag ≡ 0 → None ≡ term_in flag t
 unfolding term_in
-term_none flag t e = ap (λ (b : Bool). pick b term.None (term.Some (record { 0 = t }))) (sym (eq-eqb flag 0 e))
+term_none flag t e = ap (λ (b : Bool). pick b None (Some (record { 0 = t }))) (sym (eq-eqb flag 0 e))
 
-pub term_some : (flag t : ℕ) → (flag ≡ 0 → ⊥) → term.Some (record { 0 = t }) ≡ term_in flag t
+pub term_some : (flag t : ℕ) → (flag ≡ 0 → ⊥) → Some (record { 0 = t }) ≡ term_in flag t
 unfolding term_in
-term_some flag t e = ap (λ (b : Bool). pick b term.None (term.Some (record { 0 = t }))) (sym (ne_eqb flag 0 e))
+term_some flag t e = ap (λ (b : Bool). pick b None (Some (record { 0 = t }))) (sym (ne_eqb flag 0 e))
 
 pub role_candidate : (n : ℕ) → n ≡ 1 → Candidate ≡ role_in n
 unfolding role_in
@@ -126,21 +121,21 @@ role_other n p q = by n p q
     by (suc (suc (suc n))) p q = refl
 
 -- the status that words say, present
-abbrev said : List ℕ → StatusOption
-said ws = status.Some (record { role = role_in (get_or ws 1 0); term = record { 0 = get_or ws 2 0 }; leader = node_in (get_or ws 3 0) (get_or ws 4 0); commit_index = record { 0 = get_or ws 5 0 } })
+abbrev said : List ℕ → Option Status
+said ws = Some (record { role = role_in (get_or ws 1 0); term = record { 0 = get_or ws 2 0 }; leader = node_in (get_or ws 3 0) (get_or ws 4 0); commit_index = record { 0 = get_or ws 5 0 } })
 
 module _ (ws : List ℕ) where
-  pub status_none : (flag : ℕ) → flag ≡ get_or ws 0 0 → flag ≡ 0 → status.None ≡ (server_state_in ws).status
+  pub status_none : (flag : ℕ) → flag ≡ get_or ws 0 0 → flag ≡ 0 → None ≡ (server_state_in ws).status
   unfolding status_in
-  status_none flag e z = sym (ap (λ (b : Bool). pick b status.None (said ws)) (eq-eqb (get_or ws 0 0) 0 (sym e ∙ z)))
+  status_none flag e z = sym (ap (λ (b : Bool). pick b None (said ws)) (eq-eqb (get_or ws 0 0) 0 (sym e ∙ z)))
 
-  pub status_some : (flag n f i : ℕ) {r : Role} {o : NodeOption} {t c : ℕ} → flag ≡ get_or ws 0 0 → n ≡ get_or ws 1 0 → r ≡ role_in n → t ≡ get_or ws 2 0 → f ≡ get_or ws 3 0 → i ≡ get_or ws 4 0 → o ≡ node_in f i → c ≡ get_or ws 5 0 → (flag ≡ 0 → ⊥)
-      → status.Some (record { role = r; term = record { 0 = t }; leader = o; commit_index = record { 0 = c } }) ≡ (server_state_in ws).status
+  pub status_some : (flag n f i : ℕ) {r : Role} {o : (Option NodeId)} {t c : ℕ} → flag ≡ get_or ws 0 0 → n ≡ get_or ws 1 0 → r ≡ role_in n → t ≡ get_or ws 2 0 → f ≡ get_or ws 3 0 → i ≡ get_or ws 4 0 → o ≡ node_in f i → c ≡ get_or ws 5 0 → (flag ≡ 0 → ⊥)
+      → Some (record { role = r; term = record { 0 = t }; leader = o; commit_index = record { 0 = c } }) ≡ (server_state_in ws).status
   unfolding status_in
   status_some flag n f i e en er et ef ei eo ec z =
-      rw (er, et, eo, ec, en, ef, ei) (sym (ap (λ (b : Bool). pick b status.None (said ws)) (ne_eqb (get_or ws 0 0) 0 (λ y. z (e ∙ y)))))
+      rw (er, et, eo, ec, en, ef, ei) (sym (ap (λ (b : Bool). pick b None (said ws)) (ne_eqb (get_or ws 0 0) 0 (λ y. z (e ∙ y)))))
 
-  pub server_state_loaded : (f n : ℕ) {o : StatusOption} {a b c d x p : ℕ} {l : TermOption} → f ≡ get_or ws 12 0 → n ≡ get_or ws 13 0 → o ≡ (server_state_in ws).status → a ≡ get_or ws 6 0 → b ≡ get_or ws 7 0 → c ≡ get_or ws 8 0 → d ≡ get_or ws 9 0 → x ≡ get_or ws 10 0 → p ≡ get_or ws 11 0 → l ≡ term_in f n
+  pub server_state_loaded : (f n : ℕ) {o : (Option Status)} {a b c d x p : ℕ} {l : (Option Term)} → f ≡ get_or ws 12 0 → n ≡ get_or ws 13 0 → o ≡ (server_state_in ws).status → a ≡ get_or ws 6 0 → b ≡ get_or ws 7 0 → c ≡ get_or ws 8 0 → d ≡ get_or ws 9 0 → x ≡ get_or ws 10 0 → p ≡ get_or ws 11 0 → l ≡ term_in f n
       → record { status = o; incarnation = a; election = b; heartbeat = c; crash_on_next_input = eqb d 1; next_apply = x; pending = p; leading = l } ≡ server_state_in ws
   unfolding bool_in
   server_state_loaded f n ef en eo ea eb ec ed ex ep el = rw (eo, ea, eb, ec, ed, ex, ep, el, ef, en)

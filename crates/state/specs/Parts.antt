@@ -1,8 +1,7 @@
 -- The structs of fixed size and how they lie in words. Assumes nothing.
-use Rattle.std.specs.Prelude.{◌≡◌, refl, Bool, true, false, List, [], ◌∷◌, ◌++◌, ℕ, ◌+◌, ◌^◌, ◌≤◌, ◌<◌, leb, ltb, eqb, length}
+use Rattle.std.specs.Prelude.{◌≡◌, refl, Bool, true, false, List, [], ◌∷◌, ◌++◌, ℕ, ◌+◌, ◌^◌, ◌≤◌, ◌<◌, leb, ltb, eqb, length, Option, None, Some}
 use Rattle.std.proofs.Common.{sym, ◌∙◌, arith, eqb-true, eq-eqb}
 use Rattle.std.proofs.Math.Path.{ap, ap₂}
-use Rattle.std.proofs.Math.Option.{Option, none, some}
 use Rattle.std.proofs.Math.ListN.{get_or}
 use Rattle.laws.specs.Bools.{pick, ◌and◌, and_left, allb, every}
 use Rattle.laws.proofs.BoolLaws.{and_right, and_both}
@@ -10,10 +9,6 @@ use Rattle.layout.specs.Code.{Code}
 use Rattle.layout.specs.UpTo.{is64}
 pub use Rattle.units.specs.Types.{node_flag, node_number}
 unfoldable pub use Rattle.units.specs.Types.{node_in}
-use Rattle.units.specs.declared.NodeOption.{NodeOption}
-use Rattle.units.specs.declared.NodeOption.TheVariants.{None, Some}
-use Rattle.units.specs.declared.TermOption.{TermOption}
-use Rattle.units.specs.declared.TermOption.TheVariants as term
 use Rattle.protocol.specs.declared.Status.{Status}
 use Rattle.protocol.specs.Numbers.{role_number}
 use Rattle.protocol.specs.declared.Role.{Role}
@@ -29,10 +24,10 @@ use Rattle.state.specs.declared.Run.{Run}
 use Rattle.state.specs.declared.TableCounts.{TableCounts}
 use Rattle.state.specs.declared.ServerState.{ServerState}
 use Rattle.state.specs.declared.OpenInput.{OpenInput}
-use Rattle.state.specs.declared.StatusOption.{StatusOption}
-use Rattle.state.specs.declared.StatusOption.TheVariants as status
 use Rattle.layout.specs.Structs.{Struct, struct, fitting, tells, told, firsts, firsts_fit}
 use Rattle.state.specs.Sizes.{offsets}
+use Rattle.units.specs.declared.NodeId.{NodeId}
+use Rattle.units.specs.declared.Term.{Term}
 
 -- ---- the counts that say how long everything is, and where it lies: 19 words
 
@@ -196,7 +191,7 @@ counts_code = struct 8 counts_words counts_in (λ c. every is64 (counts_words c)
 
 -- ---- a server's hard states and counts: 8 words
 
-pub node_back : (o : NodeOption) → node_in (node_flag o) (node_number o) ≡ o
+pub node_back : (o : Option NodeId) → node_in (node_flag o) (node_number o) ≡ o
 unfolding node_in
 node_back None = refl
 node_back (Some id) = refl
@@ -213,7 +208,7 @@ abbrev pub hard_state_at : List ℕ → ℕ → HardState
 hard_state_at ws i = record { term = record { 0 = get_or ws i 0 }; voted_for = node_in (get_or ws (i + 1) 0) (get_or ws (i + 2) 0) }
 
 -- The same from its parts.
-abbrev pub storage_state_of : ℕ → NodeOption → ℕ → NodeOption → ℕ → ℕ → StorageState
+abbrev pub storage_state_of : ℕ → Option NodeId → ℕ → Option NodeId → ℕ → ℕ → StorageState
 storage_state_of t o u p w d = record {
   current = record { term = record { 0 = t }; voted_for = o };
   durable = record { term = record { 0 = u }; voted_for = p };
@@ -236,7 +231,7 @@ storage_state_tells = tells 8 storage_state_words storage_state_in (λ v. true)
 
 pub storage_state_struct : Struct 8 storage_state_words storage_state_in storage_state_fits storage_state_tells
 storage_state_struct = told 8 storage_state_words storage_state_in (λ v. true) (λ v. refl) (λ v r. refl)
-    (λ v r. ap₂ (λ (o p : NodeOption). storage_state_of v.current.term.0 o v.durable.term.0 p v.waiting v.discarded) (node_back v.current.voted_for) (node_back v.durable.voted_for))
+    (λ v r. ap₂ (λ (o p : Option NodeId). storage_state_of v.current.term.0 o v.durable.term.0 p v.waiting v.discarded) (node_back v.current.voted_for) (node_back v.durable.voted_for))
 
 -- A server's hard states and counts in 8 words.
 abbrev pub storage_state_code : Code StorageState
@@ -245,39 +240,39 @@ storage_state_code = struct 8 storage_state_words storage_state_in storage_state
 -- ---- the rest of a server: 14 words
 
 -- Whether there is a status, as a number.
-abbrev pub status_flag : StatusOption → ℕ
-status_flag status.None = 0
-status_flag (status.Some x) = 1
+abbrev pub status_flag : Option Status → ℕ
+status_flag None = 0
+status_flag (Some x) = 1
 
 -- The role's number; 0 of a status that is absent, here and below.
-abbrev pub status_role : StatusOption → ℕ
-status_role status.None = 0
-status_role (status.Some x) = role_number x.role
+abbrev pub status_role : Option Status → ℕ
+status_role None = 0
+status_role (Some x) = role_number x.role
 
 -- The term of a status.
-abbrev pub status_term : StatusOption → ℕ
-status_term status.None = 0
-status_term (status.Some x) = x.term.0
+abbrev pub status_term : Option Status → ℕ
+status_term None = 0
+status_term (Some x) = x.term.0
 
 -- The leader that a status names.
-abbrev pub status_leader : StatusOption → NodeOption
-status_leader status.None = None
-status_leader (status.Some x) = x.leader
+abbrev pub status_leader : Option Status → Option NodeId
+status_leader None = None
+status_leader (Some x) = x.leader
 
 -- The commit index of a status.
-abbrev pub status_commit : StatusOption → ℕ
-status_commit status.None = 0
-status_commit (status.Some x) = x.commit_index.0
+abbrev pub status_commit : Option Status → ℕ
+status_commit None = 0
+status_commit (Some x) = x.commit_index.0
 
 -- The role of a number.
 unfoldable pub role_in : ℕ → Role
 role_in n = get_or (Follower ∷ Candidate ∷ Leader ∷ []) n Follower
 
 -- The status that numbers say.
-unfoldable pub status_in : ℕ → ℕ → ℕ → NodeOption → ℕ → StatusOption
+unfoldable pub status_in : ℕ → ℕ → ℕ → Option NodeId → ℕ → Option Status
 status_in flag role t leader commit =
-    pick (eqb flag 0) status.None
-    (status.Some (record { role = role_in role; term = record { 0 = t }; leader = leader; commit_index = record { 0 = commit } }))
+    pick (eqb flag 0) None
+    (Some (record { role = role_in role; term = record { 0 = t }; leader = leader; commit_index = record { 0 = commit } }))
 
 pub role_back : (r : Role) → role_in (role_number r) ≡ r
 unfolding role_in
@@ -285,29 +280,29 @@ role_back Follower = refl
 role_back Candidate = refl
 role_back Leader = refl
 
-pub status_back : (o : StatusOption) → status_in (status_flag o) (status_role o) (status_term o) (node_in (node_flag (status_leader o)) (node_number (status_leader o))) (status_commit o) ≡ o
+pub status_back : (o : Option Status) → status_in (status_flag o) (status_role o) (status_term o) (node_in (node_flag (status_leader o)) (node_number (status_leader o))) (status_commit o) ≡ o
 unfolding status_in
-status_back status.None = refl
-status_back (status.Some x) = ap₂ (λ (r : Role) (o : NodeOption). status.Some (record { role = r; term = x.term; leader = o; commit_index = x.commit_index })) (role_back x.role) (node_back x.leader)
+status_back None = refl
+status_back (Some x) = ap₂ (λ (r : Role) (o : Option NodeId). Some (record { role = r; term = x.term; leader = o; commit_index = x.commit_index })) (role_back x.role) (node_back x.leader)
 
 -- Whether there is a term, as a number.
-abbrev pub term_flag : TermOption → ℕ
-term_flag term.None = 0
-term_flag (term.Some t) = 1
+abbrev pub term_flag : Option Term → ℕ
+term_flag None = 0
+term_flag (Some t) = 1
 
 -- The term, or 0.
-abbrev pub term_number : TermOption → ℕ
-term_number term.None = 0
-term_number (term.Some t) = t.0
+abbrev pub term_number : Option Term → ℕ
+term_number None = 0
+term_number (Some t) = t.0
 
 -- The term that two numbers say.
-unfoldable pub term_in : ℕ → ℕ → TermOption
-term_in flag t = pick (eqb flag 0) term.None (term.Some (record { 0 = t }))
+unfoldable pub term_in : ℕ → ℕ → Option Term
+term_in flag t = pick (eqb flag 0) None (Some (record { 0 = t }))
 
-pub term_back : (o : TermOption) → term_in (term_flag o) (term_number o) ≡ o
+pub term_back : (o : Option Term) → term_in (term_flag o) (term_number o) ≡ o
 unfolding term_in
-term_back term.None = refl
-term_back (term.Some t) = refl
+term_back None = refl
+term_back (Some t) = refl
 
 -- A flag's number.
 abbrev pub bool_number : Bool → ℕ
@@ -324,7 +319,7 @@ bool_back true = refl
 bool_back false = refl
 
 -- The words of a status: those of one that is absent are 0.
-abbrev pub status_words : StatusOption → List ℕ
+abbrev pub status_words : Option Status → List ℕ
 status_words o = status_flag o ∷ status_role o ∷ status_term o ∷ node_flag (status_leader o) ∷ node_number (status_leader o) ∷ status_commit o ∷ []
 
 -- The words of a server without its storage.
@@ -336,7 +331,7 @@ server_state_words v =
     ∷ term_flag v.leading ∷ term_number v.leading ∷ []
 
 -- A server without its storage, from its parts.
-abbrev pub server_state_of : StatusOption → ℕ → ℕ → ℕ → Bool → ℕ → ℕ → TermOption → ServerState
+abbrev pub server_state_of : Option Status → ℕ → ℕ → ℕ → Bool → ℕ → ℕ → Option Term → ServerState
 server_state_of s i e h c n p l = record {
   status = s;
   incarnation = i;
@@ -370,8 +365,8 @@ module _ (L : ℕ) where
 
   pub server_state_struct : Struct 14 server_state_words server_state_in server_state_fits server_state_tells
   server_state_struct = told 14 server_state_words server_state_in (server_state_rule L) (λ v. refl) (λ v r. refl)
-      (λ v r. ap₂ (λ (s : StatusOption) (c : Bool). server_state_of s v.incarnation v.election v.heartbeat c v.next_apply v.pending (term_in (term_flag v.leading) (term_number v.leading))) (status_back v.status) (bool_back v.crash_on_next_input)
-      ∙ ap (λ (l : TermOption). server_state_of v.status v.incarnation v.election v.heartbeat v.crash_on_next_input v.next_apply v.pending l) (term_back v.leading))
+      (λ v r. ap₂ (λ (s : Option Status) (c : Bool). server_state_of s v.incarnation v.election v.heartbeat c v.next_apply v.pending (term_in (term_flag v.leading) (term_number v.leading))) (status_back v.status) (bool_back v.crash_on_next_input)
+      ∙ ap (λ (l : Option Term). server_state_of v.status v.incarnation v.election v.heartbeat v.crash_on_next_input v.next_apply v.pending l) (term_back v.leading))
 
   -- A server without its storage in 14 words.
   abbrev pub server_state_code : Code ServerState

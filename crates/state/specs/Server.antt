@@ -1,16 +1,11 @@
 -- A server in words: its storage's fixed part, the rest of its row, its two logs, its waiting writes and its pending keys. Assumes nothing.
-use Rattle.std.specs.Prelude.{◌≡◌, refl, Bool, true, false, List, [], ◌∷◌, ◌++◌, map, ℕ, ◌+◌, ◌*◌, ◌^◌, ◌≤◌, ◌<◌, leb, ltb, eqb, length}
+use Rattle.std.specs.Prelude.{◌≡◌, refl, Bool, true, false, List, [], ◌∷◌, ◌++◌, map, ℕ, ◌+◌, ◌*◌, ◌^◌, ◌≤◌, ◌<◌, leb, ltb, eqb, length, Option, None, Some}
 use Rattle.std.proofs.Common.{sym, ap, ap₂, ◌∙◌, arith, mul-le-mul_right, lt-ltb, ltb-true, leb-true, le-leb, eqb-true, eq-eqb}
-use Rattle.std.proofs.Math.Option.{Option, none, some}
 use Rattle.laws.specs.Bools.{pick, ◌and◌, and_left, allb, every}
 use Rattle.laws.proofs.BoolLaws.{and_right, and_both, allb_in}
 use Rattle.laws.specs.Order.{pairs, rising}
-use Rattle.units.specs.Types.{Payload, noop, command, Entry, term_option}
-use Rattle.units.specs.declared.NodeOption.{NodeOption}
-use Rattle.units.specs.declared.NodeOption.TheVariants.{None, Some}
+use Rattle.units.specs.Types.{Payload, noop, command, Entry}
 use Rattle.units.specs.declared.Term.{Term}
-use Rattle.units.specs.declared.TermOption.{TermOption}
-use Rattle.units.specs.declared.TermOption.TheVariants as term
 use Rattle.client.specs.Key.{key_of}
 use Rattle.client.specs.declared.ClientKey.{ClientKey}
 use Rattle.protocol.specs.declared.Status.{Status}
@@ -30,49 +25,10 @@ use Rattle.config.specs.Limits.{InLimits}
 use Rattle.model.specs.State.{State, Server}
 use Rattle.state.specs.declared.Capacity.{Capacity}
 use Rattle.state.specs.declared.ServerState.{ServerState}
-use Rattle.state.specs.declared.StatusOption.{StatusOption}
-use Rattle.state.specs.declared.StatusOption.TheVariants as status
 use Rattle.state.specs.Parts.{storage_state_code, server_state_code}
 use Rattle.layout.specs.Dependent.{dep, Stating, stated}
 use Rattle.state.specs.Sizes.{log_words, waiting_words, pending_words, table_words, block_words}
-
--- ---- options of the code and of the definitions
-
--- The program's option of a status as the definitions' option.
-abbrev pub status_option : StatusOption → Option Status
-status_option status.None = none
-status_option (status.Some x) = some x
-
--- The same back.
-abbrev pub option_status : Option Status → StatusOption
-option_status none = status.None
-option_status (some x) = status.Some x
-
--- The program's option of a term as the definitions' option.
-abbrev pub term_option' : TermOption → Option Term
-term_option' term.None = none
-term_option' (term.Some x) = some x
-
--- The same back.
-abbrev pub option_term : Option Term → TermOption
-option_term none = term.None
-option_term (some x) = term.Some x
-
-pub status_there : (o : Option Status) → status_option (option_status o) ≡ o
-status_there none = refl
-status_there (some x) = refl
-
-pub status_here : (o : StatusOption) → option_status (status_option o) ≡ o
-status_here status.None = refl
-status_here (status.Some x) = refl
-
-pub term_there : (o : Option Term) → term_option' (option_term o) ≡ o
-term_there none = refl
-term_there (some x) = refl
-
-pub term_here : (o : TermOption) → option_term (term_option' o) ≡ o
-term_here term.None = refl
-term_here (term.Some x) = refl
+use Rattle.units.specs.declared.NodeId.{NodeId}
 
 -- ---- the parts of a server
 
@@ -96,14 +52,14 @@ storage_of_server v = record {
 -- A server without its storage.
 abbrev pub state_of_server : Server → ServerState
 state_of_server v = record {
-  status = option_status v.status;
+  status = v.status;
   incarnation = v.incarnation;
   election = v.election;
   heartbeat = v.heartbeat;
   crash_on_next_input = v.crash_on_next_input;
   next_apply = v.next_apply;
   pending = length v.pending;
-  leading = option_term v.leading;
+  leading = v.leading;
 }
 
 -- A server as the parts of its block.
@@ -113,7 +69,7 @@ server_parts v = ((storage_of_server v, (state_of_server v, tt)), (v.storage.cur
 -- The server of its parts.
 abbrev pub server_of : StorageState → ServerState → Log → Log → List Write → List ClientKey → Server
 server_of d l cur dur ws ks = record {
-  status = status_option l.status;
+  status = l.status;
   storage = record {
     current = record { hard_state = d.current; log = cur };
     durable = record { hard_state = d.durable; log = dur };
@@ -126,7 +82,7 @@ server_of d l cur dur ws ks = record {
   crash_on_next_input = l.crash_on_next_input;
   next_apply = l.next_apply;
   pending = ks;
-  leading = term_option' l.leading;
+  leading = l.leading;
 }
 
 -- The server of a block's parts.
@@ -134,9 +90,7 @@ abbrev pub parts_server : Fixed × ServerTables → Server
 parts_server y = server_of y.0.0 y.0.1.0 y.1.0 y.1.1.0 y.1.1.1.0 y.1.1.1.1
 
 pub server_there : (v : Server) → parts_server (server_parts v) ≡ v
-server_there v =
-    ap₂ (λ (s : Option Status) (t : Option Term). record { status = s; storage = v.storage; incarnation = v.incarnation; election = v.election; heartbeat = v.heartbeat; crash_on_next_input = v.crash_on_next_input; next_apply = v.next_apply; pending = v.pending; leading = t })
-    (status_there v.status) (term_there v.leading)
+server_there v = refl
 
 -- ---- the code
 
@@ -180,8 +134,7 @@ module _ (F : Capacity) where
       let c = counted y h in
       let d = y.0.0 in
       let l = y.0.1.0 in
-      ap₂ (λ (w : ℕ) (p : ℕ). ((record { current = d.current; durable = d.durable; waiting = w; discarded = d.discarded }, (record { status = option_status (status_option l.status); incarnation = l.incarnation; election = l.election; heartbeat = l.heartbeat; crash_on_next_input = l.crash_on_next_input; next_apply = l.next_apply; pending = p; leading = option_term (term_option' l.leading) }, tt)), y.1)) c.waiting c.pending
-      ∙ ap₂ (λ (s : StatusOption) (t : TermOption). ((d, (record { status = s; incarnation = l.incarnation; election = l.election; heartbeat = l.heartbeat; crash_on_next_input = l.crash_on_next_input; next_apply = l.next_apply; pending = l.pending; leading = t }, tt)), y.1)) (status_here l.status) (term_here l.leading)
+      ap₂ (λ (w : ℕ) (p : ℕ). ((record { current = d.current; durable = d.durable; waiting = w; discarded = d.discarded }, (record { status = l.status; incarnation = l.incarnation; election = l.election; heartbeat = l.heartbeat; crash_on_next_input = l.crash_on_next_input; next_apply = l.next_apply; pending = p; leading = l.leading }, tt)), y.1)) c.waiting c.pending
 
   pub server_stating : Stating parts_code server_parts parts_server server_good
   server_stating = record {

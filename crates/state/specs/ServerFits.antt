@@ -1,16 +1,11 @@
 -- A server fits just where it has a content. Assumes nothing.
-use Rattle.std.specs.Prelude.{◌≡◌, refl, Bool, true, false, List, [], ◌∷◌, ◌++◌, map, ℕ, ◌+◌, ◌*◌, ◌^◌, ◌≤◌, ◌<◌, leb, ltb, eqb, length, get_or}
+use Rattle.std.specs.Prelude.{◌≡◌, refl, Bool, true, false, List, [], ◌∷◌, ◌++◌, map, ℕ, ◌+◌, ◌*◌, ◌^◌, ◌≤◌, ◌<◌, leb, ltb, eqb, length, get_or, Option, None, Some}
 use Rattle.std.proofs.Common.{sym, ap, ap₂, ◌∙◌, arith, mul-le-mul_right, lt-ltb, ltb-true, leb-true, le-leb, eqb-true, eq-eqb, le_of_mul-le-mul_right}
-use Rattle.std.proofs.Math.Option.{Option, none, some}
 use Rattle.laws.specs.Bools.{pick, ◌and◌, and_left, allb, every}
 use Rattle.laws.proofs.BoolLaws.{and_right, and_both, allb_in, every_by}
 use Rattle.laws.specs.Order.{pairs, rising}
-use Rattle.units.specs.Types.{Payload, noop, command, Entry, term_option}
-use Rattle.units.specs.declared.NodeOption.{NodeOption}
-use Rattle.units.specs.declared.NodeOption.TheVariants.{None, Some}
+use Rattle.units.specs.Types.{Payload, noop, command, Entry}
 use Rattle.units.specs.declared.Term.{Term}
-use Rattle.units.specs.declared.TermOption.{TermOption}
-use Rattle.units.specs.declared.TermOption.TheVariants as term
 use Rattle.client.specs.Key.{key_of}
 use Rattle.client.specs.declared.ClientKey.{ClientKey}
 use Rattle.protocol.specs.declared.Status.{Status}
@@ -31,8 +26,6 @@ use Rattle.model.specs.State.{State, Server}
 use Rattle.model.specs.Fits.{if_some, node_fits, table_fits, server_fits}
 use Rattle.state.specs.declared.Capacity.{Capacity}
 use Rattle.state.specs.declared.ServerState.{ServerState}
-use Rattle.state.specs.declared.StatusOption.{StatusOption}
-use Rattle.state.specs.declared.StatusOption.TheVariants as status
 use Rattle.state.specs.Parts.{storage_state_code, server_state_code}
 use Rattle.config.specs.declared.SimConfig.{SimConfig}
 use Rattle.config.specs.declared.Limits.{Limits}
@@ -46,7 +39,8 @@ use Rattle.storage.specs.Waiting.{kind_marking, vote_kind, voteNumber, payload_k
 use Rattle.model.specs.Fits.{status_fits, server_tests}
 use Rattle.state.specs.Parts.{status_flag, status_role, status_term, status_leader, status_commit, node_flag, node_number, bool_number, term_flag, term_number}
 use Rattle.state.specs.Sizes.{log_words, waiting_words, pending_words}
-use Rattle.state.specs.Server.{server_good, option_status, option_term}
+use Rattle.state.specs.Server.{server_good}
+use Rattle.units.specs.declared.NodeId.{NodeId}
 
 -- ---- a table of at most R rows fits where its region of R rows has a content
 
@@ -85,15 +79,15 @@ module _ (config : SimConfig) (limits : Limits) (i : InLimits config.servers con
   abbrev Bits : ℕ → Type 0
   Bits n = ltb n (2 ^ 64) ≡ true
 
-  flag_word : (o : NodeOption) → Bits (node_flag o)
+  flag_word : (o : Option NodeId) → Bits (node_flag o)
   flag_word None = refl
   flag_word (Some id) = refl
 
-  number_word : (o : NodeOption) → node_fits o ≡ true → Bits (node_number o)
+  number_word : (o : Option NodeId) → node_fits o ≡ true → Bits (node_number o)
   number_word None h = refl
   number_word (Some id) h = h
 
-  number_fits : (o : NodeOption) → Bits (node_number o) → node_fits o ≡ true
+  number_fits : (o : Option NodeId) → Bits (node_number o) → node_fits o ≡ true
   number_fits None h = refl
   number_fits (Some id) h = h
 
@@ -106,41 +100,41 @@ module _ (config : SimConfig) (limits : Limits) (i : InLimits config.servers con
   bool_word true = refl
   bool_word false = refl
 
-  s₀ : (o : Option Status) → Bits (status_flag (option_status o))
-  s₀ none = refl
-  s₀ (some x) = refl
+  s₀ : (o : Option Status) → Bits (status_flag o)
+  s₀ None = refl
+  s₀ (Some x) = refl
 
-  s₁ : (o : Option Status) → Bits (status_role (option_status o))
-  s₁ none = refl
-  s₁ (some x) = role_word x.role
+  s₁ : (o : Option Status) → Bits (status_role o)
+  s₁ None = refl
+  s₁ (Some x) = role_word x.role
 
-  s₂ : (o : Option Status) → if_some (status_fits config limits) o ≡ true → Bits (status_term (option_status o))
-  s₂ none h = refl
-  s₂ (some x) h = and_left _ _ h
+  s₂ : (o : Option Status) → if_some (status_fits config limits) o ≡ true → Bits (status_term o)
+  s₂ None h = refl
+  s₂ (Some x) h = and_left _ _ h
 
-  s₃ : (o : Option Status) → if_some (status_fits config limits) o ≡ true → Bits (node_number (status_leader (option_status o)))
-  s₃ none h = refl
-  s₃ (some x) h = number_word x.leader (and_left _ _ (and_right _ _ h))
+  s₃ : (o : Option Status) → if_some (status_fits config limits) o ≡ true → Bits (node_number (status_leader o))
+  s₃ None h = refl
+  s₃ (Some x) h = number_word x.leader (and_left _ _ (and_right _ _ h))
 
-  s₄ : (o : Option Status) → if_some (status_fits config limits) o ≡ true → Bits (status_commit (option_status o))
-  s₄ none h = refl
-  s₄ (some x) h = and_right _ _ (and_right _ _ h)
+  s₄ : (o : Option Status) → if_some (status_fits config limits) o ≡ true → Bits (status_commit o)
+  s₄ None h = refl
+  s₄ (Some x) h = and_right _ _ (and_right _ _ h)
 
-  status_fits_lem : (o : Option Status) → Bits (status_term (option_status o)) → Bits (node_number (status_leader (option_status o))) → Bits (status_commit (option_status o)) → if_some (status_fits config limits) o ≡ true
-  status_fits_lem none a b c = refl
-  status_fits_lem (some x) a b c = and_both _ _ a (and_both _ _ (number_fits x.leader b) c)
+  status_fits_lem : (o : Option Status) → Bits (status_term o) → Bits (node_number (status_leader o)) → Bits (status_commit o) → if_some (status_fits config limits) o ≡ true
+  status_fits_lem None a b c = refl
+  status_fits_lem (Some x) a b c = and_both _ _ a (and_both _ _ (number_fits x.leader b) c)
 
-  t₀ : (o : Option Term) → Bits (term_flag (option_term o))
-  t₀ none = refl
-  t₀ (some x) = refl
+  t₀ : (o : Option Term) → Bits (term_flag o)
+  t₀ None = refl
+  t₀ (Some x) = refl
 
-  t₁ : (o : Option Term) → if_some (λ (term : Term). word term.0) o ≡ true → Bits (term_number (option_term o))
-  t₁ none h = refl
-  t₁ (some x) h = h
+  t₁ : (o : Option Term) → if_some (λ (term : Term). word term.0) o ≡ true → Bits (term_number o)
+  t₁ None h = refl
+  t₁ (Some x) h = h
 
-  term_fits : (o : Option Term) → Bits (term_number (option_term o)) → if_some (λ (term : Term). word term.0) o ≡ true
-  term_fits none h = refl
-  term_fits (some x) h = h
+  term_fits : (o : Option Term) → Bits (term_number o) → if_some (λ (term : Term). word term.0) o ≡ true
+  term_fits None h = refl
+  term_fits (Some x) h = h
 
   small : (n m : ℕ) → leb n m ≡ true → m ≤ 65536 → Bits n
   small n m h k = let q : n ≤ m = leb-true _ _ h in lt-ltb n (2 ^ 64) (omega arith)
@@ -164,7 +158,7 @@ module _ (config : SimConfig) (limits : Limits) (i : InLimits config.servers con
       (and_both _ _ (small (length v.storage.waiting) limits.writes (and_left _ _ w) i.writes) (and_both _ _ (and_right _ _ (and_right _ _ (and_right _ _ (t 1)))) refl)))))))) refl)
       (and_both _ _
       (and_both _ _
-      (and_both _ _ (s₀ v.status) (and_both _ _ (s₁ v.status) (and_both _ _ (s₂ v.status (t 0)) (and_both _ _ (flag_word (status_leader (option_status v.status))) (and_both _ _ (s₃ v.status (t 0)) (and_both _ _ (s₄ v.status (t 0))
+      (and_both _ _ (s₀ v.status) (and_both _ _ (s₁ v.status) (and_both _ _ (s₂ v.status (t 0)) (and_both _ _ (flag_word (status_leader v.status)) (and_both _ _ (s₃ v.status (t 0)) (and_both _ _ (s₄ v.status (t 0))
       (and_both _ _ (lt-ltb v.incarnation (2 ^ 64) (omega arith)) (and_both _ _ (t 3) (and_both _ _ (t 4) (and_both _ _ (bool_word v.crash_on_next_input) (and_both _ _ (lt-ltb v.next_apply (2 ^ 64) (omega (arith, i.log_indexes)))
       (and_both _ _ (small (length v.pending) limits.history (and_left _ _ (t 7)) i.history) (and_both _ _ (t₀ v.leading) (and_both _ _ (t₁ v.leading (t 8)) refl))))))))))))))
       (and_both _ _ (t 2) (and_both _ _ (t 5) (t 6)))) refl))

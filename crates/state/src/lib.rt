@@ -9,7 +9,7 @@ pub mod server; // the fixed part of a server's block
 use config::Limits;
 use protocol::Status;
 use rng::Rng;
-use units::{SimTime, TermOption};
+use units::{SimTime, Term};
 
 // The counts that say how long everything is: servers, clients, and the six limits.
 #[derive(Clone, Copy)]
@@ -46,24 +46,17 @@ pub struct TableCounts {
     pub total: u64,
 }
 
-// A status that may be absent.
-#[derive(Clone, Copy)]
-pub enum StatusOption {
-    None,
-    Some(Status),
-}
-
 // A server without its storage and its pending keys, of which it has the count.
 #[derive(Clone, Copy)]
 pub struct ServerState {
-    pub status: StatusOption,
+    pub status: Option<Status>,
     pub incarnation: u64,
     pub election: u64,
     pub heartbeat: u64,
     pub crash_on_next_input: bool,
     pub next_apply: u64,
     pub pending: u64,
-    pub leading: TermOption,
+    pub leading: Option<Term>,
 }
 
 // The phase with its open input, in the numbers of specs/Parts.antt; what a phase does not have is 0.

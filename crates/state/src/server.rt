@@ -3,72 +3,64 @@ ghost use Rattle.std.specs.Prelude.{◌≡◌, ◌+◌, ◌*◌, ◌≤◌, leng
 ghost use Rattle.words.specs.Words.{W, bytes};
 ghost use Rattle.state.specs.Parts.{node_flag, node_number, node_in, hard_state_at, storage_state_in, storage_state_words, status_words, term_flag, term_number, term_in, role_in, server_state_in};
 
-use crate::{ServerState, StatusOption};
+use crate::ServerState;
 use protocol::{Role, Status};
 use storage::{HardState, StorageState};
-use units::{LogIndex, NodeId, NodeOption, Term, TermOption};
+use units::{LogIndex, NodeId, Term};
 
 // ---- what may be absent: a flag and a number
 
 // A vote or a leader from its flag and number.
-pub fn node_of(flag: u64, id: u64) -> NodeOption
+pub fn node_of(flag: u64, id: u64) -> Option<NodeId>
     ensures { result ≡ node_in flag id }
 {
-    if flag == 0 {
-        NodeOption::None
-    } else {
-        NodeOption::Some(NodeId(id))
-    }
+    if flag == 0 { None } else { Some(NodeId(id)) }
 }
 
 // Its flag.
-pub fn node_flag(node: NodeOption) -> u64
+pub fn node_flag(node: Option<NodeId>) -> u64
     ensures { result ≡ node_flag node }
 {
     match node {
-        NodeOption::None => 0,
-        NodeOption::Some(_) => 1,
+        None => 0,
+        Some(_) => 1,
     }
 }
 
 // Its number, or 0.
-pub fn node_number(node: NodeOption) -> u64
+pub fn node_number(node: Option<NodeId>) -> u64
     ensures { result ≡ node_number node }
 {
     match node {
-        NodeOption::None => 0,
-        NodeOption::Some(id) => id.0,
+        None => 0,
+        Some(id) => id.0,
     }
 }
 
 // A led term from its flag and number.
-pub fn term_of(flag: u64, term: u64) -> TermOption
+pub fn term_of(flag: u64, term: u64) -> Option<Term>
     ensures { result ≡ term_in flag term }
 {
-    if flag == 0 {
-        TermOption::None
-    } else {
-        TermOption::Some(Term(term))
-    }
+    if flag == 0 { None } else { Some(Term(term)) }
 }
 
 // Its flag.
-pub fn term_flag(term: TermOption) -> u64
+pub fn term_flag(term: Option<Term>) -> u64
     ensures { result ≡ term_flag term }
 {
     match term {
-        TermOption::None => 0,
-        TermOption::Some(_) => 1,
+        None => 0,
+        Some(_) => 1,
     }
 }
 
 // Its number, or 0.
-pub fn term_number(term: TermOption) -> u64
+pub fn term_number(term: Option<Term>) -> u64
     ensures { result ≡ term_number term }
 {
     match term {
-        TermOption::None => 0,
-        TermOption::Some(t) => t.0,
+        None => 0,
+        Some(t) => t.0,
     }
 }
 
@@ -139,7 +131,7 @@ fn role_of(role: u64) -> Role
 }
 
 // The status in six words from the region's first on.
-pub fn load_status(s: &[u8]) -> StatusOption
+pub fn load_status(s: &[u8]) -> Option<Status>
     requires { 48 ≤ length s.now }
     ensures { result ≡ (server_state_in (W s.now)).status }
 {
@@ -149,9 +141,9 @@ pub fn load_status(s: &[u8]) -> StatusOption
     let leader = node_of(words::load(s, 3), words::load(s, 4));
     let commit_index = LogIndex(words::load(s, 5));
     if flag == 0 {
-        return StatusOption::None;
+        return None;
     }
-    StatusOption::Some(Status {
+    Some(Status {
         role,
         term,
         leader,
@@ -179,18 +171,18 @@ pub fn load_server_state(s: &[u8]) -> ServerState
 }
 
 // Writes a status; the words of one that is absent are 0.
-pub fn store_status(s: &mut [u8], status: StatusOption)
+pub fn store_status(s: &mut [u8], status: Option<Status>)
     requires { length s.old ≡ 48 }
     ensures { s.new ≡ bytes (status_words status) }
 {
     match status {
-        StatusOption::None => words::store_all(s, 0, &[0, 0, 0, 0, 0, 0]),
-        StatusOption::Some(x) => {
+        None => words::store_all(s, 0, &[0, 0, 0, 0, 0, 0]),
+        Some(x) => {
             let leader = x.leader;
             let role = x.role;
             let row = [
                 1,
-                role.number(),
+                u64::from(role),
                 x.term.0,
                 node_flag(leader),
                 node_number(leader),

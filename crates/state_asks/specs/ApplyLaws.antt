@@ -1,12 +1,11 @@
 -- What the proofs of apply.rt cite. Assumes nothing.
-use Rattle.std.specs.Prelude.{◌≡◌, Bool, true, false, List, [], ◌∷◌, ℕ, ◌+◌, ◌-◌, ◌*◌, ◌^◌, ◌≤◌, ◌<◌, leb, length}
+use Rattle.std.specs.Prelude.{◌≡◌, Bool, true, false, List, [], ◌∷◌, ℕ, ◌+◌, ◌*◌, ◌^◌, ◌≤◌, ◌<◌, leb, length, Ok, Err}
 use Rattle.std.proofs.Math.Path.{refl}
-use Rattle.std.proofs.Common.{sym, ap, ap₂, subst, ◌∙◌, arith, leb-true, lt-ltb}
+use Rattle.std.proofs.Common.{sym, ap, subst, ◌∙◌, arith, leb-true, lt-ltb}
 use Rattle.laws.proofs.BoolLaws.{and_both}
 use Rattle.words.specs.Words.{Bytes}
 use Rattle.units.specs.Types.{Payload, payload_of}
 use Rattle.units.specs.declared.LogIndex.{LogIndex}
-use Rattle.layout.specs.UpTo.{is64}
 use Rattle.layout.specs.Tables.{Holds, Held}
 use Rattle.layout.specs.Parts.{lent_row}
 use Rattle.layout.specs.Marked.{words_for, sounds}
@@ -16,15 +15,21 @@ use Rattle.layout.specs.MarkedLaws.{kind_sound}
 use Rattle.layout.specs.Applied.{applied}
 use Rattle.checks.specs.declared.Check.TheVariants.{ApplyOrder, StateMachineSafety}
 use Rattle.checks.specs.Checks.{Checker, report_if, on_apply}
-use Rattle.checks.specs.Asked.{counts_code, append_if}
+use Rattle.checks.specs.Asked.{counts_code, where_fits, append_if}
+use Rattle.checks.specs.AskedLaws.{where_coded}
 use Rattle.checks.specs.Reports.{leaders_if, entries_if}
+use Rattle.std.specs.declared.result.Result.{Result}
+use Rattle.laws.specs.Bools.{pick}
+use Rattle.units.specs.declared.refusal.Refusal.{Refusal}
+use Rattle.units.specs.declared.refusal.Refusal.TheVariants.{Room}
+use Rattle.model.specs.Fits.{checker_fits}
 use Rattle.checks_on_apply.specs.declared.ApplyAsked.{ApplyAsked}
 use Rattle.checks_on_apply.specs.OnApply as region
 use Rattle.checks_on_apply.specs.OnApply.{apply_acts, ApplyAnswered}
 use Rattle.model.specs.State.{State, server_at, id_of}
 use Rattle.state.specs.declared.Capacity.{Capacity}
 use Rattle.state.specs.declared.TableCounts.{TableCounts}
-use Rattle.state.specs.Sizes.{applied_words, applied_at, Within, Counted}
+use Rattle.state.specs.Sizes.{applied_words, applied_at, Counted}
 use Rattle.state.specs.Area.{Area, capacity_of, counts_of}
 use Rattle.state.specs.Changes.{Inside, Reads}
 use Rattle.state_asks.specs.Asks.{Rows, Begins, next_apply_of, checker_code, Asks, after_apply, ApplyTold, AsksRow}
@@ -90,7 +95,7 @@ module _ {b : List ℕ} {s : State} (h : Area b s) (k : ℕ) (i : k < s.config.s
 
 -- What the function has of an area of these counts when it asks.
 record Learnt (F : Capacity) (b : List ℕ) (k : ℕ) (index : LogIndex) (content : List ℕ) (expected n at w : ℕ) (counts : TableCounts)
-    (r : ApplyAsked) : Type 0 where
+    (r : Result ApplyAsked Refusal) : Type 0 where
   place : k < F.servers
   rows : Rows counts.applied F.limits.log_indexes (1 + words_for F.limits.payload) n
   begins : at ≡ applied_at F
@@ -108,7 +113,7 @@ record Learnt (F : Capacity) (b : List ℕ) (k : ℕ) (index : LogIndex) (conten
         content = content;
       }) r
 
-module _ {b : List ℕ} {k : ℕ} {index : LogIndex} {content : List ℕ} {expected n at w : ℕ} {counts : TableCounts} {r : ApplyAsked}
+module _ {b : List ℕ} {k : ℕ} {index : LogIndex} {content : List ℕ} {expected n at w : ℕ} {counts : TableCounts} {r : Result ApplyAsked Refusal}
     (f : index.0 < 2 ^ 64) {s : State} (h : Area b s)
     (q : Learnt (capacity_of s) b k index content expected n at w counts r) (ex : expected ≡ (server_at s k).next_apply)
     (ec : counts ≡ counts_of s) (x : Payload)
@@ -132,7 +137,7 @@ module _ {b : List ℕ} {k : ℕ} {index : LogIndex} {content : List ℕ} {expec
         index = index;
         expected = expected;
         content = content;
-      }) r
+      }) r q.asked.asked
       s.checker s.now (id_of k) x
   answered =
       let held : Held (applied s.limits.payload) (applied_words (capacity_of s)) n (lent_row at w b) s.checker.applied =
@@ -140,17 +145,22 @@ module _ {b : List ℕ} {k : ℕ} {index : LogIndex} {content : List ℕ} {expec
       (sym count_is) (applied_lent h at w q.begins q.words) in
       q.asked.to (applied_words (capacity_of s)) s.checker s.now (id_of k) x hx held (sym (ap (λ (t : TableCounts). t.total) ec))
 
-  told_does : after (server_at s k).next_apply ≡ apply_acts r index (server_at s k).next_apply s.checker s.now (id_of k) x
-  told_does = subst (λ (m : ℕ). after m ≡ apply_acts r index m s.checker s.now (id_of k) x) ex answered.does
+  told_does : after (server_at s k).next_apply ≡ apply_acts q.asked.asked index (server_at s k).next_apply s.checker s.now (id_of k) x
+  told_does = subst (λ (m : ℕ). after m ≡ apply_acts q.asked.asked index m s.checker s.now (id_of k) x) ex answered.does
 
-  told_code : r.code ≡ checker_code s (after (server_at s k).next_apply)
-  told_code =
-      answered.code ∙ ap (λ (m : ℕ). counts_code (length (after m).applied) s.limits.log_indexes (after m).total) ex
-      ∙ ap (λ (d : Checker). counts_code (length d.applied) s.limits.log_indexes d.total) told_does
-      ∙ sym (acted_code h k q.place index f x hx.good r) ∙ ap (checker_code s) (sym told_does)
+  told_is : r ≡ pick (checker_fits s.config s.limits (after (server_at s k).next_apply)) (Ok q.asked.asked) (Err Room)
+  unfolding checker_code
+  told_is =
+      let asked : ApplyAsked = q.asked.asked in
+      let acts : Checker = acted h k q.place index f x hx.good asked in
+      answered.is ∙ ap (λ (m : ℕ). where_fits (length (after m).applied) s.limits.log_indexes (after m).total asked) ex
+      ∙ ap (λ (d : Checker). where_fits (length d.applied) s.limits.log_indexes d.total asked) told_does
+      ∙ where_coded (length acts.applied) s.limits.log_indexes acts.total (checker_fits s.config s.limits acts) asked
+      (sym (acted_code h k q.place index f x hx.good asked))
+      ∙ ap (λ (d : Checker). pick (checker_fits s.config s.limits d) (Ok asked) (Err Room)) (sym told_does)
 
 pub row_asked : {b : List ℕ} {F : Capacity} {k : ℕ} {index : LogIndex} {content : List ℕ} {expected n at w : ℕ}
-    {counts : TableCounts} {r : ApplyAsked} → index.0 < 2 ^ 64
+    {counts : TableCounts} {r : Result ApplyAsked Refusal} → index.0 < 2 ^ 64
     → k < F.servers → Reads b F expected (next_apply_of k) → Reads b F counts counts_of
     → Rows counts.applied F.limits.log_indexes (1 + words_for F.limits.payload) n
     → Begins b at (applied_at F) (applied_words F) → Counted w (applied_words F)
@@ -178,7 +188,8 @@ row_asked {b} {F} {k} {index} {content} {expected} {n} {at} {w} {counts} {r} f i
     record {
       to = λ x hx. record {
         to = λ s h e. record {
-          code = told_code f h (here s e) (re.to s h e) (rc.to s h e) x (row x hx s e);
+          asked = q.asked;
+          is = told_is f h (here s e) (re.to s h e) (rc.to s h e) x (row x hx s e);
           does = told_does f h (here s e) (re.to s h e) (rc.to s h e) x (row x hx s e);
         };
       };
@@ -187,7 +198,7 @@ row_asked {b} {F} {k} {index} {content} {expected} {n} {at} {w} {counts} {r} f i
 -- ---- payload_asked
 
 pub payload_asked : {b : List ℕ} {F : Capacity} {k : ℕ} {index : LogIndex} (kind : ℕ)
-    (src : List ℕ) {content content' : List ℕ} {r : ApplyAsked} → Inside b F → kind ≤ 1
+    (src : List ℕ) {content content' : List ℕ} {r : Result ApplyAsked Refusal} → Inside b F → kind ≤ 1
     → length src ≤ 256 * kind → length src ≤ F.limits.payload → Bytes src → length content ≡ 8 * (1 + words_for F.limits.payload)
     → Puts payload_marking (payload_of kind src) content content' → AsksRow b F k index content' r
     → Asks b F (ApplyTold k index (payload_of kind src) r)

@@ -1,19 +1,21 @@
 -- The questions of checks.rs over the state that an area holds: what is asked, and what the answers say. Assumes nothing.
-use Rattle.std.specs.Prelude.{◌≡◌, Bool, true, false, not, List, map, ℕ, ◌+◌, ◌-◌, ◌*◌, ◌≤◌, eqb, length}
-use Rattle.std.proofs.Math.Option.{Option, none, some}
+use Rattle.std.specs.Prelude.{◌≡◌, Bool, true, false, not, List, map, ℕ, ◌+◌, ◌-◌, ◌*◌, ◌≤◌, eqb, length, Option, None, Some, Ok, Err}
 use Rattle.laws.specs.Bools.{pick}
 use Rattle.laws.specs.Lists.{at}
 use Rattle.laws.specs.Order.{numbers, lookup}
 use Rattle.units.specs.Types.{Payload, Entry}
 use Rattle.units.specs.declared.LogIndex.{LogIndex}
-use Rattle.units.specs.declared.TermOption.{TermOption}
 use Rattle.protocol.specs.declared.Status.{Status}
 use Rattle.layout.specs.Tables.{Holds}
 use Rattle.layout.specs.Payload.{payload}
 use Rattle.raft_log.specs.Log.{Log, entry_at}
 use Rattle.storage.specs.Storage.{Write, written}
-use Rattle.checks.specs.Checks.{Checker, Led, Mismatch, Acknowledged, leader_key, on_apply, on_writes, on_status, log_matching_failure}
+use Rattle.checks.specs.declared.Mismatch.{Mismatch}
+use Rattle.checks.specs.Checks.{Checker, Led, Acknowledged, leader_key, on_apply, on_writes, on_status, log_matching_failure}
 use Rattle.checks.specs.Checks.{check_log_matching, highest_of, check_durability}
+use Rattle.std.specs.declared.result.Result.{Result}
+use Rattle.units.specs.declared.refusal.Refusal.{Refusal}
+use Rattle.units.specs.declared.refusal.Refusal.TheVariants.{Room}
 use Rattle.checks_on_apply.specs.declared.ApplyAsked.{ApplyAsked}
 use Rattle.checks_on_apply.specs.OnApply.{apply_acts}
 use Rattle.checks_on_write.specs.declared.WriteAsked.{WriteAsked}
@@ -22,7 +24,6 @@ use Rattle.checks_on_write.specs.OnWrite.{write_asked}
 use Rattle.checks_on_write.specs.OnWrites.{index_of}
 use Rattle.checks_on_status.specs.declared.StatusAsked.{StatusAsked}
 use Rattle.checks_on_status.specs.OnStatus.{status_acts}
-use Rattle.checks_log_matching.specs.declared.pairs.MatchingAsked.{MatchingAsked}
 use Rattle.checks_durability.specs.declared.DurabilityAsked.{DurabilityAsked}
 use Rattle.checks_durability.specs.declared.replies.Reply.{Reply}
 use Rattle.checks_durability.specs.Acknowledged.{acknowledged_from, is_applied}
@@ -30,8 +31,8 @@ use Rattle.model.specs.State.{State, Server, server_at, id_of}
 use Rattle.model.specs.Calls.{logs_from, applied_from}
 use Rattle.model.specs.Fits.{checker_fits}
 use Rattle.state.specs.declared.Capacity.{Capacity}
-use Rattle.state.specs.Server.{option_term}
 use Rattle.state.specs.Area.{Area, capacity_of}
+use Rattle.units.specs.declared.Term.{Term}
 
 -- ---- numbers
 
@@ -69,13 +70,14 @@ pub record Asks (b : List ℕ) (F : Capacity) (told : State → Type 0) : Type 0
 unfoldable pub after_apply : ℕ → LogIndex → Payload → State → Checker
 after_apply k index x s = on_apply s.checker s.now (id_of k) index x (server_at s k).next_apply
 
--- The answer for a state: 10 exactly where what the definition gives does not fit, and flags that say what it does.
-pub record ApplyTold (k : ℕ) (index : LogIndex) (x : Payload) (r : ApplyAsked) (s : State) : Type 0 where
-  pub code : r.code ≡ checker_code s (after_apply k index x s)
-  pub does : after_apply k index x s ≡ apply_acts r index (server_at s k).next_apply s.checker s.now (id_of k) x
+-- The answer for a state: flags that say what the definition does, exactly where what it gives fits; else question 10 is answered no.
+pub record ApplyTold (k : ℕ) (index : LogIndex) (x : Payload) (r : Result ApplyAsked Refusal) (s : State) : Type 0 where
+  pub asked : ApplyAsked
+  pub is : r ≡ pick (checker_fits s.config s.limits (after_apply k index x s)) (Ok asked) (Err Room)
+  pub does : after_apply k index x s ≡ apply_acts asked index (server_at s k).next_apply s.checker s.now (id_of k) x
 
 -- The same whatever payload the lent words hold.
-pub record AsksRow (b : List ℕ) (F : Capacity) (k : ℕ) (index : LogIndex) (content : List ℕ) (r : ApplyAsked) : Type 0 where
+pub record AsksRow (b : List ℕ) (F : Capacity) (k : ℕ) (index : LogIndex) (content : List ℕ) (r : Result ApplyAsked Refusal) : Type 0 where
   pub to : (x : Payload) → Holds (payload F.limits.payload) content x → Asks b F (ApplyTold k index x r)
 
 -- ---- a status
@@ -85,8 +87,8 @@ unfoldable pub raft_checks_of : State → Bool
 raft_checks_of s = eqb s.config.raft_checks 1
 
 -- The term that the server at a place leads.
-unfoldable pub leading_of : ℕ → State → TermOption
-leading_of k s = option_term (server_at s k).leading
+unfoldable pub leading_of : ℕ → State → Option Term
+leading_of k s = (server_at s k).leading
 
 -- The current log of the server at a place.
 unfoldable pub log_of : ℕ → State → Log
@@ -101,12 +103,12 @@ after_status k status s = on_status (raft_checks_of s) s.checker s.now (id_of k)
 pub record StatusTold (k : ℕ) (status : Status) (r : StatusAsked) (s : State) : Type 0 where
   pub code : r.code ≡ checker_code s (after_status k status s).checker
   pub does : (after_status k status s).checker ≡ status_acts r s.checker s.now (id_of k) status.term
-  pub led : (after_status k status s).leading ≡ pick r.leads (some status.term) none
-  pub absent : r.fresh ≡ true → lookup numbers leader_key status.term.0 s.checker.leaders ≡ none
+  pub led : (after_status k status s).leading ≡ pick r.leads (Some status.term) None
+  pub absent : r.fresh ≡ true → lookup numbers leader_key status.term.0 s.checker.leaders ≡ None
 
 -- The same where the numbers are the state's: how many leaders and applied payloads there are, the total of violations, whether leader
 -- completeness is asked for, and the term that the server leads.
-pub record StatusGiven (leaders applied total : ℕ) (raft_checks : Bool) (leading : TermOption) (k : ℕ) (status : Status) (r : StatusAsked)
+pub record StatusGiven (leaders applied total : ℕ) (raft_checks : Bool) (leading : Option Term) (k : ℕ) (status : Status) (r : StatusAsked)
     (s : State) : Type 0 where
   pub to : leaders ≡ length s.checker.leaders → applied ≡ length s.checker.applied → total ≡ s.checker.total
       → raft_checks ≡ raft_checks_of s
@@ -132,7 +134,7 @@ write_asked_of k index s = write_asked (entry_at (log_of k s) index.0) index s.c
 
 -- The words hold the payload of the entry at an index of the log of the server at a place, where there is one.
 pub record PayloadTold (k : ℕ) (index : LogIndex) (content : List ℕ) (s : State) : Type 0 where
-  pub to : (e : Entry) → entry_at (log_of k s) index.0 ≡ some e → Holds (payload s.limits.payload) content e.payload
+  pub to : (e : Entry) → entry_at (log_of k s) index.0 ≡ Some e → Holds (payload s.limits.payload) content e.payload
 
 -- The checks after all waiting writes of the server at a place.
 unfoldable pub after_writes : ℕ → State → Checker
@@ -158,13 +160,14 @@ mismatch_between i j s = log_matching_failure (log_of i s) (log_of j s)
 unfoldable pub after_matching : State → Checker
 after_matching s = check_log_matching s.checker s.now (logs_from 0 s.servers)
 
--- The answer for a state: 10 exactly where what the definition gives does not fit, and how many reports are due.
-pub record MatchingTold (r : MatchingAsked) (s : State) : Type 0 where
-  pub code : r.code ≡ checker_code s (after_matching s)
-  pub reports : (after_matching s).total ≡ s.checker.total + r.reports
+-- The answer for a state: how many reports are due, exactly where what the definition gives fits; else question 10 is answered no.
+pub record MatchingTold (r : Result ℕ Refusal) (s : State) : Type 0 where
+  pub reports : ℕ
+  pub is : r ≡ pick (checker_fits s.config s.limits (after_matching s)) (Ok reports) (Err Room)
+  pub counted : (after_matching s).total ≡ s.checker.total + reports
 
 -- The same where the total of violations is the state's.
-pub record MatchingGiven (total : ℕ) (r : MatchingAsked) (s : State) : Type 0 where
+pub record MatchingGiven (total : ℕ) (r : Result ℕ Refusal) (s : State) : Type 0 where
   pub to : total ≡ s.checker.total → MatchingTold r s
 
 -- ---- durability
@@ -187,8 +190,8 @@ up_to_of s = map applied_by s.servers
 
 -- The index of a reply that may be absent, or 0.
 abbrev pub index_in : Option Reply → LogIndex
-index_in none = record { 0 = 0 }
-index_in (some reply) = reply.index
+index_in None = record { 0 = 0 }
+index_in (Some reply) = reply.index
 
 -- The index of reply i.
 unfoldable pub reply_index_of : ℕ → State → LogIndex
@@ -196,8 +199,8 @@ reply_index_of i s = index_in (at s.replies i)
 
 -- Whether there is a reply whose command, of so many bytes, is not the payload applied at its index.
 abbrev pub missing_in : ℕ → List Payload → Option Reply → Bool
-missing_in size payloads none = false
-missing_in size payloads (some reply) = not (is_applied size reply payloads)
+missing_in size payloads None = false
+missing_in size payloads (Some reply) = not (is_applied size reply payloads)
 
 -- Whether the command of reply i is not the payload applied at its index.
 unfoldable pub reply_missing_of : ℕ → State → Bool

@@ -1,18 +1,16 @@
 -- What the proofs of durability.rt cite. Assumes nothing.
-use Rattle.std.specs.Prelude.{◌≡◌, true, false, eqb, leb, ltb, get_or, set, drop, replicate}
+use Rattle.std.specs.Prelude.{◌≡◌, true, false, ltb, get_or, set, drop, replicate, None, Some}
 use Rattle.std.proofs.Math.Path.{refl, sym, ap, ap₂, subst}
 use Rattle.std.proofs.Common.{◌∙◌, add-one, arith, take-suc}
 use Rattle.std.proofs.Math.Bool.{Bool, not}
 use mathlib.Core.List.{List, [], ◌∷◌, ◌++◌, map}
-use Rattle.std.proofs.Math.Option.{Option, none, some}
-use Prim.Native.Nat.{ℕ, zero, suc, ◌+◌, ◌-◌, ◌*◌, ◌^◌, ◌≤◌, ◌<◌, max}
+use Prim.Native.Nat.{ℕ, zero, suc, ◌+◌, ◌-◌, ◌*◌, ◌^◌, ◌≤◌, ◌<◌}
 use Rattle.std.proofs.Math.ListN.{length, take, length-set}
 use Rattle.std.proofs.Math.Seq.{take-suc-set, take_all}
 use borrow.Author.Tests.{leb-true, lt-ltb}
-use Rattle.laws.specs.Bools.{pick, and_left, every}
+use Rattle.laws.specs.Bools.{and_left, every}
 use Rattle.laws.proofs.BoolLaws.{allb_in, and_right, and_both}
 use Rattle.laws.specs.Lists.{at as at'}
-use Rattle.units.specs.Types.{Payload}
 use Rattle.units.specs.declared.SimTime.{SimTime}
 use Rattle.words.specs.Words.{W}
 use Rattle.layout.specs.UpTo.{is64}
@@ -36,7 +34,7 @@ use Rattle.checks_durability.specs.Replies as replied
 use Rattle.checks_durability.specs.Replies.{replies, Replied}
 use Rattle.checks_durability.specs.Acknowledged.{acknowledged_from, is_applied, Misses}
 use Rattle.checks_durability.specs.Servers.{servers_from}
-use Rattle.model.specs.State.{State, Server, new_server, server_at, id_of}
+use Rattle.model.specs.State.{State, Server, new_server, id_of}
 use Rattle.model.specs.Calls.{applied_from}
 use Rattle.model.specs.Fits.{server_fits, server_tests, table_fits}
 use Rattle.state.specs.declared.Capacity.{Capacity}
@@ -320,13 +318,13 @@ durability_asked ru rs rc q = record {
 
 -- ---- reply_missing_of, reply_index_of
 
-at_past : {A : Type 0} (x : List A) (i : ℕ) → length x ≤ i → at' x i ≡ none
+at_past : {A : Type 0} (x : List A) (i : ℕ) → length x ≤ i → at' x i ≡ None
 unfolding at'
 at_past [] i h = refl
 at_past (a ∷ x) zero h = absurd (omega arith)
 at_past (a ∷ x) (suc i) h = at_past x i (omega arith)
 
-at_in : {A : Type 0} (x : List A) (i : ℕ) (d : A) → i < length x → at' x i ≡ some (get_or x i d)
+at_in : {A : Type 0} (x : List A) (i : ℕ) (d : A) → i < length x → at' x i ≡ Some (get_or x i d)
 unfolding at'
 at_in [] i d h = absurd (omega arith)
 at_in (a ∷ x) zero d h = refl
@@ -392,7 +390,7 @@ module _ {b : List ℕ} {F : Capacity} {counts : TableCounts} {n : ℕ} (rc : Re
         subst (λ (G : Capacity). Misses G.limits.payload bytes n m i r (lent_row at (G.limits.history * 5) b)
         (lent_row from v b)) e q in
         let any : Reply = record { sent = record { 0 = 0 }; received = record { 0 = 0 }; index = record { 0 = 0 }; client = 0; seq = 0 } in
-        let there : at' s.replies i ≡ some (get_or s.replies i any) = at_in s.replies i any (omega (arith, count_is s h e)) in
+        let there : at' s.replies i ≡ Some (get_or s.replies i any) = at_in s.replies i any (omega (arith, count_is s h e)) in
         a.to (applied_words (capacity_of s)) s.replies s.checker.applied
         (replies_held h y.reply_rows (ap (λ (t : TableCounts). t.replies) c) y.replies_begin)
         (payloads_held h y.applied_rows (ap (λ (t : TableCounts). t.applied) c) y.applied_begins y.applied_words_lem)

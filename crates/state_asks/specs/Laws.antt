@@ -1,16 +1,15 @@
 -- What the proofs of numbers.rt cite. Assumes nothing.
 use Rattle.std.specs.Prelude.{◌≡◌, refl, List, ℕ, ◌+◌, ◌-◌, ◌*◌, ◌≤◌, ◌<◌, length, get_or, take, drop}
-use Rattle.std.proofs.Common.{sym, ap, subst, ◌∙◌, arith}
+use Rattle.std.proofs.Common.{ap, subst, ◌∙◌, arith}
 use Rattle.words.specs.Words.{W}
 use Rattle.layout.specs.Contents.{holds_w}
 use Rattle.layout.specs.Parts.{lent_row, length_lent_row}
 use Rattle.layout.specs.Rows.{row_start}
-use Rattle.model.specs.State.{State}
 use Rattle.state.specs.declared.Capacity.{Capacity}
 use Rattle.state.specs.Sizes.{block_words, queue_words, seen_words, applied_words, queue_at, seen_at, leaders_at, replies_at, applied_at}
 use Rattle.state.specs.Sizes.{whole_words, Counted, BlockAt}
 use Rattle.state.specs.SizeLaws.{room}
-use Rattle.state.specs.Area.{Area, capacity_of}
+use Rattle.state.specs.Area.{capacity_of}
 use Rattle.state.specs.Changes.{Inside, Reads}
 use Rattle.state_asks.specs.Asks.{Rows, Begins, next_apply_of}
 use Rattle.state_asks.specs.Lent.{state_lent}

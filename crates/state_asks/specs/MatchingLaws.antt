@@ -1,41 +1,40 @@
 -- What the proofs of matching.rt cite. Assumes nothing.
-use Rattle.std.specs.Prelude.{◌≡◌, Bool, eqb, leb, ltb, length, get_or, drop}
+use Rattle.std.specs.Prelude.{◌≡◌, Bool, eqb, ltb, length, get_or, drop, Option, None, Some}
+use Rattle.std.specs.declared.result.Result.{Result}
 use Rattle.std.proofs.Math.Path.{refl, ap}
 use Rattle.std.proofs.Common.{sym, ap₂, subst, ◌∙◌, lt-ltb, eqb-true}
 use Rattle.std.proofs.Math.Bool.{true, false}
 use mathlib.Core.List.{List, [], ◌∷◌, map}
-use Rattle.std.proofs.Math.Option.{Option, none, some}
 use Prim.Native.Nat.{ℕ, zero, suc, ◌+◌, ◌-◌, ◌*◌, ◌^◌, ◌≤◌, ◌<◌, min}
 use native.Mathlib.Omega.{arith}
 use Rattle.std.proofs.Math.ListN.{take}
 use Rattle.laws.specs.Bools.{pick, and_left, every}
-use Rattle.laws.proofs.BoolLaws.{allb_in, and_right, and_both}
-use Rattle.laws.specs.Lists.{is_some}
+use Rattle.laws.proofs.BoolLaws.{allb_in, and_right, and_both, true_and}
 use Rattle.units.specs.Types.{Entry}
 use Rattle.units.specs.declared.NodeId.{NodeId}
 use Rattle.units.specs.declared.SimTime.{SimTime}
+use Rattle.units.specs.declared.LogIndex.{LogIndex}
+use Rattle.units.specs.declared.refusal.Refusal.{Refusal}
 use Rattle.words.specs.Sets.{length_part}
 use Rattle.layout.specs.UpTo.{is64}
 use Rattle.layout.specs.Tables.{Held}
 use Rattle.layout.specs.Parts.{lent_row}
 use Rattle.layout.specs.Rows.{row_end}
-use Rattle.layout.specs.Marked.{words_for}
 use Rattle.raft_log.specs.Log.{Log, entry_at, last_index}
 use Rattle.raft_log.specs.Places.{place, places}
 use Rattle.queue.specs.Range.{word}
 use Rattle.config.specs.declared.SimConfig.{SimConfig}
 use Rattle.config.specs.declared.Limits.{Limits}
 use Rattle.checks.specs.declared.Check.TheVariants.{LogMatching}
-use Rattle.checks.specs.Checks.{Checker, Mismatch, ServerLog, same_entry, shared_term, mismatch_at, difference_at, mismatch_from}
+use Rattle.checks.specs.Checks.{Checker, ServerLog, same_entry, shared_term, mismatch_at, difference_at, mismatch_from}
 use Rattle.checks.specs.Checks.{log_matching_failure, report_mismatch, check_against, check_log_matching}
-use Rattle.checks_log_matching.specs.declared.MismatchOption.{MismatchOption}
-use Rattle.checks_log_matching.specs.declared.pairs.MatchingAsked.{MatchingAsked}
-use Rattle.checks_log_matching.specs.Matching.{mismatch_of}
-use Rattle.checks_log_matching.specs.Pairs.{Logs, log_bytes, server_logs, Between, total_code, AsksLogs}
+use Rattle.checks.specs.Asked.{counts_code, where_fits}
+use Rattle.checks.specs.AskedLaws.{where_coded}
+use Rattle.checks_log_matching.specs.Pairs.{Logs, log_bytes, server_logs, Between, AsksLogs}
 use Rattle.checks_log_matching.specs.Laws.{last_within}
 use Rattle.model.specs.State.{State, Server, new_server, server_at, id_of}
 use Rattle.model.specs.Calls.{logs_from}
-use Rattle.model.specs.Fits.{server_fits, server_tests, storage_fits}
+use Rattle.model.specs.Fits.{server_fits, server_tests, storage_fits, checker_fits}
 use Rattle.state.specs.declared.Capacity.{Capacity}
 use Rattle.state.specs.declared.TableCounts.{TableCounts}
 use Rattle.state.specs.Sizes.{block_words, log_words, queue_at, queue_words, Counted}
@@ -44,60 +43,62 @@ use Rattle.state.specs.Fitting.{area_fits, laid_limits}
 use Rattle.state.specs.FitsBy.{fits_test, server_count}
 use Rattle.state.specs.Changes.{Reads}
 use Rattle.state_asks.specs.Asks.{Begins, Asks, checker_code, log_of, mismatch_between, after_matching, MatchingTold, MatchingGiven}
-use Rattle.state_asks.specs.Lent.{lent_is, lent_lent, log_lent}
+use Rattle.state_asks.specs.Lent.{lent_lent, log_lent}
 use Rattle.state_asks.specs.Rows.{Sound, Reported, detail_fits, reported_none, reported_if_lem, reported_then, reported_code, area_sound}
 use Rattle.state_asks.specs.Rows.{now_fits}
-use Rattle.state_asks.specs.WriteLaws.{EntryGood, entry_good}
+use Rattle.state_asks.specs.WriteLaws.{entry_good}
+use Rattle.checks.specs.declared.Mismatch.{Mismatch}
 
 -- ---- the numbers of a mismatch
 
 -- A term of 64 bits, and indexes up to N.
 record Small (N : ℕ) (m : Mismatch) : Type 0 where
-  term : is64 m.term ≡ true
-  index : m.index ≤ N
-  difference : m.difference ≤ N
+  term : is64 m.term.0 ≡ true
+  index : m.index.0 ≤ N
+  difference : m.difference.0 ≤ N
 
 -- A difference so far, up to N.
-Before : ℕ → Option ℕ → Type 0
-Before N none = Unit {0}
-Before N (some d) = d ≤ N
+Before : ℕ → Option LogIndex → Type 0
+Before N None = Unit {0}
+Before N (Some d) = d.0 ≤ N
 
 -- Where there is a mismatch, it is small.
 Fine : ℕ → Option Mismatch → Type 0
-Fine N none = Unit {0}
-Fine N (some m) = Small N m
+Fine N None = Unit {0}
+Fine N (Some m) = Small N m
 
 module _ (L P N : ℕ) (a b : Log) (la : length a ≡ L) (ga : every (place P).good a ≡ true) where
-  shared_fine : (i : ℕ) → i ≤ N → (x y : Option Entry) → entry_at a i ≡ x → (o : Option ℕ) → Before N o → (later : Option Mismatch)
-      → Fine N later → Fine N (mismatch_at o (shared_term x y) i later)
+  shared_fine : (i : ℕ) → i ≤ N → (x y : Option Entry) → entry_at a i ≡ x → (o : Option LogIndex) → Before N o → (later : Option Mismatch)
+      → Fine N later → Fine N (mismatch_at o (shared_term x y) (record { 0 = i }) later)
   unfolding Before Fine
-  shared_fine i l x y e none p later f = f
-  shared_fine i l none y e (some d) p later f = f
-  shared_fine i l (some x) none e (some d) p later f = f
-  shared_fine i l (some x) (some y) e (some d) p later f = by (eqb x.term.0 y.term.0)
+  shared_fine i l x y e None p later f = f
+  shared_fine i l None y e (Some d) p later f = f
+  shared_fine i l (Some x) None e (Some d) p later f = f
+  shared_fine i l (Some x) (Some y) e (Some d) p later f = by (eqb x.term.0 y.term.0)
     where
-      by : (t : Bool) → Fine N (mismatch_at (some d) (pick t (some x.term.0) none) i later)
+      by : (t : Bool) → Fine N (mismatch_at (Some d) (pick t (Some x.term) None) (record { 0 = i }) later)
       by true = record { term = (entry_good L P a la ga i x e).term; index = l; difference = p }
       by false = f
 
-  differs_fine : (o : Option ℕ) → Before N o → (t : Bool) (i : ℕ) → i ≤ N → Before N (difference_at o t i)
+  differs_fine : (o : Option LogIndex) → Before N o → (t : Bool) (i : ℕ) → i ≤ N → Before N (difference_at o t (record { 0 = i }))
   unfolding Before
-  differs_fine (some d) p t i l = p
-  differs_fine none p true i l = tt
-  differs_fine none p false i l = l
+  differs_fine (Some d) p t i l = p
+  differs_fine None p true i l = tt
+  differs_fine None p false i l = l
 
-  from_fine : (left i : ℕ) (o : Option ℕ) → Before N o → i + left ≤ N + 1 → Fine N (mismatch_from left i o a b)
+  from_fine : (left i : ℕ) (o : Option LogIndex) → Before N o → i + left ≤ N + 1 → Fine N (mismatch_from left i o a b)
   unfolding mismatch_from Fine
   from_fine zero i o p l = tt
   from_fine (suc left) i o p l =
       let x = entry_at a i in
       let y = entry_at b i in
-      shared_fine i (omega arith) x y refl o p (mismatch_from left (suc i) (difference_at o (same_entry x y) i) a b)
-      (from_fine left (suc i) (difference_at o (same_entry x y) i) (differs_fine o p (same_entry x y) i (omega arith)) (omega arith))
+      let at : LogIndex = record { 0 = i } in
+      shared_fine i (omega arith) x y refl o p (mismatch_from left (suc i) (difference_at o (same_entry x y) at) a b)
+      (from_fine left (suc i) (difference_at o (same_entry x y) at) (differs_fine o p (same_entry x y) i (omega arith)) (omega arith))
 
   failure_fine : L ≤ N → Fine N (log_matching_failure a b)
   unfolding log_matching_failure Before
-  failure_fine l = from_fine (min (last_index a) (last_index b)) 1 none tt (omega (arith, last_within a, la))
+  failure_fine l = from_fine (min (last_index a) (last_index b)) 1 None tt (omega (arith, last_within a, la))
 
 -- ---- every pair is reported or not: the rows stay sound
 
@@ -115,13 +116,13 @@ module _ (S L P : ℕ) (small : L ≤ 1024) (time : SimTime) (ht : word time.0 �
   mismatch_reported_lem : (c : Checker) → Sound S L P c → (x y : NodeId) → is64 x.0 ≡ true → is64 y.0 ≡ true → (m : Option Mismatch)
       → Fine 1024 m → Reported S L P c (report_mismatch m c time x y)
   unfolding Fine detail_fits
-  mismatch_reported_lem c q x y hx hy none f = reported_none q
-  mismatch_reported_lem c q x y hx hy (some m) f =
-      reported_if_lem q time LogMatching (x.0 ∷ y.0 ∷ m.term ∷ m.index ∷ m.difference ∷ []) ht
+  mismatch_reported_lem c q x y hx hy None f = reported_none q
+  mismatch_reported_lem c q x y hx hy (Some m) f =
+      reported_if_lem q time LogMatching (x.0 ∷ y.0 ∷ m.term.0 ∷ m.index.0 ∷ m.difference.0 ∷ []) ht
       (and_both _ _ refl (and_both _ _ hx
       (and_both _ _ hy (and_both _ _ f.term
-      (and_both _ _ (lt-ltb m.index (2 ^ 64) (omega (arith, f.index)))
-      (and_both _ _ (lt-ltb m.difference (2 ^ 64) (omega (arith, f.difference))) refl)))))) true
+      (and_both _ _ (lt-ltb m.index.0 (2 ^ 64) (omega (arith, f.index)))
+      (and_both _ _ (lt-ltb m.difference.0 (2 ^ 64) (omega (arith, f.difference))) refl)))))) true
 
   against_reported : (c : Checker) → Sound S L P c → (x : ServerLog) → LogGood L P x → (ys : List ServerLog) → AllGood L P ys
       → Reported S L P c (check_against c time x ys)
@@ -241,14 +242,14 @@ stride_room l more e = omega arith
 -- ---- matching_given, matching_asked, mismatch_of
 
 -- What the function has of an area of these counts when it asks.
-record Learnt (F : Capacity) (b : List ℕ) (total z q : ℕ) (r : MatchingAsked) : Type 0 where
+record Learnt (F : Capacity) (b : List ℕ) (total z q : ℕ) (r : Result ℕ Refusal) : Type 0 where
   stride : z ≡ block_words F
   ends : q ≡ queue_at F
   asked : AsksLogs (Logs F.limits.payload F.limits.log_indexes F.servers z 64 (take (8 * q - 4096) (drop 4096 b))) total r
 
-told : {b : List ℕ} {s : State} {total z q : ℕ} {r : MatchingAsked} → Area b s → Learnt (capacity_of s) b total z q r
+told : {b : List ℕ} {s : State} {total z q : ℕ} {r : Result ℕ Refusal} → Area b s → Learnt (capacity_of s) b total z q r
     → MatchingGiven total r s
-unfolding after_matching total_code
+unfolding after_matching counts_code checker_code
 told {b} {s} {total} {z} {q} {r} h p = record {
   to = λ et.
       let logs = logs_lent h z q p.stride p.ends in
@@ -256,14 +257,16 @@ told {b} {s} {total} {z} {q} {r} h p = record {
       ≡ check_log_matching s.checker s.now (logs_from 0 s.servers) =
       ap (check_log_matching s.checker s.now) (sym (logs_are 0 s.servers)) in
       record {
-        code = p.asked.code (logs_of s.servers) logs s.checker s.now (sym et) ∙ ap (λ (d : Checker). total_code d.total) same
-            ∙ sym (reported_code h (matching_reported h));
-        reports = ap (λ (d : Checker). d.total) (sym same) ∙ p.asked.counted (logs_of s.servers) logs s.checker s.now (sym et)
-            ∙ ap (λ (n : ℕ). n + r.reports) et;
+        reports = p.asked.reports;
+        is = p.asked.is (logs_of s.servers) logs s.checker s.now (sym et) ∙ ap (λ (d : Checker). where_fits 0 0 d.total p.asked.reports) same
+            ∙ where_coded 0 0 (after_matching s).total (checker_fits s.config s.limits (after_matching s)) p.asked.reports
+            (ap (λ (t : Bool). pick t 0 10) (true_and (ltb (after_matching s).total (2 ^ 64))) ∙ sym (reported_code h (matching_reported h)));
+        counted = ap (λ (d : Checker). d.total) (sym same) ∙ p.asked.counted (logs_of s.servers) logs s.checker s.now (sym et)
+            ∙ ap (λ (n : ℕ). n + p.asked.reports) et;
       };
 }
 
-pub matching_given : {b : List ℕ} {F : Capacity} {total z q : ℕ} {r : MatchingAsked} → Counted z (block_words F)
+pub matching_given : {b : List ℕ} {F : Capacity} {total z q : ℕ} {r : Result ℕ Refusal} → Counted z (block_words F)
     → Begins b q (queue_at F) (queue_words F)
     → AsksLogs (Logs F.limits.payload F.limits.log_indexes F.servers z 64 (take (8 * q - 4096) (drop 4096 b))) total r
     → Asks b F (MatchingGiven total r)
@@ -271,24 +274,22 @@ matching_given {b} {F} {total} {z} {q} {r} cz pq a =
     let learnt : Learnt F b total z q r = record { stride = cz.is; ends = pq.is; asked = a } in
     record { to = λ s h e. told h (subst (λ (G : Capacity). Learnt G b total z q r) e learnt) }
 
-pub matching_asked : {b : List ℕ} {F : Capacity} {counts : TableCounts} {r : MatchingAsked} → Reads b F counts counts_of
+pub matching_asked : {b : List ℕ} {F : Capacity} {counts : TableCounts} {r : Result ℕ Refusal} → Reads b F counts counts_of
     → Asks b F (MatchingGiven counts.total r) → Asks b F (MatchingTold r)
 matching_asked rc q = record { to = λ s h e. (q.to s h e).to (ap (λ (x : TableCounts). x.total) (rc.to s h e)) }
 
 -- The same of one pair.
-record PairLearnt (F : Capacity) (b : List ℕ) (i j z q : ℕ) (r : MismatchOption) : Type 0 where
+record PairLearnt (F : Capacity) (b : List ℕ) (i j z q : ℕ) (r : Option Mismatch) : Type 0 where
   first : i < F.servers
   second : j < F.servers
   stride : z ≡ block_words F
   ends : q ≡ queue_at F
-  asked : Between (Logs F.limits.payload F.limits.log_indexes F.servers z 64 (take (8 * q - 4096) (drop 4096 b))) i j
-      (mismatch_of r)
+  asked : Between (Logs F.limits.payload F.limits.log_indexes F.servers z 64 (take (8 * q - 4096) (drop 4096 b))) i j r
 
-pub mismatch_read : {b : List ℕ} {F : Capacity} {i j z q : ℕ} (r : MismatchOption) → i < F.servers → j < F.servers
+pub mismatch_read : {b : List ℕ} {F : Capacity} {i j z q : ℕ} (r : Option Mismatch) → i < F.servers → j < F.servers
     → Counted z (block_words F) → Begins b q (queue_at F) (queue_words F)
-    → Between (Logs F.limits.payload F.limits.log_indexes F.servers z 64 (take (8 * q - 4096) (drop 4096 b))) i j
-    (mismatch_of r)
-    → Reads b F (mismatch_of r) (mismatch_between i j)
+    → Between (Logs F.limits.payload F.limits.log_indexes F.servers z 64 (take (8 * q - 4096) (drop 4096 b))) i j r
+    → Reads b F r (mismatch_between i j)
 unfolding mismatch_between log_of
 mismatch_read {b} {F} {i} {j} {z} {q} r hi hj cz pq a = record {
   to = λ s h e.

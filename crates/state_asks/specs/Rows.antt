@@ -1,7 +1,7 @@
 -- The rows of the checks: each in range and in order, whatever their counts; so question 10 of the checks is a test of counts. Assumes
 -- nothing.
 use Rattle.std.specs.Prelude.{◌≡◌, refl, Bool, true, false, List, [], ◌∷◌, ◌++◌, map, ℕ, ◌+◌, ◌^◌, ◌≤◌, ◌<◌, leb, ltb, length}
-use Rattle.std.proofs.Common.{sym, ap₂, ◌∙◌, arith, length-append, leb-true, le-leb, lt-ltb, ltb-true, eqb-true}
+use Rattle.std.proofs.Common.{◌∙◌, arith, length-append, leb-true, le-leb, lt-ltb, ltb-true, eqb-true}
 use Rattle.std.proofs.Math.Path.{ap}
 use Rattle.laws.specs.Bools.{pick, ◌and◌, and_left, and_true, allb, every}
 use Rattle.laws.proofs.BoolLaws.{and_right, and_both, true_and, allb_in, every_append}

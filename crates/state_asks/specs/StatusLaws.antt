@@ -1,25 +1,20 @@
 -- What the proofs of status.rt cite. Assumes nothing.
-use Rattle.std.specs.Prelude.{◌≡◌, Bool, true, false, List, [], ◌∷◌, ℕ, ◌+◌, ◌-◌, ◌*◌, ◌^◌, ◌≤◌, ◌<◌, leb, eqb, get_or, take, drop}
+use Rattle.std.specs.Prelude.{◌≡◌, Bool, true, false, List, [], ◌∷◌, ℕ, ◌+◌, ◌-◌, ◌*◌, ◌^◌, ◌<◌, leb, eqb, get_or, take, drop, Option}
 use Rattle.std.proofs.Math.Path.{refl, sym, ap, ap₂, subst}
 use Rattle.std.proofs.Common.{◌∙◌, arith, Fits}
-use Rattle.std.proofs.Math.Option.{Option, none, some}
 use Rattle.std.proofs.Math.ListN.{length}
 use Rattle.std.specs.Int.{w64}
 use borrow.Author.Tests.{leb-true, le-leb, lt-ltb}
-use Rattle.laws.specs.Bools.{pick}
 use Rattle.laws.proofs.BoolLaws.{and_both}
 use Rattle.words.specs.Words.{W}
-use Rattle.units.specs.Types.{term_option}
 use Rattle.units.specs.declared.Term.{Term}
-use Rattle.units.specs.declared.TermOption.{TermOption}
 use Rattle.protocol.specs.declared.Status.{Status}
-use Rattle.layout.specs.UpTo.{is64, is64_fits}
+use Rattle.layout.specs.UpTo.{is64_fits}
 use Rattle.layout.specs.Tables.{Held}
 use Rattle.layout.specs.Contents.{holds_w, holds_parse}
 use Rattle.layout.specs.Parts.{lent_row}
 use Rattle.layout.specs.Marked.{words_for}
 use Rattle.layout.specs.Applied.{applied as payloads}
-use Rattle.raft_log.specs.Places.{places}
 use Rattle.checks.specs.declared.Check.TheVariants.{ElectionSafety, LeaderCompleteness}
 use Rattle.checks.specs.declared.TermLeader.{TermLeader}
 use Rattle.checks.specs.Checks.{Checker, Led, report_if, on_status}
@@ -33,11 +28,9 @@ use Rattle.model.specs.State.{State, server_at, id_of}
 use Rattle.state.specs.declared.Capacity.{Capacity}
 use Rattle.state.specs.declared.ServerState.{ServerState}
 use Rattle.state.specs.declared.TableCounts.{TableCounts}
-use Rattle.state.specs.Parts.{term_in, server_state_in}
-use Rattle.state.specs.Server.{option_term}
+use Rattle.state.specs.Parts.{term_in}
 use Rattle.state.specs.Sizes.{block_words, log_words, leaders_at, applied_words, applied_at, Counted}
 use Rattle.state.specs.Area.{Area, capacity_of, counts_of}
-use Rattle.state.specs.Fitting.{laid_limits}
 use Rattle.state.specs.Changes.{Reads}
 use Rattle.state_asks.specs.Asks.{Rows, Begins, Asks, checker_code, raft_checks_of, leading_of, log_of, after_status, StatusTold}
 use Rattle.state_asks.specs.Asks.{StatusGiven}
@@ -112,7 +105,7 @@ module _ {b : List ℕ} {s : State} (h : Area b s) (k : ℕ) (i : k < s.config.s
 -- ---- status_given
 
 -- What the function has of an area of these counts when it asks.
-record Learnt (F : Capacity) (b : List ℕ) (k : ℕ) (status : Status) (raft_checks : Bool) (leading : TermOption)
+record Learnt (F : Capacity) (b : List ℕ) (k : ℕ) (status : Status) (raft_checks : Bool) (leading : Option Term)
     (leaders applied total n m at l to w from v : ℕ) (r : StatusAsked) : Type 0 where
   place : k < F.servers
   leader_rows : Rows leaders F.limits.history 2 n
@@ -140,12 +133,7 @@ record Learnt (F : Capacity) (b : List ℕ) (k : ℕ) (status : Status) (raft_ch
         leading = leading;
       }) r
 
-term_told : (o : Option Term) → term_option (option_term o) ≡ o
-unfolding term_option
-term_told none = refl
-term_told (some t) = refl
-
-module _ {b : List ℕ} {k : ℕ} {status : Status} {raft_checks : Bool} {leading : TermOption}
+module _ {b : List ℕ} {k : ℕ} {status : Status} {raft_checks : Bool} {leading : (Option Term)}
     {leaders applied total n m at l to w from v : ℕ} {r : StatusAsked} {s : State} (h : Area b s)
     (q : Learnt (capacity_of s) b k status raft_checks leading leaders applied total n m at l to w from v r) where
   told : status.term.0 < 2 ^ 64 → Fits w64 r.first → Fits w64 r.missing
@@ -167,10 +155,10 @@ module _ {b : List ℕ} {k : ℕ} {status : Status} {raft_checks : Bool} {leadin
         let log = (server_at s k).storage.current.log in
         let a = q.asked.to G.servers (G.limits.history * 2) (log_words G) (applied_words G) s.checker s.now log hl (sym et)
         (log_lent h k q.place to q.block_begins w q.log_words_lem) ha in
-        let here : on_status raft_checks s.checker s.now (id_of k) status log (term_option leading)
+        let here : on_status raft_checks s.checker s.now (id_of k) status log leading
         ≡ on_status (raft_checks_of s) s.checker s.now (id_of k) status log (server_at s k).leading =
         ap₂ (λ (t : Bool) (o : Option Term). on_status t s.checker s.now (id_of k) status log o) er
-        (ap term_option ed ∙ term_told (server_at s k).leading) in
+        ed in
         let does : (on_status (raft_checks_of s) s.checker s.now (id_of k) status log (server_at s k).leading).checker
         ≡ status_acts r s.checker s.now (id_of k) status.term =
         ap (λ (x : Led). x.checker) (sym here) ∙ a.does in
@@ -184,7 +172,7 @@ module _ {b : List ℕ} {k : ℕ} {status : Status} {raft_checks : Bool} {leadin
         };
   }
 
-pub status_given_lem : {b : List ℕ} {F : Capacity} {k : ℕ} {status : Status} {raft_checks : Bool} {leading : TermOption}
+pub status_given_lem : {b : List ℕ} {F : Capacity} {k : ℕ} {status : Status} {raft_checks : Bool} {leading : (Option Term)}
     {leaders applied total n m at to w from v : ℕ} {r : StatusAsked} → status.term.0 < 2 ^ 64 → k < F.servers
     → Rows leaders F.limits.history 2 n → Rows applied F.limits.log_indexes (1 + words_for F.limits.payload) m
     → Begins b at (leaders_at F) (F.limits.history * 2) → Begins b to (512 + k * block_words F) (block_words F)
@@ -236,7 +224,7 @@ raft_checks_read b F r e = record {
   to = λ s h ef. ap (λ (n : ℕ). eqb n 1) (e ∙ ap (λ (ws : List ℕ). get_or ws 10 0) (holds_w (settings_lent h)));
 }
 
-pub leading_read : (b : List ℕ) (F : Capacity) (k at x y : ℕ) (r : TermOption) → k < F.servers
+pub leading_read : (b : List ℕ) (F : Capacity) (k at x y : ℕ) (r : Option Term) → k < F.servers
     → Begins b at (512 + k * block_words F) (block_words F)
     → x ≡ get_or (W (take (8 * (at + 8 + 14) - 8 * (at + 8)) (drop (8 * (at + 8)) b))) 12 0
     → y ≡ get_or (W (take (8 * (at + 8 + 14) - 8 * (at + 8)) (drop (8 * (at + 8)) b))) 13 0
@@ -251,7 +239,7 @@ leading_read b F k at x y r i p ex ey e = record {
 
 -- ---- status_asked
 
-pub status_asked : {b : List ℕ} {F : Capacity} {k : ℕ} {status : Status} {raft_checks : Bool} {leading : TermOption}
+pub status_asked : {b : List ℕ} {F : Capacity} {k : ℕ} {status : Status} {raft_checks : Bool} {leading : (Option Term)}
     {counts : TableCounts} {r : StatusAsked}
     → Reads b F raft_checks raft_checks_of → Reads b F leading (leading_of k) → Reads b F counts counts_of
     → Asks b F (StatusGiven counts.leaders counts.applied counts.total raft_checks leading k status r)

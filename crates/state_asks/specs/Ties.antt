@@ -1,7 +1,6 @@
 -- The checks that are asked about are those that the calls and inputs of `model` leave. Assumes nothing.
-use Rattle.std.specs.Prelude.{◌≡◌, Bool, ℕ, ◌+◌, max}
+use Rattle.std.specs.Prelude.{◌≡◌, ℕ, ◌+◌, max, Some}
 use Rattle.std.proofs.Math.Path.{refl}
-use Rattle.std.proofs.Math.Option.{some}
 use Rattle.laws.specs.Bools.{pick}
 use Rattle.units.specs.Types.{Payload}
 use Rattle.units.specs.declared.LogIndex.{LogIndex}
@@ -33,7 +32,7 @@ module _ (s : State) (k : ℕ) where
   sync_asks input verdict owed = refl
 
   pub end_asks : (input : Input) (verdict : Verdict) (owed : Owed) (status : Status) → (let led = after_status k status s in
-      let ended = on_server (with_checker s led.checker) k (λ v. with_leading (with_status v (some status)) led.leading) in
+      let ended = on_server (with_checker s led.checker) k (λ v. with_leading (with_status v (Some status)) led.leading) in
       end_input s k input verdict owed status
       ≡ close_input (redirect (with_max_log_gaps ended (max s.max_log_gaps (gaps (log_of k s)))) k input verdict) owed)
   unfolding end_input after_status raft_checks_of log_of

@@ -1,17 +1,16 @@
 -- What the proofs of writes.rt cite. Assumes nothing.
-use Rattle.std.specs.Prelude.{◌≡◌, Bool, true, false, not, ℕ, zero, suc, ◌+◌, ◌-◌, ◌*◌, ◌^◌, ◌≤◌, ◌<◌, leb, ltb, get_or, take, drop}
+use Rattle.std.specs.Prelude.{◌≡◌, Bool, true, false, not, ℕ, zero, suc, ◌+◌, ◌-◌, ◌*◌, ◌^◌, ◌≤◌, ◌<◌, leb, ltb, get_or, take, drop, Option, None, Some}
 use Rattle.std.proofs.Math.Path.{refl, sym, ap, subst}
-use Rattle.std.proofs.Common.{ap₂, ◌∙◌, add-one, arith, drop_of_length-le, drop-cons, leb-true, le-leb, lt-ltb, ltb-true, ltb-false}
+use Rattle.std.proofs.Common.{◌∙◌, add-one, arith, drop_of_length-le, drop-cons, leb-true, le-leb, lt-ltb, ltb-true, ltb-false}
 use mathlib.Core.List.{List, [], ◌∷◌}
-use Rattle.std.proofs.Math.Option.{Option, none, some}
 use Rattle.std.proofs.Math.ListN.{length, get_or-eq_default}
 use Rattle.std.proofs.lemmas.List.Edits.{sets}
-use Rattle.laws.specs.Bools.{pick, and_left, every}
+use Rattle.laws.specs.Bools.{and_left, every}
 use Rattle.laws.proofs.BoolLaws.{and_right, and_both, every_get}
 use Rattle.laws.specs.Order.{pairs, lookup}
 use Rattle.words.specs.Words.{W}
 use Rattle.words.specs.Sets.{sets_all}
-use Rattle.units.specs.Types.{Payload, noop, command, Entry, same_payload}
+use Rattle.units.specs.Types.{Payload, Entry, same_payload}
 use Rattle.units.specs.declared.NodeId.{NodeId}
 use Rattle.units.specs.declared.LogIndex.{LogIndex}
 use Rattle.units.specs.declared.SimTime.{SimTime}
@@ -27,11 +26,11 @@ use Rattle.raft_log.specs.Log.{Log, entry_at}
 use Rattle.raft_log.specs.Places.{place}
 use Rattle.raft_log.specs.Payloads.{entry_place, place_start, entry_held}
 use Rattle.storage.specs.declared.waiting.Shape.{Shape}
-use Rattle.storage.specs.Storage.{Write, write_hard_state, write_put, write_truncate, put_index, written}
-use Rattle.storage.specs.Waiting.{waiting as waitingTable, put_within, entry_shape, shape_of, shape_at, nothing, Shows}
+use Rattle.storage.specs.Storage.{Write, written}
+use Rattle.storage.specs.Waiting.{waiting as waitingTable, put_within, shape_index, shape_at, nothing, Shows}
 use Rattle.queue.specs.Range.{word}
 use Rattle.checks.specs.declared.Check.TheVariants.{UniqueEntries}
-use Rattle.checks.specs.Checks.{Checker, Seen, seen_key, report_if, compare_seen, written_entry, on_write, on_writes}
+use Rattle.checks.specs.Checks.{Checker, Seen, seen_key, compare_seen, written_entry, on_write, on_writes}
 use Rattle.checks.specs.Asked.{seen_of}
 use Rattle.checks.specs.Entries.{seen as seenTable, seen_in, index_within}
 use Rattle.checks.specs.declared.TermLeader.{TermLeader}
@@ -40,7 +39,7 @@ use Rattle.checks_on_write.specs.declared.WriteAsked.{WriteAsked}
 use Rattle.checks_on_write.specs.declared.WritesAsked.{WritesAsked}
 use Rattle.checks_on_write.specs.OnWrite.{AsksWrite}
 use Rattle.checks_on_write.specs.OnWrites as region
-use Rattle.checks_on_write.specs.OnWrites.{write_index, shape_index, index_of}
+use Rattle.checks_on_write.specs.OnWrites.{write_index, index_of}
 use Rattle.checks_on_write.specs.WritesLaws.{shape_index_lem, one_write}
 use Rattle.model.specs.State.{State, server_at, id_of}
 use Rattle.state.specs.declared.Capacity.{Capacity}
@@ -64,7 +63,7 @@ pub record EntryGood (L P i : ℕ) (e : Entry) : Type 0 where
   pub term : is64 e.term.0 ≡ true
   pub payload : (payload P).good e.payload ≡ true
 
-pub entry_good : (L P : ℕ) (log : Log) → length log ≡ L → every (place P).good log ≡ true → (i : ℕ) (e : Entry) → entry_at log i ≡ some e
+pub entry_good : (L P : ℕ) (log : Log) → length log ≡ L → every (place P).good log ≡ true → (i : ℕ) (e : Entry) → entry_at log i ≡ Some e
     → EntryGood L P i e
 unfolding entry_at
 entry_good L P log ll lg zero e h = let z : ◌≡◌ {A = ℕ} 0 1 = cc in absurd (omega arith)
@@ -73,10 +72,10 @@ entry_good L P log ll lg (suc i) e h = by (ltb i (length log)) refl
     by : (t : Bool) → ltb i (length log) ≡ t → EntryGood L P (suc i) e
     by true u =
         let l : i < length log = ltb-true i (length log) u in
-        let g : (place P).good (some e) ≡ true = sym (ap (place P).good h) ∙ every_get (place P).good log i none l lg in
+        let g : (place P).good (Some e) ≡ true = sym (ap (place P).good h) ∙ every_get (place P).good log i None l lg in
         record { low = omega arith; high = omega (arith, l, ll); term = and_right _ _ g; payload = and_left _ _ g }
     by false u =
-        let o : none ≡ some e = sym (get_or-eq_default log none {n = i} (ltb-false i (length log) u)) ∙ h in
+        let o : None ≡ Some e = sym (get_or-eq_default log None {n = i} (ltb-false i (length log) u)) ∙ h in
         let z : ◌≡◌ {A = ℕ} 0 1 = cc in
         absurd (omega arith)
 
@@ -96,7 +95,7 @@ module _ (S L P : ℕ) (small : L ≤ 1024) (time : SimTime) (ht : word time.0 �
 
   compare_kept : (c : Checker) → Sound S L P c → (index : LogIndex) (e : Entry) → EntryGood L P index.0 e → (o : Option Seen)
       → Kept S L P c (compare_seen o c time server index e)
-  compare_kept c q index e g (some first) =
+  compare_kept c q index e g (Some first) =
       let t : Bool = not (same_payload first.payload e.payload) in
       let d : List ℕ = server.0 ∷ index.0 ∷ e.term.0 ∷ [] in
       record {
@@ -105,7 +104,7 @@ module _ (S L P : ℕ) (small : L ≤ 1024) (time : SimTime) (ht : word time.0 �
             leaders_if t c time UniqueEntries d;
         applied = applied_if_lem t c time UniqueEntries d;
       }
-  compare_kept c q index e g none =
+  compare_kept c q index e g None =
       let i : is64 index.0 ≡ true = lt-ltb index.0 (2 ^ 64) (omega (arith, g.high)) in
       let good : (seen_in L P).row.good (seen_of index e) ≡ true =
       and_both _ _ (and_both _ _ (and_both _ _ i g.term) g.payload)
@@ -117,8 +116,8 @@ module _ (S L P : ℕ) (small : L ≤ 1024) (time : SimTime) (ht : word time.0 �
   write_kept c q index = by (entry_at log index.0) refl
     where
       by : (o : Option Entry) → entry_at log index.0 ≡ o → Kept S L P c (written_entry o c time server index)
-      by none e = record { sound = q; leaders = refl; applied = refl }
-      by (some d) e = compare_kept c q index d (entry_good L P log ll lg index.0 d e)
+      by None e = record { sound = q; leaders = refl; applied = refl }
+      by (Some d) e = compare_kept c q index d (entry_good L P log ll lg index.0 d e)
           (lookup pairs seen_key (index.0, d.term.0) c.entries)
 
   pub writes_kept : (c : Checker) → Sound S L P c → (indexes : List LogIndex) → Kept S L P c (on_writes c time server log indexes)
@@ -347,7 +346,7 @@ payload_copied {b} {F} k {index} content {content'} {to} {row} i lo hi lc pb er 
     copying = record { place = i; high = hi; long = lc; block_begins = pb.is; room = pb.ends; start = er; is = ec }
 
     copied : (s : State) → Area b s → Copying (capacity_of s) b k index content content' to row → (e : Entry)
-        → entry_at (server_at s k).storage.current.log index.0 ≡ some e
+        → entry_at (server_at s k).storage.current.log index.0 ≡ Some e
         → Holds (payload s.limits.payload) content' e.payload
     copied s h c e q =
         let P : ℕ = s.limits.payload in

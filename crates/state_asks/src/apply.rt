@@ -10,6 +10,7 @@ use checks_on_apply::ApplyAsked;
 use layout::marked;
 use state::{Capacity, sizes};
 use units::LogIndex;
+use units::refusal::Refusal;
 
 // The index that the server at a place is expected to apply next.
 pub fn next_apply_of(area: &[u8], f: Capacity, k: usize) -> u64
@@ -24,7 +25,13 @@ pub fn next_apply_of(area: &[u8], f: Capacity, k: usize) -> u64
 }
 
 // What a payload that the server at a place applied gives, lent in words.
-fn row_asked(area: &[u8], f: Capacity, k: usize, index: LogIndex, content: &[u8]) -> ApplyAsked
+fn row_asked(
+    area: &[u8],
+    f: Capacity,
+    k: usize,
+    index: LogIndex,
+    content: &[u8],
+) -> Result<ApplyAsked, Refusal>
     requires inside { Inside area.now f }
     requires k_lt_servers { k < f.servers }
     requires content_len { length content.now ≡ 8 * (1 + words_for f.limits.payload) }
@@ -59,7 +66,7 @@ fn payload_asked(
     kind: u64,
     src: &[u8],
     content: &mut [u8],
-) -> ApplyAsked
+) -> Result<ApplyAsked, Refusal>
     requires inside { Inside area.now f }
     requires k_lt_servers { k < f.servers }
     requires kind_bound { kind ≤ 1 }
@@ -80,7 +87,7 @@ pub fn apply_asked(
     index: LogIndex,
     kind: u64,
     src: &[u8],
-) -> ApplyAsked
+) -> Result<ApplyAsked, Refusal>
     requires inside { Inside area.now f }
     requires k_lt_servers { k < f.servers }
     requires kind_bound { kind ≤ 1 }

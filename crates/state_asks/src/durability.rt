@@ -42,10 +42,8 @@ pub fn applied_up_to(area: &[u8], f: Capacity) -> [u64; 8]
     ensures { Reads area.now f (take f.servers result) up_to_of }
 {
     let mut up_to = [0u64; 8];
-    let mut k: usize = 0;
-    while k < f.servers as usize {
+    for k in 0..f.servers as usize {
         up_to[k] = applied_of(area, f, k);
-        k += 1;
     }
     up_to
 }

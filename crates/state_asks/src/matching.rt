@@ -1,16 +1,16 @@
 // Every pair of servers' logs (check_log_matching of checks.rs), those of stopped servers too.
 ghost use Rattle.std.specs.Prelude.{◌≡◌, ◌<◌};
-ghost use Rattle.checks_log_matching.specs.Matching.{mismatch_of};
 ghost use Rattle.state.specs.Changes.{Inside, Reads};
 ghost use Rattle.state_asks.specs.Asks.{Asks, mismatch_between, MatchingTold, MatchingGiven};
 
 use crate::numbers;
-use checks_log_matching::pairs::MatchingAsked;
-use checks_log_matching::{MismatchOption, pairs};
+use checks::Mismatch;
+use checks_log_matching::pairs;
 use state::{Capacity, sizes};
+use units::refusal::Refusal;
 
 // What every pair of logs gives, with the total of violations.
-fn matching_given(area: &[u8], f: Capacity, total: u64) -> MatchingAsked
+fn matching_given(area: &[u8], f: Capacity, total: u64) -> Result<u64, Refusal>
     requires { Inside area.now f }
     ensures { Asks area.now f (MatchingGiven total result) }
 {
@@ -29,7 +29,7 @@ fn matching_given(area: &[u8], f: Capacity, total: u64) -> MatchingAsked
 }
 
 // What every pair of logs gives to report.
-pub fn matching_asked(area: &[u8], f: Capacity) -> MatchingAsked
+pub fn matching_asked(area: &[u8], f: Capacity) -> Result<u64, Refusal>
     requires { Inside area.now f }
     ensures { Asks area.now f (MatchingTold result) }
 {
@@ -38,11 +38,11 @@ pub fn matching_asked(area: &[u8], f: Capacity) -> MatchingAsked
 }
 
 // How the logs of the servers at two places break log matching.
-pub fn mismatch_of(area: &[u8], f: Capacity, i: usize, j: usize) -> MismatchOption
+pub fn mismatch_of(area: &[u8], f: Capacity, i: usize, j: usize) -> Option<Mismatch>
     requires inside { Inside area.now f }
     requires i_lt_servers { i < f.servers }
     requires j_lt_servers { j < f.servers }
-    ensures { Reads area.now f (mismatch_of result) (mismatch_between i j) }
+    ensures { Reads area.now f result (mismatch_between i j) }
 {
     let limits = f.limits;
     let stride = sizes::block_words(f);

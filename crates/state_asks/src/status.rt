@@ -7,7 +7,7 @@ use crate::numbers;
 use checks_on_status::StatusAsked;
 use protocol::Status;
 use state::{Capacity, server, sizes};
-use units::{NodeId, TermOption};
+use units::{NodeId, Term};
 
 // Whether leader completeness is asked for.
 fn raft_checks_of(area: &[u8], f: Capacity) -> bool
@@ -18,7 +18,7 @@ fn raft_checks_of(area: &[u8], f: Capacity) -> bool
 }
 
 // The term that the server at a place leads.
-fn leading_of(area: &[u8], f: Capacity, k: usize) -> TermOption
+fn leading_of(area: &[u8], f: Capacity, k: usize) -> Option<Term>
     requires inside { Inside area.now f }
     requires k_lt_servers { k < f.servers }
     ensures { Reads area.now f result (leading_of k) }
@@ -41,7 +41,7 @@ fn status_given(
     applied: u64,
     total: u64,
     raft_checks: bool,
-    leading: TermOption,
+    leading: Option<Term>,
     status: Status,
 ) -> StatusAsked
     requires inside { Inside area.now f }

@@ -2,7 +2,6 @@
 // another.
 ghost use Rattle.std.specs.Prelude.{◌≡◌, ◌+◌, ◌*◌, ◌<◌, length};
 ghost use Rattle.layout.specs.Marked.{words_for};
-ghost use Rattle.checks_on_write.specs.OnWrites.{shape_index};
 ghost use Rattle.state.specs.Changes.{Inside, Reads};
 ghost use Rattle.state_asks.specs.Asks.{Asks, write_count_of, written_index_of, write_asked_of, PayloadTold, WritesTold, WritesGiven};
 
@@ -11,7 +10,6 @@ use checks_on_write::{WriteAsked, WritesAsked};
 use layout::rows;
 use state::{Capacity, sizes};
 use storage::waiting;
-use storage::waiting::Shape;
 use units::LogIndex;
 
 // ---- the waiting writes
@@ -26,22 +24,6 @@ pub fn write_count(area: &[u8], f: Capacity, k: usize) -> u64
     let a = 8 * at;
     let e = 8 * (at + 8);
     words::load(&area[a..e], 6)
-}
-
-// A put's index, or 0.
-fn put_index(shape: Shape) -> LogIndex
-    ensures { result ≡ shape_index shape }
-{
-    match shape {
-        Shape::HardState(_) => LogIndex(0),
-        Shape::Put {
-            index,
-            term: _,
-            kind: _,
-            length: _,
-        } => index,
-        Shape::Truncate(_) => LogIndex(0),
-    }
 }
 
 // The index of waiting write i of the server at a place where it is a put, else 0.
@@ -60,7 +42,7 @@ pub fn written_index(area: &[u8], f: Capacity, k: usize, i: usize) -> LogIndex
     let at = numbers::block_at(area, f, k) + (64 + 2 * sizes::log_words(f));
     let a = 8 * at;
     let e = 8 * (at + sizes::waiting_words(f));
-    put_index(waiting::write_at(&area[a..e], m, p, i))
+    waiting::write_at(&area[a..e], m, p, i).put_index()
 }
 
 // ---- one index

@@ -1,8 +1,7 @@
 -- What the proofs of acts.rt cite. Assumes nothing.
-use Rattle.std.specs.Prelude.{◌≡◌, refl, Bool, true, false, List, [], ◌∷◌, ℕ, ◌+◌, ltb}
+use Rattle.std.specs.Prelude.{◌≡◌, refl, Bool, true, false, List, [], ◌∷◌, ℕ, ◌+◌, ltb, Option, None, Some}
 use Rattle.std.proofs.Math.Path.{sym, ap, subst}
 use Rattle.std.proofs.Common.{◌∙◌}
-use Rattle.std.proofs.Math.Option.{Option, none, some}
 use Rattle.laws.specs.Bools.{◌and◌}
 use Rattle.units.specs.Types.{Payload, Entry}
 use Rattle.units.specs.declared.NodeId.{NodeId}
@@ -13,16 +12,13 @@ use Rattle.protocol.specs.declared.Status.{Status}
 use Rattle.raft_log.specs.Log.{Log, entry_at}
 use Rattle.checks.specs.declared.Check.TheVariants.{ElectionSafety, StateMachineSafety, ApplyOrder, UniqueEntries, LogMatching}
 use Rattle.checks.specs.declared.Check.TheVariants.{LeaderCompleteness, Durability}
-use Rattle.checks.specs.Checks.{Checker, Seen, Mismatch, report_if, on_apply, on_write, on_status}
+use Rattle.checks.specs.Checks.{Checker, Seen, report_if, on_apply, on_write, on_status}
 use Rattle.checks.specs.Asked.{insert_seen_if}
 use Rattle.checks_on_apply.specs.declared.ApplyAsked.{ApplyAsked}
 use Rattle.checks_on_write.specs.declared.WriteAsked.{WriteAsked}
 use Rattle.checks_on_write.specs.OnWrite.{write_asked, payload_of, write_acts}
 use Rattle.checks_on_write.specs.Laws.{write_does}
 use Rattle.checks_on_status.specs.declared.StatusAsked.{StatusAsked}
-use Rattle.checks_log_matching.specs.declared.MismatchOption.{MismatchOption}
-use Rattle.checks_log_matching.specs.declared.MismatchOption.TheVariants.{None as NoMismatch, Some as SomeMismatch}
-use Rattle.checks_log_matching.specs.Matching.{mismatch_of}
 use Rattle.checks_log_matching.specs.Pairs.{reported_mismatch}
 use Rattle.model.specs.State.{State, server_at, id_of}
 use Rattle.model.specs.Fields.{with_checker}
@@ -33,6 +29,7 @@ use Rattle.state_checks.specs.Checked.{reported_if, applied_if, led_if, seen_if,
 use Rattle.state_checks.specs.FitLaws.{fits_checks, before_reported, before_applied, before_led, before_seen_of}
 use Rattle.state_checks.specs.Acts.{ChangesWhere, apply_checked, ApplyFlags, write_checked, WriteFlags, status_checked, StatusFlags}
 use Rattle.state_checks.specs.Acts.{ActsStatus, mismatch_reported, missing_reported, behind_reported}
+use Rattle.checks.specs.declared.Mismatch.{Mismatch}
 
 -- ---- a payload applied
 
@@ -125,7 +122,7 @@ module _ (r : StatusAsked) (time : SimTime) (server : NodeId) (status : Status) 
 
 -- ---- an index written
 
-none_fresh : (r : WriteAsked) (index : LogIndex) (xs : List Seen) → r ≡ write_asked none index xs → r.fresh ≡ false
+none_fresh : (r : WriteAsked) (index : LogIndex) (xs : List Seen) → r ≡ write_asked None index xs → r.fresh ≡ false
 unfolding write_asked
 none_fresh r index xs p = ap (λ (a : WriteAsked). a.fresh) p
 
@@ -150,10 +147,10 @@ module _ (k : ℕ) (time : SimTime) (index : LogIndex) where
         by : (o : Option Entry) → r ≡ write_asked o index s.checker.entries
             → seen_maybe o r.fresh index r.term (reported s) ≡ with_checker s
             (insert_seen_if r.fresh (record { index = index; term = r.term; payload = payload_of o }) c₁)
-        by none q =
-            ap (λ (z : Bool). with_checker s (insert_seen_if z (record { index = index; term = r.term; payload = payload_of none }) c₁))
+        by None q =
+            ap (λ (z : Bool). with_checker s (insert_seen_if z (record { index = index; term = r.term; payload = payload_of None }) c₁))
             (sym (none_fresh r index s.checker.entries q))
-        by (some d) q = refl
+        by (Some d) q = refl
 
     pub write_acted : (b b₁ b₂ : List ℕ) (F : Capacity)
         → Changes b b₁ F (reported_if r.other time UniqueEntries ((k + 1) ∷ index.0 ∷ r.term.0 ∷ []))
@@ -175,26 +172,26 @@ module _ (k : ℕ) (time : SimTime) (index : LogIndex) where
 
 -- ---- a pair of logs
 
-module _ (b : List ℕ) (F : Capacity) (found : MismatchOption) (time : SimTime) (i j : NodeId) where
-  pub no_mismatch : found ≡ NoMismatch → Changes b b F (mismatch_reported (mismatch_of found) time i j)
-  unfolding mismatch_reported mismatch_of reported_mismatch
+module _ (b : List ℕ) (F : Capacity) (found : Option Mismatch) (time : SimTime) (i j : NodeId) where
+  pub no_mismatch : found ≡ None → Changes b b F (mismatch_reported found time i j)
+  unfolding mismatch_reported reported_mismatch
   no_mismatch e =
-      record { to = λ s r h u. subst (λ (m : MismatchOption). AreaOf b r F (mismatch_reported (mismatch_of m) time i j s)) (sym e) h }
+      record { to = λ s r h u. subst (λ (m : Option Mismatch). AreaOf b r F (mismatch_reported m time i j s)) (sym e) h }
 
-  pub mismatch_reported_lem : (b₁ : List ℕ) (term : Term) (index difference : LogIndex) → found ≡ SomeMismatch term index difference
+  pub mismatch_reported_lem : (b₁ : List ℕ) (term : Term) (index difference : LogIndex) → found ≡ Some (record { term = term; index = index; difference = difference })
       → Changes b b₁ F (reported_if true time LogMatching (i.0 ∷ j.0 ∷ term.0 ∷ index.0 ∷ difference.0 ∷ []))
-      → Changes b b₁ F (mismatch_reported (mismatch_of found) time i j)
-  unfolding mismatch_reported mismatch_of reported_mismatch reported_if
+      → Changes b b₁ F (mismatch_reported found time i j)
+  unfolding mismatch_reported reported_mismatch reported_if
   mismatch_reported_lem b₁ term index difference e p =
-      subst (λ (m : MismatchOption). Changes b b₁ F (mismatch_reported (mismatch_of m) time i j)) (sym e) (record { to = p.to })
+      subst (λ (m : Option Mismatch). Changes b b₁ F (mismatch_reported m time i j)) (sym e) (record { to = p.to })
 
 pub ruleset mismatches = (no_mismatch, mismatch_reported_lem)
 
 pub before_mismatch : (m : Option Mismatch) (time : SimTime) (i j : NodeId) (s : State) → state_fits (mismatch_reported m time i j s) ≡ true
     → state_fits s ≡ true
 unfolding mismatch_reported reported_mismatch reported_if
-before_mismatch none time i j s u = u
-before_mismatch (some m) time i j s u = before_reported s time LogMatching (i.0 ∷ j.0 ∷ m.term ∷ m.index ∷ m.difference ∷ []) true u
+before_mismatch None time i j s u = u
+before_mismatch (Some m) time i j s u = before_reported s time LogMatching (i.0 ∷ j.0 ∷ m.term.0 ∷ m.index.0 ∷ m.difference.0 ∷ []) true u
 
 -- ---- durability
 

@@ -1,6 +1,5 @@
 -- Each check acted on, where its question answered flags: what contracts cite. Assumes nothing.
-use Rattle.std.specs.Prelude.{◌≡◌, Bool, true, List, [], ◌∷◌, ℕ, ltb}
-use Rattle.std.proofs.Math.Option.{Option}
+use Rattle.std.specs.Prelude.{◌≡◌, Bool, true, List, [], ◌∷◌, ℕ, ltb, Option}
 use Rattle.units.specs.Types.{Payload}
 use Rattle.units.specs.declared.NodeId.{NodeId}
 use Rattle.units.specs.declared.Term.{Term}
@@ -9,7 +8,8 @@ use Rattle.units.specs.declared.SimTime.{SimTime}
 use Rattle.protocol.specs.declared.Status.{Status}
 use Rattle.raft_log.specs.Log.{Log}
 use Rattle.checks.specs.declared.Check.TheVariants.{Durability}
-use Rattle.checks.specs.Checks.{Mismatch, report_if, on_apply, on_write, on_status}
+use Rattle.checks.specs.declared.Mismatch.{Mismatch}
+use Rattle.checks.specs.Checks.{report_if, on_apply, on_write, on_writes, on_status}
 use Rattle.checks_on_apply.specs.declared.ApplyAsked.{ApplyAsked}
 use Rattle.checks_on_apply.specs.OnApply.{apply_acts}
 use Rattle.checks_on_write.specs.declared.WriteAsked.{WriteAsked}
@@ -44,6 +44,10 @@ ApplyFlags r time server index x expected s =
 -- The state with an index checked that the server at a place has written.
 unfoldable pub write_checked : ℕ → SimTime → LogIndex → State → State
 write_checked k time index s = with_checker s (on_write s.checker time (id_of k) (server_at s k).storage.current.log index)
+
+-- The state with several indexes checked that the server at a place has written.
+unfoldable pub writes_checked : ℕ → SimTime → List LogIndex → State → State
+writes_checked k time indexes s = with_checker s (on_writes s.checker time (id_of k) (server_at s k).storage.current.log indexes)
 
 -- The flags are the answer about the entry there, against the entries seen.
 unfoldable pub WriteFlags : WriteAsked → ℕ → LogIndex → State → Type 0

@@ -1,6 +1,5 @@
 -- What the checks write, as changes of the whole state: what contracts cite. Assumes nothing.
-use Rattle.std.specs.Prelude.{◌≡◌, Bool, not, List, ℕ, ◌*◌, get_or}
-use Rattle.std.proofs.Math.Option.{Option, none, some}
+use Rattle.std.specs.Prelude.{◌≡◌, Bool, not, List, ℕ, ◌*◌, get_or, Option, None, Some}
 use Rattle.std.proofs.lemmas.List.Edits.{sets}
 use Rattle.laws.specs.Lists.{is_some}
 use Rattle.laws.specs.Order.{numbers, pairs, lookup}
@@ -65,8 +64,8 @@ entry_of k index s = entry_at (server_at s k).storage.current.log index.0
 
 -- An entry that may be there, seen under an index and a term.
 abbrev pub seen_maybe : Option Entry → Bool → LogIndex → Term → State → State
-seen_maybe none due index term s = s
-seen_maybe (some e) due index term s = seen_if due index term e.payload s
+seen_maybe None due index term s = s
+seen_maybe (Some e) due index term s = seen_if due index term e.payload s
 
 -- The entry at an index of a server's current log seen, where a test is true, it is there, and none was seen under the index and the term.
 unfoldable pub seen_of_if : Bool → ℕ → LogIndex → Term → State → State
@@ -75,12 +74,12 @@ seen_of_if due k index term s = seen_maybe (entry_of k index s) due index term s
 -- Whatever log of l places the bytes b hold, r is whether an entry is at index i, and the row is then its payload's.
 pub record CopiesRow (p l i : ℕ) (r : Bool) (b row : List ℕ) : Type 0 where
   pub there : (N : ℕ) (log : Log) → Held (places p) N l b log → r ≡ is_some (entry_at log i)
-  pub held : (N : ℕ) (log : Log) → Held (places p) N l b log → (e : Entry) → entry_at log i ≡ some e → Holds (payload p) row e.payload
+  pub held : (N : ℕ) (log : Log) → Held (places p) N l b log → (e : Entry) → entry_at log i ≡ Some e → Holds (payload p) row e.payload
 
 -- The same of the current log of the server at place k, whatever state with these counts the bytes b hold.
 pub record CopiesEntry (b : List ℕ) (F : Capacity) (k : ℕ) (index : LogIndex) (r : Bool) (row : List ℕ) : Type 0 where
   pub there : (s : State) → Area b s → F ≡ capacity_of s → r ≡ is_some (entry_of k index s)
-  pub held : (s : State) → Area b s → F ≡ capacity_of s → (e : Entry) → entry_of k index s ≡ some e
+  pub held : (s : State) → Area b s → F ≡ capacity_of s → (e : Entry) → entry_of k index s ≡ Some e
       → Holds (payload F.limits.payload) row e.payload
 
 -- ---- a table and its count

@@ -1,5 +1,5 @@
 -- What the proofs of entries seen cite. Assumes nothing.
-use Rattle.std.specs.Prelude.{◌≡◌, Bool, ℕ, ◌+◌, ◌*◌, ◌≤◌, ◌<◌, ltb}
+use Rattle.std.specs.Prelude.{◌≡◌, Bool, ℕ, ◌+◌, ◌*◌, ◌≤◌, ◌<◌, ltb, Result, Ok, Err}
 use Rattle.std.proofs.Math.Path.{refl, ap, ap₂, subst}
 use Rattle.std.proofs.Common.{sym, ◌∙◌, arith}
 use Rattle.std.proofs.Math.Bool.{true, false, not}
@@ -16,8 +16,6 @@ use Rattle.units.specs.Types.{Payload}
 use Rattle.units.specs.declared.LogIndex.{LogIndex}
 use Rattle.units.specs.declared.Term.{Term}
 use Rattle.words.specs.Words.{W, bytes, bytes_of as bytesOfNumber}
-use Rattle.layout.specs.declared.rows.Found.{Found}
-use Rattle.layout.specs.declared.rows.Found.TheVariants.{At, Absent}
 use Rattle.layout.specs.Tables.{Holds, Held, rows_in}
 use Rattle.layout.specs.TableLaws.{held_rows, rows_are, such_plain}
 use Rattle.layout.specs.Parts.{lent_row, back_row, length_lent_row}
@@ -80,7 +78,7 @@ seen_lent {b} {s} h n en =
 
 -- ---- whether an entry was seen
 
-module _ (b : List ℕ) (F : Capacity) (n at w : ℕ) (index : LogIndex) (term : Term) (f : Found) (o : Inside b F)
+module _ (b : List ℕ) (F : Capacity) (n at w : ℕ) (index : LogIndex) (term : Term) (f : Result ℕ ℕ) (o : Inside b F)
     (p : Reads b F n (count_at 1)) (pa : Counted at (seen_at F)) (pw : Counted w (seen_words F))
     (e : f ≡ find pairs (index.0, term.0) (heads two (3 + words_for F.limits.payload) n (W (lent_row at w b)))) (i : ℕ) where
   -- the same for a state with these counts
@@ -99,7 +97,7 @@ module _ (b : List ℕ) (F : Capacity) (n at w : ℕ) (index : LogIndex) (term :
   unfolding count_at
   rows s h ef = rows_are (seen_lent h n (p.to s h ef))
 
-  pub entry_there : f ≡ At i → Reads b F false (unseen index term)
+  pub entry_there : f ≡ Ok i → Reads b F false (unseen index term)
   unfolding unseen
   entry_there t = record {
     to = λ s h ef.
@@ -108,7 +106,7 @@ module _ (b : List ℕ) (F : Capacity) (n at w : ℕ) (index : LogIndex) (term :
         ∙ ap (λ (y : List Seen). not (is_some (lookup pairs seen_key (index.0, term.0) y))) (rows s h ef);
   }
 
-  pub entry_absent : f ≡ Absent i → Reads b F true (unseen index term)
+  pub entry_absent : f ≡ Err i → Reads b F true (unseen index term)
   unfolding unseen
   entry_absent t = record {
     to = λ s h ef.

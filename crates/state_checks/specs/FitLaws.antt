@@ -1,5 +1,5 @@
 -- Question 10 of what the checks write: the test of what was changed, and all tests that were before. Assumes nothing.
-use Rattle.std.specs.Prelude.{◌≡◌, ℕ, ◌+◌, ◌^◌, ◌<◌, length, get_or}
+use Rattle.std.specs.Prelude.{◌≡◌, ℕ, ◌+◌, ◌^◌, ◌<◌, length, get_or, Option, None, Some}
 use Rattle.std.proofs.Math.Path.{refl, sym, ap}
 use Rattle.std.proofs.Common.{◌∙◌, arith}
 use Rattle.std.proofs.Math.Bool.{Bool, true, false}
@@ -9,7 +9,6 @@ use Rattle.std.proofs.Math.ListN.{set, length-append}
 use borrow.Author.Tests.{lt-ltb, le-leb, ltb-true}
 use Rattle.laws.specs.Bools.{pick, pick_both, cases, ◌and◌, allb, and_assoc, and_true}
 use Rattle.laws.proofs.BoolLaws.{true_and}
-use Rattle.std.proofs.Math.Option.{Option, none, some}
 use Rattle.units.specs.Types.{Payload, Entry}
 use Rattle.laws.specs.Order.{numbers, pairs, insert_by}
 use Rattle.units.specs.declared.NodeId.{NodeId}
@@ -251,8 +250,8 @@ before_seen s index term x false h = h
 
 -- The same of an entry that may be there.
 abbrev pub see_maybe_fits : Option Entry → LogIndex → Term → State → Bool
-see_maybe_fits none index term s = true
-see_maybe_fits (some e) index term s = see_fits index term e.payload s
+see_maybe_fits None index term s = true
+see_maybe_fits (Some e) index term s = see_fits index term e.payload s
 
 module _ (s : State) (k : ℕ) (index : LogIndex) (term : Term)
     (h : table_fits (seen_in s.limits.log_indexes s.limits.payload) s.limits.history s.checker.entries ≡ true) where
@@ -262,8 +261,8 @@ module _ (s : State) (k : ℕ) (index : LogIndex) (term : Term)
   fits_seen_of due = by (entry_of k index s)
     where
       by : (o : Option Entry) → state_fits (seen_maybe o due index term s) ≡ (pick due (see_maybe_fits o index term s) true and state_fits s)
-      by none = sym (ap (λ (u : Bool). u and state_fits s) (pick_both (λ (u : Bool). u ≡ true) due refl refl) ∙ true_and _)
-      by (some e) = fits_seen s index term e.payload h due
+      by None = sym (ap (λ (u : Bool). u and state_fits s) (pick_both (λ (u : Bool). u ≡ true) due refl refl) ∙ true_and _)
+      by (Some e) = fits_seen s index term e.payload h due
 
 pub before_seen_of : (s : State) (k : ℕ) (index : LogIndex) (term : Term) (due : Bool) → state_fits (seen_of_if due k index term s) ≡ true
     → state_fits s ≡ true
@@ -271,5 +270,5 @@ unfolding seen_of_if
 before_seen_of s k index term due h = by (entry_of k index s) h
   where
     by : (o : Option Entry) → state_fits (seen_maybe o due index term s) ≡ true → state_fits s ≡ true
-    by none h = h
-    by (some e) h = before_seen s index term e.payload due h
+    by None h = h
+    by (Some e) h = before_seen s index term e.payload due h

@@ -1,10 +1,9 @@
 -- What the proofs of leaders cite. Assumes nothing.
-use Rattle.std.specs.Prelude.{◌≡◌, Bool, ltb, eqb}
+use Rattle.std.specs.Prelude.{◌≡◌, Bool, ltb, eqb, Option, None, Some}
 use Rattle.std.proofs.Math.Path.{refl, sym, ap, ap₂, subst}
 use Rattle.std.proofs.Common.{◌∙◌, arith}
 use Rattle.std.proofs.Math.Bool.{true, false, not}
 use mathlib.Core.List.{List}
-use Rattle.std.proofs.Math.Option.{Option, none, some}
 use Prim.Native.Nat.{ℕ, ◌+◌, ◌*◌, ◌≤◌, ◌<◌}
 use Rattle.std.proofs.Math.Dec.{leb}
 use Rattle.std.proofs.Math.ListN.{length, set}
@@ -22,11 +21,12 @@ use Rattle.layout.specs.Tables.{Held}
 use Rattle.layout.specs.TableLaws.{held_rows}
 use Rattle.layout.specs.Parts.{lent_row, back_row}
 use Rattle.checks.specs.declared.TermLeader.{TermLeader}
-use Rattle.checks.specs.declared.leaders.LeaderSeen.{LeaderSeen}
-use Rattle.checks.specs.declared.leaders.LeaderSeen.TheVariants.{Same, Other}
+use Rattle.checks.specs.declared.Compared.{Compared}
+use Rattle.checks.specs.declared.Compared.TheVariants.{Same, Other}
+use Rattle.checks.specs.Compared.{is_new}
 use Rattle.checks.specs.Checks.{leader_key, with_leaders}
 use Rattle.checks.specs.Asked.{insert_leader_if}
-use Rattle.checks.specs.Leaders.{leaders, is_new, leader_seen, AsksLeader, InsertsLeader}
+use Rattle.checks.specs.Leaders.{leaders, leader_seen, AsksLeader, InsertsLeader}
 use Rattle.model.specs.State.{State}
 use Rattle.model.specs.Fields.{with_checker}
 use Rattle.model.specs.Fits.{state_fits}
@@ -69,14 +69,14 @@ leaders_lent {b} {s} h n at en ea =
 
 seen_new : (o : Option TermLeader) (server : NodeId) → is_new (leader_seen o server) ≡ not (is_some o)
 unfolding leader_seen
-seen_new none server = refl
-seen_new (some first) server = by (eqb first.server.0 server.0)
+seen_new None server = refl
+seen_new (Some first) server = by (eqb first.server.0 server.0)
   where
     by : (t : Bool) → is_new (pick t Same (Other first.server)) ≡ false
     by true = refl
     by false = refl
 
-pub leaderless_read : (b : List ℕ) (F : Capacity) (n at : ℕ) (term : Term) (server : NodeId) (q : LeaderSeen) (r : Bool)
+pub leaderless_read : (b : List ℕ) (F : Capacity) (n at : ℕ) (term : Term) (server : NodeId) (q : Compared NodeId) (r : Bool)
     → Reads b F n (count_at 2) → Counted at (leaders_at F)
     → AsksLeader server term n q (lent_row at (F.limits.history * 2) b) → r ≡ is_new q → Reads b F r (leaderless term)
 unfolding leaderless count_at

@@ -1,10 +1,9 @@
 -- What the proofs of an entry of a server's log cite. Assumes nothing.
-use Rattle.std.specs.Prelude.{◌≡◌, Bool, false, length, get_or, take, drop, ltb}
+use Rattle.std.specs.Prelude.{◌≡◌, Bool, false, length, get_or, take, drop, ltb, Option, None, Some}
 use Rattle.std.proofs.Math.Path.{refl, subst}
 use Rattle.std.proofs.Common.{sym, ap, ap₂, ◌∙◌, arith, lt-ltb}
 use Rattle.std.proofs.Math.Bool.{true}
 use mathlib.Core.List.{List, [], append-nil}
-use Rattle.std.proofs.Math.Option.{Option, none, some}
 use Prim.Native.Nat.{ℕ, zero, suc, ◌+◌, ◌-◌, ◌*◌, ◌≤◌, ◌<◌}
 use Rattle.std.proofs.Math.ListN.{get_or-eq_default}
 use Rattle.std.proofs.lemmas.List.Edits.{sets}
@@ -105,23 +104,23 @@ zero_word (suc n) = refl
 
 -- the first word of a payload that may be absent
 first_word : (p : ℕ) (row : List ℕ) (o : Option Entry) → Holds (payload_code p) row (payload_in o) → ltb 0 (get_or (W row) 0 0) ≡ is_some o
-first_word p row none h = ap (λ (ws : List ℕ). ltb 0 (get_or ws 0 0)) (holds_w h) ∙ ap (ltb 0) (zero_word (1 + words_for p))
-first_word p row (some e) h =
+first_word p row None h = ap (λ (ws : List ℕ). ltb 0 (get_or ws 0 0)) (holds_w h) ∙ ap (ltb 0) (zero_word (1 + words_for p))
+first_word p row (Some e) h =
     let m : 0 < get_or ((payload p).enc e.payload) 0 0 =
     subst (λ (ws : List ℕ). 0 < get_or ws 0 0) (append-nil ((payload p).enc e.payload)) (payload_marked p e.payload [] h.good) in
     ap (λ (ws : List ℕ). ltb 0 (get_or ws 0 0)) (holds_w h) ∙ lt-ltb 0 (get_or ((payload p).enc e.payload) 0 0) m
 
-no_entry : (x : Log) (l i : ℕ) → length x ≡ l → l < i → entry_at x i ≡ none
+no_entry : (x : Log) (l i : ℕ) → length x ≡ l → l < i → entry_at x i ≡ None
 unfolding entry_at
 no_entry x l zero e h = absurd (omega arith)
-no_entry x l (suc i) e h = get_or-eq_default x none {n = i} (omega arith)
+no_entry x l (suc i) e h = get_or-eq_default x None {n = i} (omega arith)
 
-none_some : (e : Entry) → none ≡ some e → ⊥
+none_some : (e : Entry) → None ≡ Some e → ⊥
 none_some e q = let z : ◌≡◌ {A = ℕ} 0 1 = cc in absurd (omega arith)
 
 module _ (p l i : ℕ) (b row : List ℕ) where
   -- no place has that index
-  nothing : ((N : ℕ) (log : Log) → Held (places p) N l b log → entry_at log i ≡ none) → CopiesRow p l i false b row
+  nothing : ((N : ℕ) (log : Log) → Held (places p) N l b log → entry_at log i ≡ None) → CopiesRow p l i false b row
   nothing f = record {
     there = λ N log h. sym (ap is_some (f N log h));
     held = λ N log h e q. absurd (none_some e (sym (f N log h) ∙ q));
@@ -131,7 +130,7 @@ module _ (p l i : ℕ) (b row : List ℕ) where
   unfolding entry_at
   copies_zero h = nothing (λ N log q. by i h log)
     where
-      by : (j : ℕ) → j < 1 → (log : Log) → entry_at log j ≡ none
+      by : (j : ℕ) → j < 1 → (log : Log) → entry_at log j ≡ None
       by zero m log = refl
       by (suc j) m log = absurd (omega arith)
 
@@ -150,8 +149,8 @@ module _ (p l i : ℕ) (b row : List ℕ) where
       record {
         there = λ N log h.
             ap (ltb 0) em
-            ∙ first_word p row' (get_or log (i - 1) none)
-            (subst (λ (u : List ℕ). Holds (payload_code p) u (payload_in (get_or log (i - 1) none))) (sym whole)
+            ∙ first_word p row' (get_or log (i - 1) None)
+            (subst (λ (u : List ℕ). Holds (payload_code p) u (payload_in (get_or log (i - 1) None))) (sym whole)
             (payload_held p l h (i - 1) at j start))
             ∙ ap is_some (sym (entry_place log i lo));
         held = λ N log h d q. subst (λ (u : List ℕ). Holds (payload p) u d.payload) (sym whole)
@@ -202,8 +201,8 @@ module _ (b : List ℕ) (F : Capacity) (k : ℕ) (index : LogIndex) (term : Term
       where
         by : (s : State) (r : List ℕ) → AreaOf b r F s → (o : Option Entry) → entry_of k index s ≡ o → is_some o ≡ true
             → state_fits (seen_maybe o true index term s) ≡ true → AreaOf b₂ r F (seen_maybe o true index term s)
-        by s r h none e y u = absurd (false_true y)
-        by s r h (some x) e y u = (g.to x.payload (c.held s h.area h.capacity x e)).to s r h u
+        by s r h None e y u = absurd (false_true y)
+        by s r h (Some x) e y u = (g.to x.payload (c.held s h.area h.capacity x e)).to s r h u
 
   -- where it is due
   module _ (due : Bool) where
@@ -212,8 +211,8 @@ module _ (b : List ℕ) (F : Capacity) (k : ℕ) (index : LogIndex) (term : Term
     not_due t = record { to = λ s r h u. by s r h (entry_of k index s) }
       where
         by : (s : State) (r : List ℕ) → AreaOf b r F s → (o : Option Entry) → AreaOf b r F (seen_maybe o due index term s)
-        by s r h none = h
-        by s r h (some e) = subst (λ (d : Bool). AreaOf b r F (seen_if d index term e.payload s)) (sym t) h
+        by s r h None = h
+        by s r h (Some e) = subst (λ (d : Bool). AreaOf b r F (seen_if d index term e.payload s)) (sym t) h
 
     pub is_due : (b₂ : List ℕ) → due ≡ true → Changes b b₂ F (seen_of_if true k index term) → Changes b b₂ F (seen_of_if due k index term)
     is_due b₂ t g = subst (λ (d : Bool). Changes b b₂ F (seen_of_if d k index term)) (sym t) g

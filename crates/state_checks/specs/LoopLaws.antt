@@ -1,28 +1,24 @@
 -- A check of many, one after another: what checks the rest checks the whole, and a state before fits where the state after does. Assumes
 -- nothing.
-use Rattle.std.specs.Prelude.{◌≡◌, true, ℕ, ◌+◌, ◌-◌, get_or, drop}
+use Rattle.std.specs.Prelude.{◌≡◌, true, ℕ, ◌+◌, ◌-◌, get_or, drop, Option}
 use Rattle.std.proofs.Math.Path.{refl}
 use Rattle.std.proofs.Math.Bool.{Bool, not}
 use mathlib.Core.List.{List, [], ◌∷◌}
-use Rattle.std.proofs.Math.Option.{Option}
 use Rattle.laws.specs.Lists.{at}
 use Rattle.units.specs.declared.SimTime.{SimTime}
 use Rattle.units.specs.declared.LogIndex.{LogIndex}
 use Rattle.raft_log.specs.Log.{Log}
-use Rattle.checks.specs.Checks.{Mismatch, ServerLog, Acknowledged, AppliedUpTo, is_payload, on_writes, log_matching_failure}
+use Rattle.checks.specs.declared.Mismatch.{Mismatch}
+use Rattle.checks.specs.Checks.{ServerLog, Acknowledged, AppliedUpTo, is_payload, on_writes, log_matching_failure}
 use Rattle.checks.specs.Checks.{check_against, check_log_matching, check_acknowledged, check_applied_up_to}
 use Rattle.checks_log_matching.specs.Pairs.{reported_mismatch, server_log, server_logs, check_rest}
-use Rattle.model.specs.State.{State, server_at, id_of}
+use Rattle.model.specs.State.{State}
 use Rattle.model.specs.Fields.{with_checker}
 use Rattle.model.specs.Fits.{state_fits}
-use Rattle.state_checks.specs.Acts.{write_checked, mismatch_reported, missing_reported, behind_reported}
+use Rattle.state_checks.specs.Acts.{write_checked, writes_checked, mismatch_reported, missing_reported, behind_reported}
 use Rattle.state_checks.specs.ActLaws.{before_write, before_mismatch, before_missing, before_behind}
 
 -- ---- written indexes
-
--- The state with several indexes checked that the server at a place has written.
-unfoldable pub writes_checked : ℕ → SimTime → List LogIndex → State → State
-writes_checked k time indexes s = with_checker s (on_writes s.checker time (id_of k) (server_at s k).storage.current.log indexes)
 
 module _ (k : ℕ) (time : SimTime) where
   pub writes_done : (s : State) → writes_checked k time [] s ≡ s

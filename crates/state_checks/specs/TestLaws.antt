@@ -1,10 +1,9 @@
 -- Tests of lists and of tables, of which one part is another. Assumes nothing.
-use Rattle.std.specs.Prelude.{◌≡◌, Bool, ℕ, zero, suc, ◌+◌, ◌≤◌, ◌<◌, leb, ltb, length, get_or, set}
+use Rattle.std.specs.Prelude.{◌≡◌, Bool, ℕ, zero, suc, ◌+◌, ◌≤◌, ◌<◌, leb, ltb, length, get_or, set, Option, None, Some}
 use Rattle.std.proofs.Math.Path.{refl, ap}
 use Rattle.std.proofs.Common.{sym, ap₂, ◌∙◌, arith, length-append, le-leb, ltb-true, ltb-false, leb-true}
 use Rattle.std.proofs.Math.Bool.{true, false}
 use mathlib.Core.List.{List, [], ◌∷◌, ◌++◌, map}
-use Rattle.std.proofs.Math.Option.{Option, none, some}
 use Rattle.std.proofs.lemmas.Bool.{lt-leb}
 use Rattle.laws.specs.Bools.{pick, cases, ◌and◌, allb, and_left, no_and, and_assoc, and_true, every}
 use Rattle.laws.proofs.BoolLaws.{and_right, and_both, true_and, every_append}
@@ -86,7 +85,7 @@ module _ {K T : Type 0} (O : Order K) (key : T → K) where
   insert_known a [] h = absurd (false_true h)
   insert_known a (b ∷ x) h = by (O.before (key b) (key a)) (O.before (key a) (key b)) h (insert_known a x)
     where
-      by : (p q : Bool) → is_some (pick p (lookup O key (key a) x) (pick q none (some b))) ≡ true
+      by : (p q : Bool) → is_some (pick p (lookup O key (key a) x) (pick q None (Some b))) ≡ true
           → (is_some (lookup O key (key a) x) ≡ true → insert_by O key a x ≡ x)
           → pick p (b ∷ insert_by O key a x) (pick q (a ∷ b ∷ x) (b ∷ x)) ≡ b ∷ x
       by true q h f = ap (λ (l : List T). b ∷ l) (f h)
@@ -100,7 +99,7 @@ module _ {K T : Type 0} (O : Order K) (key : T → K) where
   every_new p a [] h = refl
   every_new p a (b ∷ x) h = by (O.before (key b) (key a)) (O.before (key a) (key b)) h (every_new p a x)
     where
-      by : (u v : Bool) → is_some (pick u (lookup O key (key a) x) (pick v none (some b))) ≡ false
+      by : (u v : Bool) → is_some (pick u (lookup O key (key a) x) (pick v None (Some b))) ≡ false
           → (is_some (lookup O key (key a) x) ≡ false → every p (insert_by O key a x) ≡ (p a and every p x))
           → every p (pick u (b ∷ insert_by O key a x) (pick v (a ∷ b ∷ x) (b ∷ x))) ≡ (p a and (p b and every p x))
       by true v h f = ap (λ (w : Bool). p b and w) (f h) ∙ and_swap (p b) (p a) (every p x)
@@ -178,6 +177,6 @@ module _ {K T : Type 0} (O : Order K) (key : T → K) where
       (keyed x ∙ rising_before a x (sym (keyed (insert_by O key a x)) ∙ table_rule t room (insert_by O key a x) h)))
 
 -- an option that holds nothing
-pub is_none : {A : Type 0} (o : Option A) → is_some o ≡ false → o ≡ none
-is_none none h = refl
-is_none (some a) h = absurd (false_true (sym h))
+pub is_none : {A : Type 0} (o : Option A) → is_some o ≡ false → o ≡ None
+is_none None h = refl
+is_none (Some a) h = absurd (false_true (sym h))

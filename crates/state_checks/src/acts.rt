@@ -1,15 +1,12 @@
 // Each check acted on, where its question answered flags: violations reported in the order of the definition, and what is remembered.
 ghost use Rattle.std.specs.Prelude.{◌≡◌, ◌*◌, ◌≤◌, ◌<◌, length};
 ghost use Rattle.units.specs.Types.{payload_of};
-ghost use Rattle.checks_log_matching.specs.Matching.{mismatch_of};
 ghost use Rattle.state.specs.Changes.{Inside, Changes};
 ghost use Rattle.state_checks.specs.Acts.{ChangesWhere, ApplyFlags, apply_checked};
 ghost use Rattle.state_checks.specs.Acts.{WriteFlags, write_checked, ActsStatus, mismatch_reported, missing_reported};
 ghost use Rattle.state_checks.specs.Acts.{behind_reported};
 
-use checks::Check;
-use checks::violations::Detail;
-use checks_log_matching::MismatchOption;
+use checks::{Check, Mismatch};
 use checks_on_apply::ApplyAsked;
 use checks_on_status::StatusAsked;
 use checks_on_write::WriteAsked;
@@ -35,10 +32,17 @@ pub fn on_apply_act(
         (ApplyFlags asked time server index (payload_of kind src.now) expected)
         (apply_checked time server index (payload_of kind src.now) expected) }
 {
-    let late = Detail::Three(server.0, index.0, expected);
-    let other = Detail::Two(server.0, index.0);
-    crate::keep(area, f, asked.late, time, Check::ApplyOrder, late);
-    crate::keep(area, f, asked.other, time, Check::StateMachineSafety, other);
+    let late = [server.0, index.0, expected];
+    let other = [server.0, index.0];
+    crate::keep(area, f, asked.late, time, Check::ApplyOrder, &late);
+    crate::keep(
+        area,
+        f,
+        asked.other,
+        time,
+        Check::StateMachineSafety,
+        &other,
+    );
     crate::apply_payload(area, f, asked.next, kind, src);
 }
 
@@ -55,11 +59,18 @@ pub fn on_status_act(
     ensures { ActsStatus area.old area.new f asked time server status }
 {
     let term = status.term;
-    let other = Detail::Three(asked.first, server.0, term.0);
-    let lacks = Detail::Three(server.0, term.0, asked.missing);
-    crate::keep(area, f, asked.other, time, Check::ElectionSafety, other);
+    let other = [asked.first, server.0, term.0];
+    let lacks = [server.0, term.0, asked.missing];
+    crate::keep(area, f, asked.other, time, Check::ElectionSafety, &other);
     crate::lead(area, f, asked.fresh, term, server);
-    crate::keep(area, f, asked.lacks, time, Check::LeaderCompleteness, lacks);
+    crate::keep(
+        area,
+        f,
+        asked.lacks,
+        time,
+        Check::LeaderCompleteness,
+        &lacks,
+    );
 }
 
 // The server at a place has written at an index (on_write): another payload under its index and term, or the first.
@@ -76,8 +87,8 @@ pub fn on_write_act(
     ensures { ChangesWhere area.old area.new f (WriteFlags asked k index) (write_checked k time index) }
 {
     let term = asked.term;
-    let other = Detail::Three(k as u64 + 1, index.0, term.0);
-    crate::keep(area, f, asked.other, time, Check::UniqueEntries, other);
+    let other = [k as u64 + 1, index.0, term.0];
+    crate::keep(area, f, asked.other, time, Check::UniqueEntries, &other);
     crate::see_entry_of(area, f, asked.fresh, k, index, term);
 }
 
@@ -88,20 +99,22 @@ pub fn matching_act(
     time: SimTime,
     a: NodeId,
     b: NodeId,
-    found: MismatchOption,
+    found: Option<Mismatch>,
 )
     requires { Inside area.old f }
-    ensures { Changes area.old area.new f (mismatch_reported (mismatch_of found) time a b) }
+    ensures { Changes area.old area.new f (mismatch_reported found time a b) }
 {
     match found {
-        MismatchOption::None => {}
-        MismatchOption::Some {
-            term,
-            index,
-            difference,
-        } => {
-            let detail = Detail::Five(a.0, b.0, term.0, index.0, difference.0);
-            crate::keep(area, f, true, time, Check::LogMatching, detail);
+        None => {}
+        Some(
+            Mismatch {
+                term,
+                index,
+                difference,
+            },
+        ) => {
+            let detail = [a.0, b.0, term.0, index.0, difference.0];
+            crate::keep(area, f, true, time, Check::LogMatching, &detail);
         }
     }
 }
@@ -111,8 +124,8 @@ pub fn acknowledged_act(area: &mut [u8], f: Capacity, time: SimTime, missing: bo
     requires { Inside area.old f }
     ensures { Changes area.old area.new f (missing_reported missing time index) }
 {
-    let detail = Detail::One(index.0);
-    crate::keep(area, f, missing, time, Check::Durability, detail);
+    let detail = [index.0];
+    crate::keep(area, f, missing, time, Check::Durability, &detail);
 }
 
 // A server that has applied less than the highest acknowledged index (one server of check_durability).
@@ -127,6 +140,6 @@ pub fn applied_up_to_act(
     requires { Inside area.old f }
     ensures { Changes area.old area.new f (behind_reported time server up_to highest) }
 {
-    let detail = Detail::Three(server.0, up_to, highest);
-    crate::keep(area, f, up_to < highest, time, Check::Durability, detail);
+    let detail = [server.0, up_to, highest];
+    crate::keep(area, f, up_to < highest, time, Check::Durability, &detail);
 }

@@ -6,7 +6,6 @@ ghost use Rattle.units.specs.Types.{payload_of};
 ghost use Rattle.layout.specs.Tables.{Becomes, append};
 ghost use Rattle.layout.specs.Marked.{words_for};
 ghost use Rattle.layout.specs.Applied.{applied};
-ghost use Rattle.checks.specs.Violations.{detail_of};
 ghost use Rattle.checks.specs.Leaders.{InsertsLeader};
 ghost use Rattle.checks.specs.Entries.{InsertsSeen};
 ghost use Rattle.state.specs.Sizes.{seen_at, seen_words, leaders_at, applied_at, applied_words};
@@ -14,9 +13,7 @@ ghost use Rattle.state.specs.Changes.{Inside, Changes, Reads};
 ghost use Rattle.state_checks.specs.Checked.{count_at, reported_if, applied_if, led_if, leaderless};
 ghost use Rattle.state_checks.specs.Checked.{unseen, Sees, seen_of_if, CopiesRow, CopiesEntry, Stored};
 
-use checks::violations::Detail;
 use checks::{Check, entries, leaders, violations};
-use layout::rows::Found;
 use layout::{applied, rows};
 use state::{Capacity, sizes};
 use units::{LogIndex, NodeId, SimTime, Term};
@@ -32,10 +29,12 @@ fn count_of(area: &[u8], f: Capacity, j: usize) -> u64
     words::load(&area[664..728], j)
 }
 
-// Counts a violation that is due, and keeps it while fewer than 32 are kept. Nothing is written where the total has no 64 bits.
-pub fn keep(area: &mut [u8], f: Capacity, due: bool, time: SimTime, check: Check, detail: Detail)
-    requires { Inside area.old f }
-    ensures { Changes area.old area.new f (reported_if due time check (detail_of detail)) }
+// Counts a violation that is due, and keeps it while fewer than 32 are kept; `detail` has the numbers of its text. Nothing is written where
+// the total has no 64 bits.
+pub fn keep(area: &mut [u8], f: Capacity, due: bool, time: SimTime, check: Check, detail: &[u64])
+    requires inside { Inside area.old f }
+    requires few { length detail.now ≤ 5 }
+    ensures { Changes area.old area.new f (reported_if due time check detail.now) }
 {
     if !due {
         return;
@@ -151,9 +150,9 @@ fn is_unseen(area: &[u8], f: Capacity, n: usize, index: LogIndex, term: Term) ->
     let a = 8 * at;
     let e = 8 * (at + all);
     let w = 3 + (limits.payload as usize + 7) / 8;
-    match rows::find2(&area[a..e], n, w, index.0, term.0) {
-        Found::At(_) => false,
-        Found::Absent(_) => true,
+    match rows::find(&area[a..e], n, w, (index.0, term.0)) {
+        Ok(_) => false,
+        Err(_) => true,
     }
 }
 

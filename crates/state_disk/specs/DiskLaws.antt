@@ -1,9 +1,8 @@
 -- What callers cite: question 10 of a sync and of a crash. Assumes nothing.
-use Rattle.std.specs.Prelude.{◌≡◌, Bool, true, length, take}
+use Rattle.std.specs.Prelude.{◌≡◌, Bool, true, length, take, Option, None, Some}
 use Rattle.std.proofs.Math.Path.{refl}
 use Rattle.std.proofs.Common.{ap, ◌∙◌, arith, length-append, length-take, length-set, lt-ltb, ltb-true, le-leb}
 use mathlib.Core.List.{List, [], ◌∷◌}
-use Rattle.std.proofs.Math.Option.{Option, none, some}
 use Prim.Native.Nat.{ℕ, zero, suc, ◌+◌, ◌-◌, ◌^◌, ◌<◌}
 use Rattle.std.proofs.Math.Dec.{eqb}
 use Rattle.std.proofs.lemmas.List.{length-replicate}
@@ -38,7 +37,7 @@ payload_good p (command bs) h = and_both _ _ (lt-ltb (2 + length bs) (2 ^ 64) (o
 length_truncate : (x : Log) (from : ℕ) → length (truncate_at x from) ≡ length x
 unfolding truncate_at
 length_truncate x from =
-    omega (arith, length-append (take (from - 1) x) (empty_log (length x - (from - 1))), length-take (from - 1) x, length-replicate {A = Option Entry} (length x - (from - 1)) none)
+    omega (arith, length-append (take (from - 1) x) (empty_log (length x - (from - 1))), length-take (from - 1) x, length-replicate {A = Option Entry} (length x - (from - 1)) None)
 
 module _ (config : SimConfig) (limits : Limits) where
   abbrev P : ℕ
@@ -48,14 +47,14 @@ module _ (config : SimConfig) (limits : Limits) where
   abbrev LogFits : Log → Type 0
   LogFits x = (eqb (length x) limits.log_indexes and every (place P).good x) ≡ true
 
-  put_fits : (x : Log) (i : ℕ) (e : Entry) → LogFits x → (place P).good (some e) ≡ true → LogFits (put_at x i e)
+  put_fits : (x : Log) (i : ℕ) (e : Entry) → LogFits x → (place P).good (Some e) ≡ true → LogFits (put_at x i e)
   unfolding put_at
   put_fits x zero e h g = h
-  put_fits x (suc i) e h g = and_both _ _ (ap (λ (n : ℕ). eqb n limits.log_indexes) (length-set x i (some e)) ∙ and_left _ _ h) (every_set (place P).good x i (some e) (and_right _ _ h) g)
+  put_fits x (suc i) e h g = and_both _ _ (ap (λ (n : ℕ). eqb n limits.log_indexes) (length-set x i (Some e)) ∙ and_left _ _ h) (every_set (place P).good x i (Some e) (and_right _ _ h) g)
 
   truncate_fits : (x : Log) (from : ℕ) → LogFits x → LogFits (truncate_at x from)
   unfolding truncate_at fill_from
-  truncate_fits x from h = and_both _ _ (ap (λ (n : ℕ). eqb n limits.log_indexes) (length_truncate x from) ∙ and_left _ _ h) (every_fill_from (place P).good (from - 1) x (and_right _ _ h) none refl)
+  truncate_fits x from h = and_both _ _ (ap (λ (n : ℕ). eqb n limits.log_indexes) (length_truncate x from) ∙ and_left _ _ h) (every_fill_from (place P).good (from - 1) x (and_right _ _ h) None refl)
 
   apply_fits_lem : (d : Disk) (w : Write) → disk_fits config limits d ≡ true → (write_code P).good w ≡ true → disk_fits config limits (apply_write d w) ≡ true
   apply_fits_lem d w h g = and_both _ _ (current_fits config limits d w (and_left _ _ h) g) (log w g)

@@ -1,15 +1,15 @@
 -- The storage of one server of a state: what is read of it, and the state after a write, a sync or a crash of it. Assumes nothing.
-use Rattle.std.specs.Prelude.{◌≡◌, List, ℕ, ◌+◌, ◌*◌, ◌≤◌, length, set}
+use Rattle.std.specs.Prelude.{◌≡◌, List, ℕ, ◌+◌, ◌*◌, ◌≤◌, length, set, Option, Ok}
 use Rattle.std.proofs.lemmas.List.Edits.{sets}
 use Rattle.laws.specs.Bools.{pick}
 use Rattle.units.specs.declared.LogIndex.{LogIndex}
 use Rattle.words.specs.Words.{bytes}
 use Rattle.raft_log.specs.Log.{Log, entry_at, count, last_index, gaps}
 use Rattle.raft_log.specs.Places.{place_at, bytes_in}
-use Rattle.raft_log.specs.declared.Place.{Place}
+use Rattle.raft_log.specs.declared.EntryShape.{EntryShape}
 use Rattle.storage.specs.declared.StorageState.{StorageState}
-use Rattle.storage.specs.declared.write.Written.{Written}
-use Rattle.storage.specs.declared.write.Written.TheVariants.{Done}
+use Rattle.std.specs.declared.result.Result.{Result}
+use Rattle.storage.specs.declared.write.WriteError.{WriteError}
 use Rattle.storage.specs.Storage.{Write, sync, crash, unsynced, unsynced_bytes}
 use Rattle.storage.specs.Stores.{disk_bytes}
 use Rattle.storage.specs.Writes.{written_number}
@@ -64,9 +64,9 @@ unfoldable pub write_answer : ℕ → Write → State → ℕ
 write_answer k w s = pick (state_fits (write_at s k w)) 0 10
 
 -- Where a disk's write was made its fixed part is stored; else nothing has changed.
-pub record Finishes (b b' : List ℕ) (F : Capacity) (k : ℕ) (r : Written) (c : ℕ) : Type 0 where
+pub record Finishes (b b' : List ℕ) (F : Capacity) (k : ℕ) (r : Result StorageState WriteError) (c : ℕ) : Type 0 where
   pub code : c ≡ written_number r
-  pub done : (v : StorageState) → r ≡ Done v → StoresAt b b' F k v
+  pub done : (v : StorageState) → r ≡ Ok v → StoresAt b b' F k v
   pub kept : written_number r ≡ 10 → b' ≡ b
 
 -- The write is made where the state with it fits, and the answer is 0; else the answer is 10, and nothing has changed.
@@ -107,7 +107,7 @@ unfoldable pub log_at : ℕ → State → Log
 log_at k s = (server_at s k).storage.current.log
 
 -- r is what stands at an index of that log; a command's bytes are at the front of the buffer, and the rest of it is as it was.
-pub record ReadsEntryAt (b : List ℕ) (F : Capacity) (k : ℕ) (index : LogIndex) (r : Place) (z z' : List ℕ) : Type 0 where
+pub record ReadsEntryAt (b : List ℕ) (F : Capacity) (k : ℕ) (index : LogIndex) (r : Option EntryShape) (z z' : List ℕ) : Type 0 where
   pub place : Reads b F r (λ s. place_at index.0 (log_at k s))
   pub copied : (s : State) → Area b s → F ≡ capacity_of s → z' ≡ sets z 0 (bytes_in (entry_at (log_at k s) index.0))
 

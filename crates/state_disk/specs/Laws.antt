@@ -1,8 +1,8 @@
 -- What the proofs of lib.rt cite. Assumes nothing.
-use Rattle.std.specs.Prelude.{◌≡◌, Bool, ltb, eqb, length, get_or, set, drop}
+use Rattle.std.specs.Prelude.{◌≡◌, Bool, ltb, eqb, length, get_or, set, drop, Option, None, Some, Ok, Err}
 use Rattle.std.proofs.Math.Path.{refl, sym, ap, ap₂, subst}
 use Rattle.std.proofs.Common.{◌∙◌, length-append}
-use Rattle.std.proofs.Math.Bool.{true}
+use Rattle.std.proofs.Math.Bool.{true, false}
 use mathlib.Core.List.{List, [], ◌∷◌, ◌++◌}
 use Prim.Native.Nat.{ℕ, ◌+◌, ◌-◌, ◌*◌, ◌^◌, ◌≤◌, ◌<◌}
 use native.Mathlib.Omega.{arith}
@@ -11,11 +11,9 @@ use borrow.Author.Tests.{le-leb, leb-true, eq-eqb}
 use Rattle.laws.specs.Bools.{◌and◌, pick, cases, every, and_left, and_true}
 use Rattle.laws.proofs.BoolLaws.{every_append, every_both, allb_in, and_right, and_both}
 use Rattle.laws.specs.Decides.{false_true}
-use Rattle.units.specs.Types.{payload_of}
+use Rattle.units.specs.Types.{Payload}
 use Rattle.units.specs.declared.LogIndex.{LogIndex}
 use Rattle.units.specs.declared.Term.{Term}
-use Rattle.units.specs.declared.NodeOption.{NodeOption}
-use Rattle.units.specs.declared.NodeOption.TheVariants.{None, Some}
 use Rattle.config.specs.declared.SimConfig.{SimConfig}
 use Rattle.config.specs.declared.Limits.{Limits}
 use Rattle.words.specs.Words.{W, bytes}
@@ -28,13 +26,17 @@ use Rattle.layout.specs.Marked.{words_for}
 use Rattle.layout.specs.Rows.{row_start}
 use Rattle.raft_log.specs.Log.{Log, count, last_index, gaps}
 use Rattle.raft_log.specs.Places.{place, places, ReadsEntry}
-use Rattle.raft_log.specs.declared.Place.{Place}
+use Rattle.raft_log.specs.declared.EntryShape.{EntryShape}
 use Rattle.storage.specs.declared.HardState.{HardState}
 use Rattle.storage.specs.declared.StorageState.{StorageState}
 use Rattle.storage.specs.declared.Synced.{Synced}
-use Rattle.storage.specs.declared.write.Written.{Written}
-use Rattle.storage.specs.declared.write.Written.TheVariants.{Done, Full, Past64Bits}
-use Rattle.storage.specs.Storage.{Disk, Write, write_hard_state, write_put, write_truncate, Storage, apply_write, write, sync, crash}
+use Rattle.std.specs.declared.result.Result.{Result}
+use Rattle.units.specs.declared.refusal.Refusal.{Refusal}
+use Rattle.units.specs.declared.refusal.Refusal.TheVariants.{Room}
+use Rattle.units.specs.Refusals.{refusal_number}
+use Rattle.storage.specs.StoresLaws.{synced_told, synced_nothing}
+use Rattle.storage.specs.declared.write.WriteError.{WriteError}
+use Rattle.storage.specs.Storage.{Disk, Write, write_hard_state, write_put, write_truncate, Storage, apply_write, write, sync, crash, unsynced, unsynced_bytes, synced_bytes}
 use Rattle.storage.specs.Waiting.{waiting, write_code, put_within, voteNumber}
 use Rattle.storage.specs.Stores.{disk_bytes, Parts, Stores, Syncs, Crashes}
 use Rattle.storage.specs.Replay.{Sums}
@@ -56,14 +58,16 @@ use Rattle.state.specs.Changes.{Inside, AreaOf, Changes, Reads}
 use Rattle.state.specs.Lens.{disk_content, area_of, put_same, ServerCut, server_contents, server_cut, server_at_held, part_lent, part_put, cut_server, ServersFit, servers_fit_lem, server_fine, fits_on_server}
 use Rattle.state_disk.specs.declared.DiskPlace.{DiskPlace}
 use Rattle.state_disk.specs.declared.LogPlace.{LogPlace}
+use Rattle.state_disk.specs.declared.SyncTold.{SyncTold}
 use Rattle.state_disk.specs.Disks.{LogIn, DiskIn, storage_at, StorageIn, StoresAt, written, write_answer, Finishes, WritesAt, unsynced_at, synced_at, SyncsAt, crashed_at, log_at, ReadsEntryAt, log_numbers_at}
+use Rattle.units.specs.declared.NodeId.{NodeId}
 
 -- ---- by the counts of an area
 
 abbrev StoresIn : Capacity → StorageState → List ℕ → Storage → Type 0
 StoresIn F = Stores F.limits.payload F.limits.log_indexes F.limits.writes
 
-abbrev WritesIn : Capacity → StorageState → Write → Written → List ℕ → List ℕ → Type 0
+abbrev WritesIn : Capacity → StorageState → Write → Result StorageState WriteError → List ℕ → List ℕ → Type 0
 WritesIn F = Writes F.limits.payload F.limits.log_indexes F.limits.writes
 
 abbrev SyncsIn : Capacity → StorageState → Synced → List ℕ → List ℕ → Type 0
@@ -196,7 +200,7 @@ module _ (config : SimConfig) (limits : Limits) where
       let n = and_right _ _ (and_left _ _ g) in
       and_both _ _ (and_left _ _ n) (by h.voted_for (and_right _ _ n))
     where
-      by : (o : NodeOption) → ltb (voteNumber o) (2 ^ 64) ≡ true → node_fits o ≡ true
+      by : (o : Option NodeId) → ltb (voteNumber o) (2 ^ 64) ≡ true → node_fits o ≡ true
       by None e = refl
       by (Some id) e = e
 
@@ -213,15 +217,14 @@ in_storage s k h i x = fits_server_one s.config s.limits (server_at s k) (with_s
 -- ---- writes
 
 -- by what a disk answers of a write
-by_written : {A : Type 0} (o : Written) → written_number o ≡ 0 → ((v : StorageState) → o ≡ Done v → A) → A
+by_written : {A : Type 0} (o : Result StorageState WriteError) → written_number o ≡ 0 → ((v : StorageState) → o ≡ Ok v → A) → A
 by_written {A} o z f = by o refl z
   where
-    by : (u : Written) → o ≡ u → written_number u ≡ 0 → A
-    by (Done v) e z = f v e
-    by Full e z = absurd (omega arith)
-    by Past64Bits e z = absurd (omega arith)
+    by : (u : Result StorageState WriteError) → o ≡ u → written_number u ≡ 0 → A
+    by (Ok v) e z = f v e
+    by (Err error) e z = absurd (omega arith)
 
-module _ (b b₂ ys : List ℕ) (F : Capacity) (k : ℕ) (d : DiskPlace) (v : StorageState) (w : Write) (o : Written) (c : ℕ) (i : k < F.servers) (g : put_within F.limits.log_indexes w ≡ true) (p : DiskIn b F k d)
+module _ (b b₂ ys : List ℕ) (F : Capacity) (k : ℕ) (d : DiskPlace) (v : StorageState) (w : Write) (o : Result StorageState WriteError) (c : ℕ) (i : k < F.servers) (g : put_within F.limits.log_indexes w ≡ true) (p : DiskIn b F k d)
     (q : Reads b F v (storage_at k)) (e : WritesIn F v w o (lent d.from d.to b) ys)
     (f : Finishes (back d.from d.to b ys) b₂ F k o c) where
   module _ (s : State) (r : List ℕ) (h : AreaOf b r F s) where
@@ -287,30 +290,29 @@ module _ (b b₂ ys : List ℕ) (F : Capacity) (k : ℕ) (d : DiskPlace) (v : St
   }
 
 -- the end of a write
-module _ (b : List ℕ) (F : Capacity) (k : ℕ) (r : Written) where
-  pub finish_done : (b₂ : List ℕ) (v : StorageState) → r ≡ Done v → StoresAt b b₂ F k v → Finishes b b₂ F k r 0
+module _ (b : List ℕ) (F : Capacity) (k : ℕ) (r : Result StorageState WriteError) where
+  pub finish_done : (b₂ : List ℕ) (v : StorageState) → r ≡ Ok v → StoresAt b b₂ F k v → Finishes b b₂ F k r 0
   finish_done b₂ v e w = record {
     code = sym (ap written_number e);
     done = λ u f. subst (λ (x : StorageState). StoresAt b b₂ F k x) (same u f) w;
     kept = λ n. let z : ◌≡◌ {A = ℕ} 0 10 = sym (ap written_number e) ∙ n in absurd (omega arith);
   }
     where
-      same : (u : StorageState) → r ≡ Done u → v ≡ u
+      same : (u : StorageState) → r ≡ Ok u → v ≡ u
       same u f = cc
 
-  no_done : written_number r ≡ 10 → (v : StorageState) → r ≡ Done v → ⊥
+  no_done : written_number r ≡ 10 → (v : StorageState) → r ≡ Ok v → ⊥
   no_done n v e = let z : ◌≡◌ {A = ℕ} 10 0 = sym n ∙ ap written_number e in omega arith
 
   finish_not : written_number r ≡ 10 → Finishes b b F k r 10
   finish_not n = record { code = sym n; done = λ v e. absurd (no_done n v e); kept = λ _. refl }
 
-  pub finish_full : r ≡ Full → Finishes b b F k r 10
-  finish_full e = finish_not (ap written_number e)
+  pub finish_refused : (error : WriteError) (refusal : Refusal) (n : ℕ) → r ≡ Err error → refusal ≡ Room → n ≡ refusal_number refusal → Finishes b b F k r n
+  finish_refused error refusal n e f g =
+      let z : n ≡ 10 = g ∙ ap refusal_number f in
+      subst (λ (m : ℕ). Finishes b b F k r m) (sym z) (finish_not (ap written_number e))
 
-  pub finish_past : r ≡ Past64Bits → Finishes b b F k r 10
-  finish_past e = finish_not (ap written_number e)
-
-module _ (b b₂ ys : List ℕ) (F : Capacity) (k : ℕ) (d : DiskPlace) (v : StorageState) (o : Written) (c : ℕ) (i : k < F.servers) where
+module _ (b b₂ ys : List ℕ) (F : Capacity) (k : ℕ) (d : DiskPlace) (v : StorageState) (o : Result StorageState WriteError) (c : ℕ) (i : k < F.servers) where
   abbrev region : List ℕ
   region = lent d.from d.to b
 
@@ -321,11 +323,11 @@ module _ (b b₂ ys : List ℕ) (F : Capacity) (k : ℕ) (d : DiskPlace) (v : St
       → WritesAt b b₂ F k (write_hard_state h) c
   hard_state_written h p q e f = disk_written b b₂ ys F k d v (write_hard_state h) o c i refl p q e f
 
-  pub put_written : (index : LogIndex) (t : Term) (kind : ℕ) (src : List ℕ) → 1 ≤ index.0 → index.0 ≤ F.limits.log_indexes → DiskIn b F k d → Reads b F v (storage_at k)
-      → WritesIn F v (write_put index (record { term = t; payload = payload_of kind src })) o region ys → Finishes after b₂ F k o c
-      → WritesAt b b₂ F k (write_put index (record { term = t; payload = payload_of kind src })) c
-  put_written index t kind src low high p q e f =
-      disk_written b b₂ ys F k d v (write_put index (record { term = t; payload = payload_of kind src })) o c i (and_both _ _ (le-leb 1 index.0 low) (le-leb index.0 F.limits.log_indexes high)) p q e f
+  pub put_written : (index : LogIndex) (t : Term) (y : Payload) → 1 ≤ index.0 → index.0 ≤ F.limits.log_indexes → DiskIn b F k d → Reads b F v (storage_at k)
+      → WritesIn F v (write_put index (record { term = t; payload = y })) o region ys → Finishes after b₂ F k o c
+      → WritesAt b b₂ F k (write_put index (record { term = t; payload = y })) c
+  put_written index t y low high p q e f =
+      disk_written b b₂ ys F k d v (write_put index (record { term = t; payload = y })) o c i (and_both _ _ (le-leb 1 index.0 low) (le-leb index.0 F.limits.log_indexes high)) p q e f
 
   pub truncate_written : (index : LogIndex) → DiskIn b F k d → Reads b F v (storage_at k) → WritesIn F v (write_truncate index) o region ys → Finishes after b₂ F k o c
       → WritesAt b b₂ F k (write_truncate index) c
@@ -338,18 +340,24 @@ module _ (b ys b₂ : List ℕ) (F : Capacity) (k : ℕ) (d : DiskPlace) (v : St
   unfolding storage_at
   held s r h = disk_stores b r F s k d i p h v (q.state.to s h.area h.capacity)
 
-  pub synced_at_lem : (t : Synced) → SyncsIn F v t (lent d.from d.to b) ys
-      → StoresAt (back d.from d.to b ys) b₂ F k t.state
-      → SyncsAt b b₂ F k (record { wrote = t.wrote; bytes = t.bytes })
-  unfolding synced_at unsynced_at
-  synced_at_lem t e w = record {
-    changes = record { to = λ s r h u. disk_back b b₂ ys F k d i p t.state w sync s r h (e.to (server_at s k).storage (held s r h)) u };
-    told = record {
-      to = λ s h ef.
-          let a = held s (drop (bytes_of F) b) (area_of h ef) in
-          ap₂ (λ (n : Bool) (m : ℕ). record { wrote = n; bytes = m }) (e.wrote (server_at s k).storage a) (e.bytes (server_at s k).storage a);
-    };
-  }
+  module _ (t : Synced) (e : SyncsIn F v t (lent d.from d.to b) ys) (w : StoresAt (back d.from d.to b ys) b₂ F k t.state) where
+    synced_by : (r : SyncTold) → ((x : Storage) → t.written ≡ synced_bytes x → (r.wrote ≡ unsynced x) × (r.bytes ≡ unsynced_bytes x.waiting)) → SyncsAt b b₂ F k r
+    unfolding synced_at unsynced_at
+    synced_by r f = record {
+      changes = record { to = λ s l h u. disk_back b b₂ ys F k d i p t.state w sync s l h (e.to (server_at s k).storage (held s l h)) u };
+      told = record {
+        to = λ s h ef.
+            let x : Storage = (server_at s k).storage in
+            let z = f x (e.written x (held s (drop (bytes_of F) b) (area_of h ef))) in
+            ap₂ (λ (n : Bool) (m : ℕ). record { wrote = n; bytes = m }) z.0 z.1;
+      };
+    }
+
+    pub synced_some : (n : ℕ) → t.written ≡ Some n → SyncsAt b b₂ F k (record { wrote = true; bytes = n })
+    synced_some n q = synced_by (record { wrote = true; bytes = n }) (λ x g. synced_told x n (sym q ∙ g))
+
+    pub synced_none : t.written ≡ None → SyncsAt b b₂ F k (record { wrote = false; bytes = 0 })
+    synced_none q = synced_by (record { wrote = false; bytes = 0 }) (λ x g. synced_nothing x (sym q ∙ g))
 
   pub crashed_at_lem : (v' : StorageState) → CrashesIn F v v' (lent d.from d.to b) ys
       → StoresAt (back d.from d.to b ys) b₂ F k v'
@@ -405,7 +413,7 @@ module _ (b : List ℕ) (F : Capacity) (k : ℕ) (d : LogPlace) (i : k < F.serve
       subst (λ (l : List ℕ). Held (places F.limits.payload) (log_words F) F.limits.log_indexes l (server_at s k).storage.current.log) (sym at)
       (current_lent (server_at_held (area_of h e) k i).disk.parts (log_words F) refl)
 
-  pub entry_read : (index : LogIndex) (r : Place) (z z' : List ℕ) → ReadsEntry F.limits.payload F.limits.log_indexes index.0 r (lent d.from d.to b) z z' → ReadsEntryAt b F k index r z z'
+  pub entry_read : (index : LogIndex) (r : Option EntryShape) (z z' : List ℕ) → ReadsEntry F.limits.payload F.limits.log_indexes index.0 r (lent d.from d.to b) z z' → ReadsEntryAt b F k index r z z'
   entry_read index r z z' q = record {
     place = record { to = λ s h e. q.place (log_words F) (log_at k s) (log_there s h e) };
     copied = λ s h e. q.copied (log_words F) (log_at k s) (log_there s h e);

@@ -2,16 +2,18 @@
 #![tactic(auto)]
 
 ghost use Rattle.std.specs.Prelude.{◌+◌, ◌*◌, ◌≤◌, ◌<◌, length};
-ghost use Rattle.units.specs.Types.{payload_of};
+ghost use Rattle.units.specs.Types.{payload_behind};
+ghost use Rattle.layout.specs.Payload.{body_of};
 ghost use Rattle.storage.specs.Storage.{write_hard_state, write_put, write_truncate};
 ghost use Rattle.state.specs.Changes.{Inside, Changes, Reads};
 ghost use Rattle.state_disk.specs.Disks.{DiskIn, storage_at, StorageIn, StoresAt, Finishes, WritesAt, SyncsAt, unsynced_at, crashed_at, LogIn, ReadsEntryAt, log_numbers_at};
 
-use raft_log::Place;
+use raft_log::EntryShape;
 use state::{Capacity, server, sizes};
-use storage::write::Written;
+use storage::write::WriteError;
 use storage::{HardState, StorageState, replay, write};
-use units::{LogIndex, Term};
+use units::refusal::Refusal;
+use units::{LogIndex, PayloadRef, Term};
 
 // Where a server's storage lies, in bytes: its fixed part from `block` on, and its disk (both logs and the waiting writes) between the others.
 #[derive(Clone, Copy)]
@@ -111,18 +113,17 @@ fn store_storage(area: &mut [u8], f: Capacity, k: usize, v: StorageState)
 // ---- writes
 
 // The end of a write: its fixed part is stored if it was made, and the answer is 0 or 10.
-fn finish(area: &mut [u8], f: Capacity, k: usize, r: Written) -> u64
+fn finish(area: &mut [u8], f: Capacity, k: usize, r: Result<StorageState, WriteError>) -> u64
     requires inside { Inside area.old f }
     requires k_lt_servers { k < f.servers }
     ensures { Finishes area.old area.new f k r result }
 {
     match r {
-        Written::Done(v) => {
+        Ok(v) => {
             store_storage(area, f, k, v);
             0
         }
-        Written::Full => 10,
-        Written::Past64Bits => 10,
+        Err(error) => u64::from(Refusal::from(error)),
     }
 }
 
@@ -144,21 +145,20 @@ pub fn write_hard_state(area: &mut [u8], f: Capacity, k: usize, state: HardState
     finish(area, f, k, r)
 }
 
-// Puts an entry at an index of a server's log; its payload is that of a kind and the bytes of src, of which a noop has none.
+// Puts an entry at an index of a server's log.
 pub fn write_put(
     area: &mut [u8],
     f: Capacity,
     k: usize,
     index: LogIndex,
     term: Term,
-    kind: u64,
-    src: &[u8],
+    payload: PayloadRef<'_>,
 ) -> u64
     requires inside { Inside area.old f }
     requires k_lt_servers { k < f.servers }
     requires le_index { (1 ≤ index.0) × (index.0 ≤ f.limits.log_indexes) }
-    requires kind_bound { (kind ≤ 1) × (length src.now ≤ 256 * kind) × (length src.now ≤ f.limits.payload) }
-    ensures { WritesAt area.old area.new f k (write_put index (record { term = term; payload = payload_of kind src.now })) result }
+    requires payload_bound { length (body_of (payload_behind payload)) ≤ f.limits.payload }
+    ensures { WritesAt area.old area.new f k (write_put index (record { term = term; payload = payload_behind payload.entry })) result }
 {
     let d = disk_in(area, f, k);
     let v = storage_of(area, f, k);
@@ -176,8 +176,7 @@ pub fn write_put(
         p,
         index,
         term,
-        kind,
-        src,
+        payload,
     );
     finish(area, f, k, r)
 }
@@ -239,9 +238,12 @@ pub fn sync(area: &mut [u8], f: Capacity, k: usize) -> SyncTold
     let r = storage::sync(v, &mut area[from..to], places, rows, p);
     let state = r.state;
     store_storage(area, f, k, state);
-    SyncTold {
-        wrote: r.wrote,
-        bytes: r.bytes,
+    match r.written {
+        None => SyncTold {
+            wrote: false,
+            bytes: 0,
+        },
+        Some(bytes) => SyncTold { wrote: true, bytes },
     }
 }
 
@@ -280,7 +282,13 @@ fn log_in(area: &[u8], f: Capacity, k: usize) -> LogPlace
 }
 
 // What stands at an index of a server's log; the bytes of a command go to the front of the buffer.
-pub fn read_entry(area: &[u8], f: Capacity, k: usize, index: LogIndex, buffer: &mut [u8]) -> Place
+pub fn read_entry(
+    area: &[u8],
+    f: Capacity,
+    k: usize,
+    index: LogIndex,
+    buffer: &mut [u8],
+) -> Option<EntryShape>
     requires inside { Inside area.now f }
     requires k_lt_servers { k < f.servers }
     requires payload_in_bounds { f.limits.payload ≤ length buffer.old }

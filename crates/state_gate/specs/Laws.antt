@@ -1,7 +1,7 @@
 -- What the proofs of lib.rt cite: the exits of the gate. Assumes nothing.
-use Rattle.std.specs.Prelude.{◌≡◌, refl, Bool, true, false, not, ◌&&◌, List, [], ◌∷◌, ◌++◌, ℕ, suc, ◌≤◌, ◌<◌, ltb, length, get_or, take, drop}
+use Rattle.std.specs.Prelude.{◌≡◌, Bool, true, false, not, ◌&&◌, List, [], ◌∷◌, ◌++◌, ℕ, suc, ◌≤◌, ◌<◌, ltb, length, get_or, take, drop}
 use Rattle.std.proofs.Math.Path.{sym, ap}
-use Rattle.std.proofs.Common.{ap₂, subst, ◌∙◌, arith, lt-ltb, le-ltb}
+use Rattle.std.proofs.Common.{ap₂, ◌∙◌, arith, lt-ltb, le-ltb}
 use Rattle.std.proofs.lemmas.Bool.{not-true, not-false}
 use Rattle.laws.specs.Bools.{pick, ◌and◌, allb, and_assoc, and_true}
 use Rattle.laws.proofs.BoolLaws.{true_and, code_and}
@@ -10,9 +10,9 @@ use Rattle.config.specs.Limits.{counts_fit, InLimits}
 use Rattle.config.specs.Laws.{counts_limits}
 use Rattle.state.specs.declared.Capacity.{Capacity}
 use Rattle.state.specs.declared.Gate.{Gate}
-use Rattle.state.specs.Sizes.{bytes_of, Within}
+use Rattle.state.specs.Sizes.{bytes_of}
 use Rattle.state.specs.Parts.{capacity_in, counts_within}
-use Rattle.state.specs.Area.{Area, regions, capacity_of}
+use Rattle.state.specs.Area.{regions}
 use Rattle.state.specs.Decode.{gate, decode, ok_regions, said, build}
 use Rattle.state.specs.EncodeLaws.{gate_area}
 use Rattle.state.specs.Changes.{Inside, Gated}

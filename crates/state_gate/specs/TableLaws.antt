@@ -1,13 +1,12 @@
 -- What the proofs of tables.rt cite: each region lies inside the area, and its module's answer is its test. Assumes nothing.
 use Rattle.std.specs.Prelude.{◌≡◌, Bool, true, ◌&&◌, ℕ, ◌+◌, ◌-◌, ◌*◌, ◌≤◌, ◌<◌, length, get_or, take, drop}
 use Rattle.std.proofs.Math.Path.{refl, ap}
-use Rattle.std.proofs.Common.{sym, ap₂, subst, ◌∙◌, arith, length-drop, length-take-le}
+use Rattle.std.proofs.Common.{ap₂, ◌∙◌, arith, length-drop, length-take-le}
 use mathlib.Core.List.{List, []}
 use Rattle.laws.specs.Bools.{◌and◌, and_assoc, and_true}
 use Rattle.laws.proofs.BoolLaws.{code_and}
 use Rattle.laws.specs.Decides.{Decides}
 use Rattle.words.specs.Words.{W, Bytes, allz}
-use Rattle.layout.specs.Code.{Code}
 use Rattle.layout.specs.Cuts.{cut, total}
 use Rattle.layout.specs.Tables.{Table, Tabled, content}
 use Rattle.layout.specs.Applied.{applied}
@@ -22,7 +21,7 @@ use Rattle.state.specs.Sizes.{block_words, queue_words, seen_words, applied_word
 use Rattle.state.specs.SizeLaws.{room}
 use Rattle.state.specs.Changes.{Inside}
 use Rattle.state_gate_blocks.specs.Blocks.{servers_ok}
-use Rattle.state_gate_header.specs.Regions.{tests, region_ok, regions_ok}
+use Rattle.state_gate_header.specs.Regions.{region_ok, regions_ok}
 use Rattle.state_gate_header.specs.RegionLaws.{region_lent, region_table}
 
 module _ (F : Capacity) (b : List ℕ) (h : Inside b F) where

@@ -7,6 +7,7 @@ use checks::{entries, leaders};
 use checks_durability::replies;
 use clients::confirmations;
 use layout::applied;
+use queue::range::Ranges;
 use queue::table;
 use state::{Capacity, sizes};
 
@@ -28,8 +29,13 @@ fn queue(area: &[u8], f: Capacity) -> bool
     let n = words::load(&area[664..728], 0) as usize;
     let a = 8 * sizes::queue_at(f);
     let e = 8 * sizes::seen_at(f);
-    let m = limits.message as usize;
-    table::check(&area[a..e], n, f.servers, f.clients, limits.log_indexes, m)
+    let ranges = Ranges {
+        servers: f.servers,
+        clients: f.clients,
+        indexes: limits.log_indexes,
+        message: limits.message as usize,
+    };
+    table::check(&area[a..e], n, ranges)
 }
 
 // The entries seen.

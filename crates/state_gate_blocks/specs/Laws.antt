@@ -1,5 +1,5 @@
 -- What the proofs of lib.rt cite. Assumes nothing.
-use Rattle.std.specs.Prelude.{◌≡◌, refl, Bool, not, ◌&&◌, ltb, length, get_or, take, drop}
+use Rattle.std.specs.Prelude.{◌≡◌, refl, Bool, not, ◌&&◌, ltb, length, get_or, take, drop, Option, None, Some}
 use Rattle.std.proofs.Math.Path.{sym, ap, ap₂}
 use Rattle.std.proofs.Common.{subst, ◌∙◌, arith, length-drop, drop-drop, get_or-drop, length-take-le}
 use Rattle.std.proofs.Math.Bool.{true, false}
@@ -11,10 +11,6 @@ use Rattle.laws.specs.Bools.{pick, ◌and◌, cases, and_assoc, and_true, no_and
 use Rattle.laws.proofs.BoolLaws.{true_and, and_no, code_and}
 use Rattle.laws.specs.Lists.{same_list}
 use Rattle.laws.specs.Decides.{Decides}
-use Rattle.units.specs.declared.NodeOption.{NodeOption}
-use Rattle.units.specs.declared.NodeOption.TheVariants.{None, Some}
-use Rattle.units.specs.declared.TermOption.{TermOption}
-use Rattle.units.specs.declared.TermOption.TheVariants as term
 use Rattle.protocol.specs.Numbers.{role_number}
 use Rattle.words.specs.Words.{W, Bytes, bytes, allz}
 use Rattle.words.specs.Numbers.{each_take, each_drop}
@@ -30,11 +26,12 @@ use Rattle.storage.specs.Waiting.{waiting_in}
 use Rattle.state.specs.declared.Capacity.{Capacity}
 use Rattle.state.specs.Sizes.{log_words, waiting_words, pending_words, block_words, Within, Counted, BlockAt}
 use Rattle.state.specs.Server.{server_code}
-use Rattle.state.specs.declared.StatusOption.{StatusOption}
-use Rattle.state.specs.declared.StatusOption.TheVariants as status
 use Rattle.state.specs.Parts.{node_flag, node_number, node_in, term_flag, term_number, term_in, bool_number, bool_in, role_in, status_in, status_flag, status_role, status_term, status_leader, status_commit, status_words, server_state_in, storage_state_code, storage_state_in, storage_state_words, server_state_code}
 use Rattle.state_gate_blocks.specs.Tests.{eqb_sym, same, tabled_ok}
 use Rattle.state_gate_blocks.specs.Blocks.{flagged, status_told, storage_state_ok, server_state_ok, fixed_ok, server_ok, servers_ok}
+use Rattle.units.specs.declared.NodeId.{NodeId}
+use Rattle.units.specs.declared.Term.{Term}
+use Rattle.protocol.specs.declared.Status.{Status}
 
 -- ---- a flag and its number
 

@@ -110,15 +110,13 @@ pub fn blocks(s: &[u8], f: Capacity) -> bool
 {
     let n = f.servers as usize;
     let w = sizes::block_words(f);
-    let mut i = 0;
-    while i < n {
+    for i in 0..n {
         let at = sizes::block_at(f, i) - 512;
         let a = 8 * at;
         let e = 8 * (at + w);
         if !block(&s[a..e], f) {
             return false;
         }
-        i += 1;
     }
     true
 }

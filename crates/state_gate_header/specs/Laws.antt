@@ -1,27 +1,28 @@
 -- What the proofs of lib.rt cite. Assumes nothing.
-use Rattle.std.specs.Prelude.{◌≡◌, Bool, true, false, ◌&&◌, length, drop}
+use Rattle.std.specs.Prelude.{◌≡◌, Bool, true, ◌&&◌, drop}
 use Rattle.std.proofs.Math.Path.{refl, sym, ap, ap₂}
-use Rattle.std.proofs.Common.{subst, ◌∙◌, arith, get_or-take}
-use mathlib.Core.List.{List, [], ◌∷◌}
-use Prim.Native.Nat.{ℕ, ◌+◌, ◌-◌, ◌*◌, ◌≤◌, ◌<◌}
+use Rattle.std.proofs.Common.{◌∙◌, arith}
+use mathlib.Core.List.{List, []}
+use Prim.Native.Nat.{ℕ, ◌-◌, ◌*◌}
 use Rattle.std.proofs.Math.Dec.{eqb}
 use Rattle.std.proofs.Math.ListN.{get_or, take}
 use Rattle.laws.specs.Bools.{◌and◌, and_assoc, and_true}
 use Rattle.laws.proofs.BoolLaws.{true_and, code_and}
 use Rattle.laws.specs.Decides.{Decides}
 use Rattle.laws.specs.Lists.{same_list}
-use Rattle.units.specs.declared.Duration.{Duration}
 use Rattle.words.specs.Words.{W, Bytes, Fit, allz}
 use Rattle.words.specs.Lift.{W-part, W-fit, length_w}
 use Rattle.words.specs.Numbers.{each_take, each_drop}
-use Rattle.layout.specs.Cuts.{cut, total}
-use Rattle.layout.specs.Structs.{firsts}
+use Rattle.layout.specs.Cuts.{cut}
 use Rattle.layout.specs.Tables.{Content, Tabled, content}
 use Rattle.layout.specs.Contents.{ok_prefix}
 use Rattle.config.specs.declared.SimConfig.{SimConfig}
 use Rattle.config.specs.declared.Limits.{Limits}
-use Rattle.config.specs.declared.Judged.{Judged}
-use Rattle.config.specs.Limits.{judge, judged_number, area_length}
+use Rattle.std.specs.Prelude.{Result}
+use Rattle.std.specs.Result.{is_ok}
+use Rattle.units.specs.declared.refusal.Refusal.{Refusal}
+use Rattle.units.specs.RefusalLaws.{answered_zero}
+use Rattle.config.specs.Limits.{judge}
 use Rattle.config.specs.Laws.{limits_counts}
 use Rattle.network_words.specs.NetworkCode.{network_code}
 use Rattle.metrics_words.specs.MetricsCode.{metrics_code}
@@ -30,12 +31,12 @@ use Rattle.model.specs.Fits.{phase_fits}
 use Rattle.state.specs.declared.Capacity.{Capacity}
 use Rattle.state.specs.declared.OpenInput.{OpenInput}
 use Rattle.state.specs.Sizes.{block_words, queue_at, seen_at, leaders_at, replies_at, confirmations_at, applied_at, clients_at, whole_words, bytes_of, sizes, Counted}
-use Rattle.state.specs.Parts.{capacity_words, capacity_in, capacity_tells, capacity_code, counts_within, settings_in, settings_accepted, open_in, phase_tells}
+use Rattle.state.specs.Parts.{capacity_in, capacity_tells, capacity_code, counts_within, settings_in, settings_accepted, open_in, phase_tells}
 use Rattle.state.specs.Area.{regions}
 use Rattle.state.specs.Decode.{settings_said}
 use Rattle.state.specs.Changes.{Inside}
 use Rattle.state_gate_blocks.specs.Tests.{eqb_sym, same}
-use Rattle.state_gate_header.specs.Regions.{tests, region_ok, regions_ok}
+use Rattle.state_gate_header.specs.Regions.{region_ok, regions_ok}
 use Rattle.state_gate_header.specs.Header.{offsets_ok, accepted_ok, open_ok}
 use Rattle.state_gate_header.specs.PhaseLaws.{phase_told}
 use Rattle.state_gate_header.specs.RegionLaws.{region_lent, region_content, region_table}
@@ -131,10 +132,10 @@ module _ (F : Capacity) (b : List ℕ) (h : Inside b F) (B : Bytes b) where
       region_table F b 8 2048 4096 (omega arith) refl refl B (omega (arith, h.head)) violations 256 n r refl t
       ∙ ap (λ (m : ℕ). (content violations 256 m).ok (W (get_or (cut (sizes F) b) 8 []))) (e ∙ ap (λ (l : List ℕ). get_or (W l) 6 0) (region_lent F b 6 664 728 (omega arith) refl refl))
 
--- questions 1 to 3, by their number
-pub accepted_ok_lem : (c : SimConfig) (l : Limits) (j : Judged) (n : ℕ) → j ≡ judge c l → n ≡ judged_number j → eqb n 0 ≡ accepted_ok c l
+-- questions 1 to 3
+pub accepted_ok_lem : (c : SimConfig) (l : Limits) (j : Result (Unit {0}) Refusal) (r : Bool) → j ≡ judge c l → r ≡ is_ok j → r ≡ accepted_ok c l
 unfolding accepted_ok
-accepted_ok_lem c l j n e m = ap (λ (k : ℕ). eqb k 0) (m ∙ ap judged_number e)
+accepted_ok_lem c l j r e m = m ∙ ap is_ok e ∙ sym (answered_zero (judge c l))
 
 -- the header's nine regions: the numbers of the run and the counts of rows may be any
 pub header_ok : (F : Capacity) (b : List ℕ) (r₀ r₁ r₃ r₄ r₅ r₇ r₈ : Bool) → r₀ ≡ region_ok F b 0 → r₁ ≡ region_ok F b 1 → r₃ ≡ region_ok F b 3 → r₄ ≡ region_ok F b 4 → r₅ ≡ region_ok F b 5 → r₇ ≡ region_ok F b 7 → r₈ ≡ region_ok F b 8

@@ -1,27 +1,25 @@
 -- The ten numbers of a phase: the code's tests are those of the phase's code. Assumes nothing.
-use Rattle.std.specs.Prelude.{◌≡◌, Bool, false, ◌&&◌, List, [], ◌∷◌, get_or}
+use Rattle.std.specs.Prelude.{◌≡◌, Bool, false, ◌&&◌, List, [], ◌∷◌, get_or, Option, None, Some}
 use Rattle.std.proofs.Math.Path.{refl, sym, ap, ap₂}
 use Rattle.std.proofs.Common.{◌∙◌, arith, Fits}
 use Rattle.std.proofs.Math.Bool.{true}
-use Prim.Native.Nat.{ℕ, zero, suc, ◌^◌, ◌≤◌, ◌<◌}
+use Prim.Native.Nat.{ℕ, zero, suc, ◌^◌}
 use Rattle.std.proofs.Math.Dec.{eqb, leb, ltb}
 use Rattle.std.specs.Int.{w64}
-use borrow.Author.Tests.{eq-eqb, ne_eqb, lt-ltb, le-ltb, le-leb, lt-leb}
-use Rattle.laws.specs.Bools.{pick, ◌and◌, cases, and_assoc, and_true, no_and}
+use borrow.Author.Tests.{eq-eqb, ne_eqb, lt-ltb, le-leb, lt-leb}
+use Rattle.laws.specs.Bools.{pick, ◌and◌, and_assoc, and_true, no_and}
 use Rattle.laws.proofs.BoolLaws.{true_and, and_no, code_and}
 use Rattle.laws.specs.Lists.{same_list}
-use Rattle.layout.specs.Structs.{firsts}
 use Rattle.config.specs.declared.SimConfig.{SimConfig}
 use Rattle.config.specs.declared.Limits.{Limits}
-use Rattle.units.specs.declared.NodeOption.{NodeOption}
-use Rattle.units.specs.declared.NodeOption.TheVariants.{None, Some}
 use Rattle.words.specs.Words.{Fit}
-use Rattle.model.specs.State.{Input, Verdict, not_leader, Owed, Phase, closed, writing, sending}
+use Rattle.model.specs.State.{Input, Verdict, not_leader, Owed}
 use Rattle.model.specs.Fits.{node_fits, input_fits, verdict_fits, owed_fits, phase_fits}
 use Rattle.state.specs.declared.OpenInput.{OpenInput}
-use Rattle.state.specs.Parts.{phase_tells, phase_words, phase_in, phase_of, open_in, input_in, input_kind, input_number, verdict_in, verdict_kind, verdict_number, owed_in, owed_kind, owed_slot}
+use Rattle.state.specs.Parts.{phase_tells, phase_words, phase_of, open_in, input_in, input_kind, input_number, verdict_in, verdict_kind, verdict_number, owed_in, owed_kind, owed_slot}
 use Rattle.state_gate_blocks.specs.Tests.{eqb_sym, same}
 use Rattle.state_gate_header.specs.Header.{input_ok, verdict_ok, owed_ok, open_ok}
+use Rattle.units.specs.declared.NodeId.{NodeId}
 
 -- ---- the exits of the code
 
@@ -98,7 +96,7 @@ module _ (c : SimConfig) (l : Limits) where
       ∙ sym (ap (λ (t : Bool). pick t (eqb n 0) (leb m 2 and leb n c.servers)) (ne_eqb m 0 (omega arith)) ∙ no_and (leb m 2) _ (lt-leb m 2 (omega arith)))
 
   -- only a proposal and a confirmation can be refused
-  refusable : (i n s a : ℕ) (o : NodeOption) → verdict_fits c l (input_in i n s a) (not_leader o) ≡ (leb 3 i and node_fits o)
+  refusable : (i n s a : ℕ) (o : Option NodeId) → verdict_fits c l (input_in i n s a) (not_leader o) ≡ (leb 3 i and node_fits o)
   unfolding input_in ◌and◌
   refusable zero n s a o = refl
   refusable (suc zero) n s a o = refl

@@ -1,6 +1,6 @@
 -- A region of an area as it is lent, and its test. Assumes nothing.
-use Rattle.std.specs.Prelude.{◌≡◌, refl, Bool, true, List, [], ℕ, ◌+◌, ◌-◌, ◌*◌, ◌≤◌, ◌<◌, length, get_or, take, drop}
-use Rattle.std.proofs.Common.{sym, ap, ap₂, subst, ◌∙◌, arith, length-drop, length-take-le}
+use Rattle.std.specs.Prelude.{◌≡◌, Bool, List, [], ℕ, ◌+◌, ◌-◌, ◌*◌, ◌≤◌, ◌<◌, length, get_or, take, drop}
+use Rattle.std.proofs.Common.{ap, ap₂, ◌∙◌, arith, length-drop, length-take-le}
 use Rattle.laws.specs.Decides.{Decides}
 use Rattle.words.specs.Words.{W, Bytes}
 use Rattle.words.specs.Numbers.{each_take, each_drop}
@@ -10,7 +10,6 @@ use Rattle.layout.specs.Tables.{Table, Tabled, Content, content}
 use Rattle.layout.specs.Contents.{ok_decides}
 use Rattle.state.specs.declared.Capacity.{Capacity}
 use Rattle.state.specs.Sizes.{sizes}
-use Rattle.state.specs.Parts.{counts_in}
 use Rattle.state_gate_blocks.specs.Tests.{tabled_ok}
 
 module _ (F : Capacity) (b : List ℕ) (i a e : ℕ) (k : i < 18) (p : a ≡ total (take i (sizes F))) (q : e ≡ a + get_or (sizes F) i 0) where

@@ -70,7 +70,7 @@ fn capacity(area: &[u8], f: Capacity) -> bool
 fn accepted(c: SimConfig, limits: Limits) -> bool
     ensures { result ≡ accepted_ok c limits }
 {
-    config::judge(c, limits).number() == 0
+    config::judge(c, limits).is_ok()
 }
 
 // Whether the settings are accepted.

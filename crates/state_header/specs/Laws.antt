@@ -1,5 +1,5 @@
 -- What the proofs of lib.rt cite, and question 10 by each part. Assumes nothing.
-use Rattle.std.specs.Prelude.{◌≡◌, Bool, true, false, ℕ, ◌+◌, ◌-◌, ◌*◌, ◌^◌, ◌≤◌, ◌<◌, eqb, length, drop, take}
+use Rattle.std.specs.Prelude.{◌≡◌, Bool, true, false, ℕ, ◌+◌, ◌-◌, ◌*◌, ◌^◌, ◌≤◌, ◌<◌, eqb, length, drop, take, None, Some}
 use Rattle.std.proofs.Math.Path.{refl, ap, subst}
 use Rattle.std.proofs.Common.{sym, ap₂, ◌∙◌, arith}
 use mathlib.Core.List.{List, [], ◌∷◌, ◌++◌}
@@ -22,8 +22,8 @@ use Rattle.network.specs.declared.Network.{Network}
 use Rattle.network.specs.Network.{network_in_range}
 use Rattle.network_words.specs.NetworkCode.{network_code}
 use Rattle.metrics.specs.declared.Metrics.{Metrics}
-use Rattle.metrics.specs.declared.Counted.{Counted}
-use Rattle.metrics.specs.Metrics.{metrics_fit, counters_fit, counted}
+use Rattle.std.specs.Option.{unwrap_or}
+use Rattle.metrics.specs.Metrics.{metrics_fit, counters_fit, checked, counted}
 use Rattle.metrics_words.specs.MetricsCode.{metrics_code}
 use Rattle.queue.specs.Range.{word}
 use Rattle.model.specs.State.{State, Phase, closed, writing, sending}
@@ -176,9 +176,9 @@ kind_open p n = sym (closed_is p) ∙ ne_eqb (phase_kind p) 0 n
 
 -- ---- counters and generators
 
-pub counted_is : (m m' : Metrics) → counters_fit m' ≡ true → (counted m m').metrics ≡ m'
-unfolding counted
-counted_is m m' t = ap (λ (u : Bool). let x : Counted = pick u (record { fits = true; metrics = m' }) (record { fits = false; metrics = m }) in x.metrics) t
+pub counted_is : (m m' : Metrics) → counters_fit m' ≡ true → unwrap_or (counted m') m ≡ m'
+unfolding checked
+counted_is m m' t = ap (λ (u : Bool). unwrap_or (pick u (Some m') None) m) t
 
 -- a draw leaves a generator of 64 bits
 pub under_word : (g : Rng) (bound : ℕ) → word (under g bound).next.state ≡ true

@@ -1,5 +1,5 @@
 -- The event queue of a state in its area: what is read of it, and the state with an event more or less. Assumes nothing.
-use Rattle.std.specs.Prelude.{◌≡◌, Bool, true, List, [], ◌∷◌, ◌++◌, ℕ, zero, suc, ◌+◌, ◌-◌, ◌≤◌, leb, length}
+use Rattle.std.specs.Prelude.{◌≡◌, Bool, true, List, [], ◌∷◌, ◌++◌, ℕ, zero, suc, ◌+◌, ◌-◌, ◌≤◌, leb, length, Option, None, Some}
 use Rattle.std.proofs.lemmas.List.Edits.{sets}
 use Rattle.laws.specs.Lists.{list_from}
 use Rattle.units.specs.declared.SimTime.{SimTime}
@@ -17,8 +17,6 @@ use Rattle.model.specs.Simulation.{first_sends, spread_starts}
 use Rattle.state.specs.declared.Capacity.{Capacity}
 use Rattle.state.specs.Area.{Area, capacity_of}
 use Rattle.state.specs.Changes.{Inside, Changes, Reads}
-use Rattle.state_queue.specs.declared.NextEvent.{NextEvent}
-use Rattle.state_queue.specs.declared.NextEvent.TheVariants.{None, Some}
 
 -- ---- what is read
 
@@ -31,12 +29,12 @@ unfoldable pub queue_room : ℕ → State → Bool
 queue_room more s = leb (length s.queue + more) s.limits.events
 
 -- The first event of a queue with its time and the length of its message, or none.
-unfoldable pub first_of : Queue → NextEvent
+unfoldable pub first_of : Queue → Option Earliest
 first_of [] = None
 first_of (e ∷ q) = Some (record { time = e.time; event = e.event; length = length e.message })
 
 -- The event that a state takes next.
-unfoldable pub next_event : State → NextEvent
+unfoldable pub next_event : State → Option Earliest
 next_event s = first_of s.queue
 
 -- Where the bytes b hold a state whose queue begins with an event that has a message of so many bytes, the message is at the front of the

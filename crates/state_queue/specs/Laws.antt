@@ -2,7 +2,7 @@
 use Rattle.std.proofs.Math.Path.{◌≡◌, refl, sym, ap, ap₂, subst}
 use Rattle.std.proofs.Common.{◌∙◌, mul-le-mul_right, arith}
 use Rattle.std.proofs.Math.Bool.{true}
-use Rattle.std.specs.Prelude.{false, ℕ, ◌+◌, ◌-◌, ◌*◌, ◌≤◌, ◌<◌, eqb, drop, take}
+use Rattle.std.specs.Prelude.{false, ℕ, ◌+◌, ◌-◌, ◌*◌, ◌≤◌, ◌<◌, eqb, drop, take, Option, None, Some}
 use mathlib.Core.List.{List, [], ◌∷◌}
 use Rattle.std.proofs.Math.Dec.{leb}
 use Rattle.std.proofs.Math.ListN.{length, get_or, set}
@@ -39,8 +39,6 @@ use Rattle.state.specs.Fitting.{area_fits}
 use Rattle.state.specs.FitsBy.{fits_test}
 use Rattle.state.specs.Changes.{Inside, AreaOf, Changes, Reads}
 use Rattle.state.specs.Tables.{Spans, queue_span, table_lent, table_put}
-use Rattle.state_queue.specs.declared.NextEvent.{NextEvent}
-use Rattle.state_queue.specs.declared.NextEvent.TheVariants.{None, Some}
 use Rattle.state_queue.specs.Events.{queue_length, queue_room, event_in_range, first_of, next_event, CopiesMessage, FirstInRange, dequeued, pushed, plain}
 use Rattle.state_queue.specs.Fits.{fits_push, rest_most}
 
@@ -160,7 +158,7 @@ module _ (b : List ℕ) (F : Capacity) (at w : ℕ) where
     unfolding queue_length next_event first_of
     first_read n r c k g = record { to = λ s h ef. by s s.queue (λ e. k (c.to s h ef ∙ ap length e)) (queue_held s h ef) }
       where
-        by : (s : State) (q : Queue) → (q ≡ [] → ⊥) → InQueue s (lent_row at w b) q → ◌≡◌ {A = NextEvent} (Some r) (first_of q)
+        by : (s : State) (q : Queue) → (q ≡ [] → ⊥) → InQueue s (lent_row at w b) q → ◌≡◌ {A = (Option Earliest)} (Some r) (first_of q)
         by s [] k h = absurd (k refl)
         by s (e ∷ q) k h = ap Some (g.to _ _ _ _ _ _ e q h)
 
@@ -219,7 +217,7 @@ plain_put b b' F time event p = p
 
 -- ---- what is known of the first event
 
-first_is : {r x : Earliest} → ◌≡◌ {A = NextEvent} (Some r) (Some x) → r ≡ x
+first_is : {r x : Earliest} → ◌≡◌ {A = (Option Earliest)} (Some r) (Some x) → r ≡ x
 first_is e = cc
 
 room_most : (M : ℕ) (e : Event) → message_room M e ≤ M
@@ -233,7 +231,7 @@ unfolding next_event first_of
 first_in_range b F r p s h ef =
     subst (λ (G : Capacity). FirstInRange G r) (sym ef) (by s.queue (p.to s h ef) (and_left _ _ (and_right _ _ (fits_test s (area_fits h) 3))))
   where
-    by : (q : Queue) → ◌≡◌ {A = NextEvent} (Some r) (first_of q) → every (table_of s).row.good q ≡ true → FirstInRange (capacity_of s) r
+    by : (q : Queue) → ◌≡◌ {A = (Option Earliest)} (Some r) (first_of q) → every (table_of s).row.good q ≡ true → FirstInRange (capacity_of s) r
     by [] e k = absurd (let z : ◌≡◌ {A = ℕ} 0 1 = cc in omega arith)
     by (x ∷ q) e k =
         let f = and_right _ _ (and_left _ _ k) in

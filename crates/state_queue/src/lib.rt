@@ -23,13 +23,6 @@ use units::SimTime;
 
 // ---- what is read
 
-// The first event of the queue, if there is one.
-#[derive(Clone, Copy)]
-pub enum NextEvent {
-    None,
-    Some(Earliest),
-}
-
 // How many events the queue has.
 pub fn queue_count(area: &[u8], f: Capacity) -> u64
     requires { Inside area.now f }
@@ -52,18 +45,18 @@ pub fn queue_room(area: &[u8], f: Capacity, more: u64) -> bool
 }
 
 // The first event, with its time and the length of its message.
-pub fn first_event(area: &[u8], f: Capacity) -> NextEvent
+pub fn first_event(area: &[u8], f: Capacity) -> Option<Earliest>
     requires { Inside area.now f }
     ensures { Reads area.now f result next_event }
 {
     if queue_count(area, f) == 0 {
-        return NextEvent::None;
+        return None;
     }
     let at = sizes::queue_at(f);
     let w = sizes::queue_words(f);
     let a = 8 * at;
     let e = 8 * (at + w);
-    NextEvent::Some(table::first(&area[a..e]))
+    Some(table::first(&area[a..e]))
 }
 
 // Copies the message of the first event to the front of a buffer; count is the length that `first_event` gave.
@@ -143,10 +136,8 @@ pub fn push_first_sends(area: &mut [u8], f: Capacity)
 {
     let run = state_header::run_of(area, f);
     let now = run.now;
-    let mut c = 0;
-    while c < f.clients {
+    for c in 0..f.clients {
         push_plain(area, f, now, Event::ClientSend { client: c });
-        c += 1;
     }
 }
 
@@ -157,11 +148,9 @@ pub fn push_spread_starts(area: &mut [u8], f: Capacity, spread: u64, g: Rng)
     ensures { Changes area.old area.new f (spread_started spread g) }
 {
     let mut next = g;
-    let mut slot = 0;
-    while slot < f.servers {
-        let d = rng::drawn_under(next, spread);
+    for slot in 0..f.servers {
+        let d = next.drawn_under(spread);
         push_plain(area, f, SimTime(d.value), Event::Start { slot });
         next = d.next;
-        slot += 1;
     }
 }

@@ -1,10 +1,9 @@
 -- What the proofs of client_of and set_client cite. Assumes nothing.
-use Rattle.std.specs.Prelude.{◌≡◌, Bool, ℕ, ◌+◌, ◌*◌, ◌≤◌, ◌<◌, length}
+use Rattle.std.specs.Prelude.{◌≡◌, Bool, ℕ, ◌+◌, ◌*◌, ◌≤◌, ◌<◌, length, Some}
 use Rattle.std.proofs.Math.Path.{refl, sym, ap}
 use Rattle.std.proofs.Common.{subst, ◌∙◌, arith, eqb-true, ltb-true}
 use Rattle.std.proofs.Math.Bool.{true}
 use mathlib.Core.List.{List}
-use Rattle.std.proofs.Math.Option.{some}
 use Rattle.std.proofs.Math.ListN.{set}
 use Rattle.laws.specs.Bools.{◌and◌, and_left}
 use Rattle.laws.proofs.BoolLaws.{every_get}
@@ -12,8 +11,7 @@ use Rattle.laws.specs.ListLaws.{at_there}
 use Rattle.words.specs.Words.{bytes}
 use Rattle.layout.specs.Tables.{Held}
 use Rattle.layout.specs.Parts.{lent_row, back_row, length_lent_row}
-use Rattle.clients.specs.declared.Client.{Client as ClientRow}
-use Rattle.clients.specs.Clients.{clients, client_of, ReadsClient, WritesClient}
+use Rattle.clients.specs.Clients.{clients, ReadsClient, WritesClient}
 use Rattle.clients.specs.ClientLaws.{no_client}
 use Rattle.model.specs.State.{State, Client}
 use Rattle.model.specs.Fits.{state_fits, client_state_fits}
@@ -48,27 +46,27 @@ module _ (b : List ℕ) (F : Capacity) (at : ℕ) where
     clients_are : (s : State) → Area b s → F ≡ capacity_of s → length s.clients ≡ F.clients
     clients_are s h ef = eqb-true _ _ (fits_test s (area_fits h) 9) ∙ ap (λ (G : Capacity). G.clients) (sym ef)
 
-    pub client_read_lem : (c : ℕ) (r : ClientRow) → c < F.clients → ReadsClient F.clients c r (lent_row at (F.clients * 8) b)
-        → Reads b F (client_of r) (client_read c)
+    pub client_read_lem : (c : ℕ) (r : Client) → c < F.clients → ReadsClient F.clients c r (lent_row at (F.clients * 8) b)
+        → Reads b F r (client_read c)
     unfolding client_read
     client_read_lem c r k g = record {
       to =
           λ s h ef. taken (sym (at_there s.clients c no_client (omega (arith, clients_are s h ef))) ∙ g.to s.config.servers (s.config.clients * 8) s.clients (clients_held s h ef));
     }
       where
-        taken : {x y : Client} → some x ≡ some y → y ≡ x
+        taken : {x y : Client} → Some x ≡ Some y → y ≡ x
         taken e = cc
 
-    pub client_put : (c : ℕ) (v : ClientRow) (ys : List ℕ) → c < F.clients
+    pub client_put : (c : ℕ) (v : Client) (ys : List ℕ) → c < F.clients
         → WritesClient F.clients c v (lent_row at (F.clients * 8) b) ys
-        → Changes b (back_row at (F.clients * 8) b ys) F (client_set c (client_of v))
-    unfolding client_set client_of
+        → Changes b (back_row at (F.clients * 8) b ys) F (client_set c v)
+    unfolding client_set
     client_put c v ys k g = record {
       to = λ s r h t.
-          let s' : State = client_set c (client_of v) s in
-          let e : s'.clients ≡ set s.clients c (client_of v) = clients_set s c (client_of v) in
-          let fit : client_state_fits s.config s.limits (client_of v) and state_fits s ≡ true =
-          sym (fits_client s c (client_of v) (eqb-true _ _ (fits_test s (area_fits h.area) 9)) (subst (λ (G : Capacity). c < G.clients) h.capacity k) (fits_test s (area_fits h.area) 10))
+          let s' : State = client_set c v s in
+          let e : s'.clients ≡ set s.clients c v = clients_set s c v in
+          let fit : client_state_fits s.config s.limits v and state_fits s ≡ true =
+          sym (fits_client s c v (eqb-true _ _ (fits_test s (area_fits h.area) 9)) (subst (λ (G : Capacity). c < G.clients) h.capacity k) (fits_test s (area_fits h.area) 10))
           ∙ t in
           let held =
           g.to s.config.servers (s.config.clients * 8) s.clients (ltb-true _ _ (and_left _ _ (and_left _ _ fit))) (clients_held s h.area h.capacity) in
@@ -76,12 +74,12 @@ module _ (b : List ℕ) (F : Capacity) (at : ℕ) where
     }
 
 -- a client of a state in an area sends to a server of the cluster
-pub client_target : (b : List ℕ) (F : Capacity) (c : ℕ) (r : ClientRow) → Reads b F (client_of r) (client_read c) → c < F.clients
+pub client_target : (b : List ℕ) (F : Capacity) (c : ℕ) (r : Client) → Reads b F r (client_read c) → c < F.clients
     → (s : State) → Area b s → F ≡ capacity_of s → r.target < F.servers
-unfolding client_read client_of
+unfolding client_read
 client_target b F c r p k s h ef =
     let f : Client → Bool = client_state_fits s.config s.limits in
     let l : c < length s.clients =
     omega (arith, k, eqb-true (length s.clients) s.config.clients (fits_test s (area_fits h) 9), ap (λ (G : Capacity). G.clients) ef) in
-    let fit : f (client_of r) ≡ true = ap f (p.to s h ef) ∙ every_get f s.clients c no_client l (fits_test s (area_fits h) 10) in
+    let fit : f r ≡ true = ap f (p.to s h ef) ∙ every_get f s.clients c no_client l (fits_test s (area_fits h) 10) in
     omega (arith, ltb-true r.target s.config.servers (and_left _ _ fit), ap (λ (G : Capacity). G.servers) ef)

@@ -4,7 +4,7 @@ use Rattle.std.proofs.Common.{ap₂, ◌∙◌, arith}
 use mathlib.Core.List.{List, [], ◌∷◌, ◌++◌}
 use Prim.Native.Nat.{ℕ, ◌+◌, ◌-◌, ◌*◌, ◌≤◌, ◌<◌}
 use Rattle.std.proofs.Math.ListN.{length, set, length-append}
-use Rattle.std.specs.Prelude.{get_or, drop, take}
+use Rattle.std.specs.Prelude.{get_or, drop, take, Option, None, Some}
 use Rattle.std.proofs.lemmas.List.Edits.{sets}
 use borrow.Author.Tests.{leb-true}
 use Rattle.laws.specs.Bools.{and_left}
@@ -12,11 +12,9 @@ use Rattle.laws.specs.ListLaws.{at_none}
 use Rattle.words.specs.Words.{W, bytes, bytes_of as bytesOfNumber}
 use Rattle.layout.specs.Tables.{Held, append}
 use Rattle.layout.specs.Parts.{lent_row, back_row, length_lent_row}
-use Rattle.checks_durability.specs.declared.replies.Appending.{Appending}
-use Rattle.checks_durability.specs.declared.replies.Appending.TheVariants.{Appended, Full}
 use Rattle.checks_durability.specs.Replies.{appending_number, room_code}
-use Rattle.clients.specs.declared.confirmations.Confirmation.{Confirmation as ConfirmationRow}
-use Rattle.clients.specs.Confirmations.{Confirmation, confirmation_of, confirmations, ReadsConfirmation, Outcome, AppendsConfirmation}
+use Rattle.clients.specs.Confirmations.{confirmations, ReadsConfirmation, Outcome, AppendsConfirmation}
+use Rattle.clients.specs.declared.confirmations.Confirmation.{Confirmation}
 use Rattle.model.specs.State.{State}
 use Rattle.state.specs.declared.Capacity.{Capacity}
 use Rattle.state.specs.Sizes.{confirmations_at, Counted}
@@ -28,8 +26,7 @@ use Rattle.state.specs.Fitting.{area_fits}
 use Rattle.state.specs.FitsBy.{fits_test}
 use Rattle.state.specs.Changes.{Inside, AreaOf, Changes, Reads}
 use Rattle.state.specs.Tables.{Spans, confirmations_span, table_put}
-use Rattle.state_records.specs.declared.ConfirmationOption.TheVariants as confirmation
-use Rattle.state_records.specs.Records.{confirmation_count, confirmation_read, confirmation_at, confirmed}
+use Rattle.state_records.specs.Records.{confirmation_count, confirmation_at, confirmed}
 use Rattle.state_records.specs.Fits.{fits_confirmed}
 use Rattle.state_records.specs.Lent.{spans_is, lent_holds, counted, history_is, no_room}
 
@@ -57,11 +54,11 @@ module _ (b : List ℕ) (F : Capacity) where
     confirmations_most s h ef =
         omega (arith, c.to s h ef, leb-true (length s.confirmations) s.limits.history (and_left _ _ (fits_test s (area_fits h) 15)), history_is ef)
 
-    pub confirmation_past : (i : ℕ) → F.limits.history < n → Reads b F (confirmation_read confirmation.None) (confirmation_at i)
+    pub confirmation_past : (i : ℕ) → F.limits.history < n → Reads b F None (confirmation_at i)
     confirmation_past i k = record { to = λ s h ef. absurd (let o : n ≤ F.limits.history = confirmations_most s h ef in omega arith) }
 
-    pub confirmation_none : (i : ℕ) → n ≤ i → Reads b F (confirmation_read confirmation.None) (confirmation_at i)
-    unfolding confirmation_count confirmation_read confirmation_at
+    pub confirmation_none : (i : ℕ) → n ≤ i → Reads b F None (confirmation_at i)
+    unfolding confirmation_count confirmation_at
     confirmation_none i k = record { to = λ s h ef. sym (at_none s.confirmations i (omega (arith, c.to s h ef))) }
 
     module _ (at : ℕ) (p : Counted at (confirmations_at F)) where
@@ -75,25 +72,25 @@ module _ (b : List ℕ) (F : Capacity) where
           subst (λ (m : ℕ). Held confirmations (s.limits.history * 3) m (lent_row at (F.limits.history * 3) b) s.confirmations) (sym (c.to s h ef))
           (record { holds = lent_holds confirmations_spans (confirmations_code (capacity_of s) (counts_of s)) b s s.confirmations ef h.laid.confirmations })
 
-      pub confirmation_read_lem : (i : ℕ) (r : ConfirmationRow) → ReadsConfirmation n i r (lent_row at (F.limits.history * 3) b)
-          → Reads b F (confirmation_read (confirmation.Some r)) (confirmation_at i)
-      unfolding confirmation_read confirmation_at
+      pub confirmation_read_lem : (i : ℕ) (r : Confirmation) → ReadsConfirmation n i r (lent_row at (F.limits.history * 3) b)
+          → Reads b F (Some r) (confirmation_at i)
+      unfolding confirmation_at
       confirmation_read_lem i r g =
           record { to = λ s h ef. sym (g.to (s.limits.history * 3) s.confirmations (confirmations_held s h ef)) }
 
-      module _ (r : ConfirmationRow) (a : Appending) (ys : List ℕ) (g : AppendsConfirmation r n F.limits.history a (lent_row at (F.limits.history * 3) b) ys) where
+      module _ (r : Confirmation) (a : Option ℕ) (ys : List ℕ) (g : AppendsConfirmation r n F.limits.history a (lent_row at (F.limits.history * 3) b) ys) where
         abbrev x : Confirmation
-        x = confirmation_of r
+        x = r
 
-        pub confirmation_put : (m : ℕ) (b₂ : List ℕ) → a ≡ Appended m
+        pub confirmation_put : (m : ℕ) (b₂ : List ℕ) → a ≡ Some m
             → b₂ ≡ sets (back_row at (F.limits.history * 3) b ys) (8 * 87) (bytesOfNumber 8 m)
-            → Changes b b₂ F (confirmed (confirmation_of r))
+            → Changes b b₂ F (confirmed r)
         unfolding confirmed append confirmation_count
         confirmation_put m b₂ ea eb = record {
           to = λ s l h t.
               let N : ℕ = s.limits.history * 3 in
               let grown =
-              subst (λ (u : Appending). Outcome u N n (lent_row at (F.limits.history * 3) b) ys s.confirmations r) ea (g.to N s.confirmations (confirmations_held s h.area h.capacity)) in
+              subst (λ (u : Option ℕ). Outcome u N n (lent_row at (F.limits.history * 3) b) ys s.confirmations r) ea (g.to N s.confirmations (confirmations_held s h.area h.capacity)) in
               let more : m ≡ length (s.confirmations ++ x ∷ []) =
               omega (arith, grown.count, c.to s h.area h.capacity, length-append s.confirmations (x ∷ [])) in
               subst (λ (z : List ℕ). AreaOf z l F (confirmed x s)) (sym eb)
@@ -101,7 +98,7 @@ module _ (b : List ℕ) (F : Capacity) where
               (ap₂ (λ (y : List ℕ) (v : ℕ). set (set (contents s) 14 y) 6 (bytes (set (counts_words (counts_of s)) 4 v))) grown.held.holds.is more) t);
         }
 
-        pub confirmation_full : a ≡ Full → Changes b (back_row at (F.limits.history * 3) b ys) F (confirmed (confirmation_of r))
+        pub confirmation_full : a ≡ None → Changes b (back_row at (F.limits.history * 3) b ys) F (confirmed r)
         unfolding appending_number append
         confirmation_full ea = record {
           to = λ s l h t.

@@ -1,9 +1,8 @@
 -- What the proofs of the functions on violations and applied payloads cite. Assumes nothing.
-use Rattle.std.specs.Prelude.{◌≡◌, length, get_or, drop, take}
+use Rattle.std.specs.Prelude.{◌≡◌, length, get_or, drop, take, Option, None, Some}
 use Rattle.std.proofs.Math.Path.{refl, sym, ap, subst}
 use Rattle.std.proofs.Common.{◌∙◌, arith}
 use mathlib.Core.List.{List}
-use Rattle.std.proofs.Math.Option.{Option, none, some}
 use Prim.Native.Nat.{ℕ, zero, suc, ◌+◌, ◌-◌, ◌*◌, ◌≤◌, ◌<◌}
 use Rattle.std.proofs.Math.Seq.{sets}
 use borrow.Author.Tests.{leb-true}
@@ -35,9 +34,6 @@ use Rattle.state.specs.Fitting.{area_fits}
 use Rattle.state.specs.FitsBy.{fits_test}
 use Rattle.state.specs.Changes.{Inside, Reads}
 use Rattle.state.specs.Tables.{violations_span, applied_span}
-use Rattle.state_records.specs.declared.ViolationOption.TheVariants as violation
-use Rattle.state_records.specs.declared.PayloadOption.{PayloadOption}
-use Rattle.state_records.specs.declared.PayloadOption.TheVariants as option
 use Rattle.state_records.specs.Records.{violation_count, violation_given, violation_at, applied_count, payload_kind, payload_bytes, applied_kind, applied_into, ReadsRow, ReadsPlace, ReadsApplied}
 use Rattle.state_records.specs.Lent.{spans_is, lent_holds, counted}
 
@@ -54,10 +50,10 @@ module _ (b : List ℕ) (F : Capacity) where
     violations_most s h ef =
         omega (arith, c.to s h ef, leb-true (length s.checker.violations) 32 (and_left _ _ (and_left _ _ (and_right _ _ (and_right _ _ (and_right _ _ (fits_test s (area_fits h) 13)))))))
 
-    pub violation_past : (i : ℕ) → 32 < n → Reads b F violation.None (violation_at i)
+    pub violation_past : (i : ℕ) → 32 < n → Reads b F None (violation_at i)
     violation_past i k = record { to = λ s h ef. absurd (let o : n ≤ 32 = violations_most s h ef in omega arith) }
 
-    pub violation_none : (i : ℕ) → n ≤ i → Reads b F violation.None (violation_at i)
+    pub violation_none : (i : ℕ) → n ≤ i → Reads b F None (violation_at i)
     unfolding violation_count violation_at violation_given
     violation_none i k =
         record { to = λ s h ef. sym (ap violation_given (at_none s.checker.violations i (omega (arith, c.to s h ef)))) }
@@ -71,11 +67,11 @@ module _ (b : List ℕ) (F : Capacity) where
 
     pub violation_read : (i : ℕ) (r : Numbers) → i < n
         → Gives violations n (take (4096 - 2048) (drop 2048 b)) r (λ x. given (get_or x i no_violation))
-        → Reads b F (violation.Some r) (violation_at i)
+        → Reads b F (Some r) (violation_at i)
     unfolding violation_count violation_at violation_given
     violation_read i r k g = record {
       to = λ s h ef.
-          ap violation.Some (g.to 256 s.checker.violations (violations_held s h ef))
+          ap Some (g.to 256 s.checker.violations (violations_held s h ef))
           ∙ sym (ap violation_given (at_there s.checker.violations i no_violation (omega (arith, c.to s h ef))));
     }
 
@@ -89,28 +85,28 @@ module _ (p : ℕ) (s d : List ℕ) where
   mark_most : (x : Payload) → mark_of x - 2 ≤ p → mark_of x ≤ 2 + p
   mark_most x h = omega arith
 
-  pub row_none : (m : ℕ) → m ≡ get_or (W s) 0 0 → 2 + p < m → ReadsRow p option.None s d d
+  pub row_none : (m : ℕ) → m ≡ get_or (W s) 0 0 → 2 + p < m → ReadsRow p None s d d
   row_none m e k = record { kind = λ x h. absurd (never x h); copied = λ x h. absurd (never x h) }
     where
       never : (x : Payload) → Holds (payload p) s x → ⊥
       never x h = omega (arith, e, k, mark_is x h, count_mark x, (sound payload_marking p x h.good).short)
 
-  pub row_read : (r : Kind) (d' : List ℕ) → ReadsPayload r s d d' → ReadsRow p (option.Some r) s d d'
+  pub row_read : (r : Kind) (d' : List ℕ) → ReadsPayload r s d d' → ReadsRow p (Some r) s d d'
   unfolding payload_kind payload_bytes
-  row_read r d' g = record { kind = λ x h. ap option.Some (g.kind p x h); copied = λ x h. g.copied p x h }
+  row_read r d' g = record { kind = λ x h. ap Some (g.kind p x h); copied = λ x h. g.copied p x h }
 
 -- ---- a place
 
 module _ (p n i : ℕ) (s d : List ℕ) where
-  pub place_none : n ≤ i → ReadsPlace p n i option.None s d d
+  pub place_none : n ≤ i → ReadsPlace p n i None s d d
   unfolding payload_kind payload_bytes
   place_none k =
       record { kind = λ N xs h. sym (ap payload_kind (none_there xs h)); copied = λ N xs h. sym (ap (λ (o : Option Payload). sets d 0 (payload_bytes o)) (none_there xs h)) }
     where
-      none_there : {N : ℕ} (xs : List Payload) → Held (applied p) N n s xs → at xs i ≡ none
+      none_there : {N : ℕ} (xs : List Payload) → Held (applied p) N n s xs → at xs i ≡ None
       none_there xs h = at_none xs i (omega (arith, (held_rows h).count))
 
-  pub place_read : (a : ℕ) (r : PayloadOption) (d' : List ℕ) → i < n → a ≡ i * (1 + words_for p)
+  pub place_read : (a : ℕ) (r : Option Kind) (d' : List ℕ) → i < n → a ≡ i * (1 + words_for p)
       → ReadsRow p r (lent_row a (1 + words_for p) s) d d' → ReadsPlace p n i r s d d'
   place_read a r d' k e g = record {
     kind = λ N xs h. g.kind (get_or xs i noop) (row_lent h i a noop k e) ∙ ap payload_kind (sym (there xs h));
@@ -119,7 +115,7 @@ module _ (p n i : ℕ) (s d : List ℕ) where
         ∙ ap (λ (o : Option Payload). sets d 0 (payload_bytes o)) (sym (there xs h));
   }
     where
-      there : {N : ℕ} (xs : List Payload) → Held (applied p) N n s xs → at xs i ≡ some (get_or xs i noop)
+      there : {N : ℕ} (xs : List Payload) → Held (applied p) N n s xs → at xs i ≡ Some (get_or xs i noop)
       there xs h = at_there xs i noop (omega (arith, (held_rows h).count))
 
 -- ---- an index
@@ -133,14 +129,14 @@ module _ (b : List ℕ) (F : Capacity) where
   unfolding applied_count
   applied_counted n e = record { to = λ s h ef. e ∙ counted h 5 }
 
-  pub index_none : (index : ℕ) (d : List ℕ) → index < 1 → ReadsApplied b F index option.None d d
+  pub index_none : (index : ℕ) (d : List ℕ) → index < 1 → ReadsApplied b F index None d d
   unfolding applied_kind applied_into payload_kind payload_bytes
   index_none index d k = record {
     kind = record { to = λ s h ef. sym (ap payload_kind (zeroth s.checker.applied index k)) };
     copied = record { to = λ s h ef. sym (ap (λ (o : Option Payload). sets d 0 (payload_bytes o)) (zeroth s.checker.applied index k)) };
   }
     where
-      zeroth : (xs : List Payload) (i : ℕ) → i < 1 → applied_at xs i ≡ none
+      zeroth : (xs : List Payload) (i : ℕ) → i < 1 → applied_at xs i ≡ None
       zeroth xs zero l = refl
       zeroth xs (suc i) l = absurd (omega arith)
 
@@ -158,7 +154,7 @@ module _ (b : List ℕ) (F : Capacity) where
     applied_most s h ef =
         omega (arith, c.to s h ef, leb-true (length s.checker.applied) s.limits.log_indexes (and_left _ _ (and_left _ _ (and_right _ _ (fits_test s (area_fits h) 13)))), ap (λ (G : Capacity). G.limits.log_indexes) ef)
 
-    pub index_past : (index : ℕ) (d : List ℕ) → F.limits.log_indexes < n → ReadsApplied b F index option.None d d
+    pub index_past : (index : ℕ) (d : List ℕ) → F.limits.log_indexes < n → ReadsApplied b F index None d d
     index_past index d k =
         record { kind = record { to = λ s h ef. absurd (never s h ef) }; copied = record { to = λ s h ef. absurd (never s h ef) } }
       where
@@ -174,7 +170,7 @@ module _ (b : List ℕ) (F : Capacity) where
           (subst (λ (m : ℕ). Held (applied s.limits.payload) (applied_words (capacity_of s)) m (lent_row at w b) s.checker.applied) (sym (c.to s h ef))
           (record { holds = lent_holds (spans_is p.is q.is (applied_span F)) (applied_code (capacity_of s) (counts_of s)) b s s.checker.applied ef h.laid.applied }))
 
-      pub index_read : (index : ℕ) (r : PayloadOption) (d d' : List ℕ) → 1 ≤ index
+      pub index_read : (index : ℕ) (r : Option Kind) (d d' : List ℕ) → 1 ≤ index
           → ReadsPlace F.limits.payload n (index - 1) r (lent_row at w b) d d' → ReadsApplied b F index r d d'
       unfolding applied_kind applied_into
       index_read index r d d' k g = record {

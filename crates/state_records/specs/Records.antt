@@ -1,7 +1,6 @@
 -- The clients of a state in its area, and what the run keeps for its report: what is read of them, and the state with one of them another.
 -- Assumes nothing.
-use Rattle.std.specs.Prelude.{◌≡◌, List, [], ◌∷◌, ◌++◌, ℕ, ◌+◌, ◌^◌, ◌≤◌, ◌<◌, ltb, length, drop}
-use Rattle.std.proofs.Math.Option.{Option, none, some}
+use Rattle.std.specs.Prelude.{◌≡◌, List, [], ◌∷◌, ◌++◌, ℕ, ◌+◌, ◌^◌, ◌≤◌, ◌<◌, ltb, length, drop, Option, None, Some}
 use Rattle.std.proofs.lemmas.List.Edits.{sets}
 use Rattle.laws.specs.Bools.{pick}
 use Rattle.laws.specs.Lists.{at}
@@ -13,8 +12,8 @@ use Rattle.layout.specs.MarkedCalls.{kind_of}
 use Rattle.checks.specs.Checks.{Violation}
 use Rattle.checks.specs.Violations.{given}
 use Rattle.checks_durability.specs.declared.replies.Reply.{Reply}
-use Rattle.clients.specs.Clients.{Client}
-use Rattle.clients.specs.Confirmations.{Confirmation, confirmation_of}
+use Rattle.clients.specs.declared.Client.{Client}
+use Rattle.clients.specs.declared.confirmations.Confirmation.{Confirmation}
 use Rattle.model.specs.State.{State, server_at, client_at}
 use Rattle.model.specs.Fields.{with_replies, with_confirmations}
 use Rattle.model.specs.Simulation.{on_client}
@@ -22,15 +21,9 @@ use Rattle.model.specs.Reads.{applied_at, discarded_by}
 use Rattle.state.specs.declared.Capacity.{Capacity}
 use Rattle.state.specs.Area.{Area, capacity_of}
 use Rattle.state.specs.Changes.{Reads}
-use Rattle.state_records.specs.declared.ReplyOption.{ReplyOption}
-use Rattle.state_records.specs.declared.ReplyOption.TheVariants as reply
-use Rattle.state_records.specs.declared.ConfirmationOption.{ConfirmationOption}
-use Rattle.state_records.specs.declared.ConfirmationOption.TheVariants as confirmation
-use Rattle.state_records.specs.declared.ViolationOption.{ViolationOption}
-use Rattle.state_records.specs.declared.ViolationOption.TheVariants as violation
-use Rattle.state_records.specs.declared.PayloadOption.{PayloadOption}
-use Rattle.state_records.specs.declared.PayloadOption.TheVariants as option
 use Rattle.state_records.specs.declared.Sum.{Sum}
+use Rattle.checks.specs.declared.violations.Violation.{Violation as KeptViolation}
+use Rattle.layout.specs.declared.marked.Kind.{Kind}
 
 -- ---- clients
 
@@ -49,9 +42,9 @@ unfoldable pub reply_count : State → ℕ
 reply_count s = length s.replies
 
 -- The reply that the code answers, or none.
-unfoldable pub reply_of : ReplyOption → Option Reply
-reply_of reply.None = none
-reply_of (reply.Some r) = some r
+unfoldable pub reply_of : Option Reply → Option Reply
+reply_of None = None
+reply_of (Some r) = Some r
 
 -- The reply at a place, or none.
 unfoldable pub reply_at : ℕ → State → Option Reply
@@ -67,11 +60,6 @@ replied r s = with_replies s (s.replies ++ r ∷ [])
 unfoldable pub confirmation_count : State → ℕ
 confirmation_count s = length s.confirmations
 
--- The confirmation that the code answers, or none.
-unfoldable pub confirmation_read : ConfirmationOption → Option Confirmation
-confirmation_read confirmation.None = none
-confirmation_read (confirmation.Some c) = some (confirmation_of c)
-
 -- The confirmation at a place, or none.
 unfoldable pub confirmation_at : ℕ → State → Option Confirmation
 confirmation_at i s = at s.confirmations i
@@ -83,23 +71,23 @@ confirmed c s = with_confirmations s (s.confirmations ++ c ∷ [])
 -- ---- what is only read
 
 -- A violation in the numbers in which the code answers it, or none.
-unfoldable pub violation_given : Option Violation → ViolationOption
-violation_given none = violation.None
-violation_given (some v) = violation.Some (given v)
+unfoldable pub violation_given : Option Violation → Option KeptViolation
+violation_given None = None
+violation_given (Some v) = Some (given v)
 
 -- The violation at a place of those that are kept, or none.
-unfoldable pub violation_at : ℕ → State → ViolationOption
+unfoldable pub violation_at : ℕ → State → Option KeptViolation
 violation_at i s = violation_given (at s.checker.violations i)
 
 -- A payload's kind with the length of a command, or none.
-unfoldable pub payload_kind : Option Payload → PayloadOption
-payload_kind none = option.None
-payload_kind (some x) = option.Some (kind_of x)
+unfoldable pub payload_kind : Option Payload → Option Kind
+payload_kind None = None
+payload_kind (Some x) = Some (kind_of x)
 
 -- The bytes of a command; a noop has none.
 unfoldable pub payload_bytes : Option Payload → List ℕ
-payload_bytes none = []
-payload_bytes (some x) = body_of x
+payload_bytes None = []
+payload_bytes (Some x) = body_of x
 
 -- How many payloads were applied.
 unfoldable pub applied_count : State → ℕ
@@ -110,7 +98,7 @@ unfoldable pub violation_count : State → ℕ
 violation_count s = length s.checker.violations
 
 -- What the payload first applied at an index is, or none.
-unfoldable pub applied_kind : ℕ → State → PayloadOption
+unfoldable pub applied_kind : ℕ → State → Option Kind
 applied_kind index s = payload_kind (applied_at s.checker.applied index)
 
 -- A buffer with the bytes of that payload at its front.
@@ -118,17 +106,17 @@ unfoldable pub applied_into : List ℕ → ℕ → State → List ℕ
 applied_into d index s = sets d 0 (payload_bytes (applied_at s.checker.applied index))
 
 -- A row of a payload of up to p bytes is read: whatever payload its bytes hold, r is its kind, and the buffer d has become d'.
-pub record ReadsRow (p : ℕ) (r : PayloadOption) (s d d' : List ℕ) : Type 0 where
-  pub kind : (x : Payload) → Holds (payload p) s x → r ≡ payload_kind (some x)
-  pub copied : (x : Payload) → Holds (payload p) s x → d' ≡ sets d 0 (payload_bytes (some x))
+pub record ReadsRow (p : ℕ) (r : Option Kind) (s d d' : List ℕ) : Type 0 where
+  pub kind : (x : Payload) → Holds (payload p) s x → r ≡ payload_kind (Some x)
+  pub copied : (x : Payload) → Holds (payload p) s x → d' ≡ sets d 0 (payload_bytes (Some x))
 
 -- Place i of a table of n payloads is read, and there is none past its end.
-pub record ReadsPlace (p n i : ℕ) (r : PayloadOption) (s d d' : List ℕ) : Type 0 where
+pub record ReadsPlace (p n i : ℕ) (r : Option Kind) (s d d' : List ℕ) : Type 0 where
   pub kind : (N : ℕ) (xs : List Payload) → Held (applied p) N n s xs → r ≡ payload_kind (at xs i)
   pub copied : (N : ℕ) (xs : List Payload) → Held (applied p) N n s xs → d' ≡ sets d 0 (payload_bytes (at xs i))
 
 -- The payload first applied at an index is read: its kind is r, and the buffer d has become d'.
-pub record ReadsApplied (b : List ℕ) (F : Capacity) (index : ℕ) (r : PayloadOption) (d d' : List ℕ) : Type 0 where
+pub record ReadsApplied (b : List ℕ) (F : Capacity) (index : ℕ) (r : Option Kind) (d d' : List ℕ) : Type 0 where
   pub kind : Reads b F r (applied_kind index)
   pub copied : Reads b F d' (applied_into d index)
 

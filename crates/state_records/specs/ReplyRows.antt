@@ -4,7 +4,7 @@ use Rattle.std.proofs.Common.{ap₂, ◌∙◌, arith}
 use mathlib.Core.List.{List, [], ◌∷◌, ◌++◌}
 use Prim.Native.Nat.{ℕ, ◌+◌, ◌-◌, ◌*◌, ◌≤◌, ◌<◌}
 use Rattle.std.proofs.Math.ListN.{length, set, length-append}
-use Rattle.std.specs.Prelude.{get_or, drop, take}
+use Rattle.std.specs.Prelude.{get_or, drop, take, Option, None, Some}
 use Rattle.std.proofs.lemmas.List.Edits.{sets}
 use borrow.Author.Tests.{leb-true, ltb-true}
 use Rattle.laws.specs.Bools.{and_left}
@@ -14,8 +14,6 @@ use Rattle.words.specs.Words.{W, bytes, bytes_of as bytesOfNumber}
 use Rattle.layout.specs.Tables.{Held, append}
 use Rattle.layout.specs.Parts.{lent_row, back_row, length_lent_row}
 use Rattle.checks_durability.specs.declared.replies.Reply.{Reply}
-use Rattle.checks_durability.specs.declared.replies.Appending.{Appending}
-use Rattle.checks_durability.specs.declared.replies.Appending.TheVariants.{Appended, Full}
 use Rattle.checks_durability.specs.Replies.{replies, appending_number, room_code, Outcome, Appends, Reads as ReadsReply}
 use Rattle.model.specs.State.{State}
 use Rattle.state.specs.declared.Capacity.{Capacity}
@@ -28,7 +26,6 @@ use Rattle.state.specs.Fitting.{area_fits}
 use Rattle.state.specs.FitsBy.{fits_test}
 use Rattle.state.specs.Changes.{Inside, AreaOf, Changes, Reads}
 use Rattle.state.specs.Tables.{Spans, replies_span, table_put}
-use Rattle.state_records.specs.declared.ReplyOption.TheVariants as reply
 use Rattle.state_records.specs.Records.{reply_count, reply_of, reply_at, replied}
 use Rattle.state_records.specs.Fits.{fits_replied}
 use Rattle.state_records.specs.Lent.{spans_is, lent_holds, counted, history_is, no_room}
@@ -56,10 +53,10 @@ module _ (b : List ℕ) (F : Capacity) where
     replies_most s h ef =
         omega (arith, c.to s h ef, leb-true (length s.replies) s.limits.history (and_left _ _ (fits_test s (area_fits h) 14)), history_is ef)
 
-    pub reply_past : (i : ℕ) → F.limits.history < n → Reads b F (reply_of reply.None) (reply_at i)
+    pub reply_past : (i : ℕ) → F.limits.history < n → Reads b F (reply_of None) (reply_at i)
     reply_past i k = record { to = λ s h ef. absurd (let o : n ≤ F.limits.history = replies_most s h ef in omega arith) }
 
-    pub reply_none : (i : ℕ) → n ≤ i → Reads b F (reply_of reply.None) (reply_at i)
+    pub reply_none : (i : ℕ) → n ≤ i → Reads b F (reply_of None) (reply_at i)
     unfolding reply_count reply_of reply_at
     reply_none i k = record { to = λ s h ef. sym (at_none s.replies i (omega (arith, c.to s h ef))) }
 
@@ -75,15 +72,15 @@ module _ (b : List ℕ) (F : Capacity) where
           (record { holds = lent_holds replies_spans (replies_code (capacity_of s) (counts_of s)) b s s.replies ef h.laid.replies })
 
       pub reply_read : (i : ℕ) (r : Reply) → ReadsReply n i r (lent_row at (F.limits.history * 5) b)
-          → Reads b F (reply_of (reply.Some r)) (reply_at i)
+          → Reads b F (reply_of (Some r)) (reply_at i)
       unfolding reply_of reply_at
       reply_read i r g = record {
         to =
             λ s h ef. sym (g.to s.replies (record { indexes = s.limits.log_indexes; clients = s.config.clients; words = s.limits.history * 5; held = replies_held s h ef }));
       }
 
-      module _ (r : Reply) (a : Appending) (ys : List ℕ) (g : Appends r n F.limits.history a (lent_row at (F.limits.history * 5) b) ys) where
-        pub reply_put : (m : ℕ) (b₂ : List ℕ) → a ≡ Appended m
+      module _ (r : Reply) (a : Option ℕ) (ys : List ℕ) (g : Appends r n F.limits.history a (lent_row at (F.limits.history * 5) b) ys) where
+        pub reply_put : (m : ℕ) (b₂ : List ℕ) → a ≡ Some m
             → b₂ ≡ sets (back_row at (F.limits.history * 5) b ys) (8 * 86) (bytesOfNumber 8 m) → Changes b b₂ F (replied r)
         unfolding replied append reply_count
         reply_put m b₂ ea eb = record {
@@ -92,7 +89,7 @@ module _ (b : List ℕ) (F : Capacity) where
               let C : ℕ = s.config.clients in
               let N : ℕ = s.limits.history * 5 in
               let good = and_right _ _ (and_right _ _ (and_left _ _ (sym (fits_replied s r) ∙ t))) in
-              let grown = subst (λ (u : Appending). Outcome u L C N n (lent_row at (F.limits.history * 5) b) ys s.replies r) ea
+              let grown = subst (λ (u : Option ℕ). Outcome u L C N n (lent_row at (F.limits.history * 5) b) ys s.replies r) ea
               (g.to L C (leb-true _ _ (and_left _ _ good)) (ltb-true _ _ (and_right _ _ good)) N s.replies (replies_held s h.area h.capacity)) in
               let more : m ≡ length (s.replies ++ r ∷ []) =
               omega (arith, grown.count, c.to s h.area h.capacity, length-append s.replies (r ∷ [])) in
@@ -101,7 +98,7 @@ module _ (b : List ℕ) (F : Capacity) where
               (ap₂ (λ (y : List ℕ) (v : ℕ). set (set (contents s) 13 y) 6 (bytes (set (counts_words (counts_of s)) 3 v))) grown.held.holds.is more) t);
         }
 
-        pub reply_full : a ≡ Full → Changes b (back_row at (F.limits.history * 5) b ys) F (replied r)
+        pub reply_full : a ≡ None → Changes b (back_row at (F.limits.history * 5) b ys) F (replied r)
         unfolding appending_number room_code append
         reply_full ea = record {
           to = λ s l h t.

@@ -3,68 +3,19 @@
 
 ghost use Rattle.std.specs.Prelude.{◌≡◌, ◌+◌, ◌*◌, ◌≤◌, ◌<◌, length};
 ghost use Rattle.layout.specs.Marked.{words_for};
-ghost use Rattle.clients.specs.Clients.{client_of};
-ghost use Rattle.clients.specs.Confirmations.{confirmation_of};
 ghost use Rattle.state.specs.Changes.{Inside, Changes, Reads};
-ghost use Rattle.state_records.specs.Records.{
-  client_read,
-  client_set,
-  reply_count,
-  reply_of,
-  reply_at,
-  replied,
-  confirmation_count,
-  confirmation_read,
-  confirmation_at,
-  confirmed,
-  violation_count,
-  violation_at,
-  applied_count,
-  ReadsRow,
-  ReadsPlace,
-  ReadsApplied,
-  discarded_at,
-  discarded_sum,
-};
+ghost use Rattle.state_records.specs.Records.{client_read, client_set, reply_count, reply_of, reply_at, replied, confirmation_count, confirmation_at, confirmed, violation_count, violation_at, applied_count, ReadsRow, ReadsPlace, ReadsApplied, discarded_at, discarded_sum};
 
 use checks::violations;
 use checks::violations::Violation;
 use checks_durability::replies;
-use checks_durability::replies::{Appending, Reply};
+use checks_durability::replies::Reply;
 use clients::confirmations::Confirmation;
 use clients::{Client, confirmations};
 use layout::marked::Kind;
 use layout::{marked, rows};
 use state::{Capacity, sizes};
 use units::LogIndex;
-
-// A reply that may be absent.
-#[derive(Clone, Copy)]
-pub enum ReplyOption {
-    None,
-    Some(Reply),
-}
-
-// A confirmation that may be absent.
-#[derive(Clone, Copy)]
-pub enum ConfirmationOption {
-    None,
-    Some(Confirmation),
-}
-
-// A violation that may be absent.
-#[derive(Clone, Copy)]
-pub enum ViolationOption {
-    None,
-    Some(Violation),
-}
-
-// A payload's kind, of a payload that may be absent.
-#[derive(Clone, Copy)]
-pub enum PayloadOption {
-    None,
-    Some(Kind),
-}
 
 // A sum, and whether it has 64 bits; 0 where it has not.
 #[derive(Clone, Copy)]
@@ -79,7 +30,7 @@ pub struct Sum {
 pub fn client_of(area: &[u8], f: Capacity, c: usize) -> Client
     requires inside { Inside area.now f }
     requires c_lt_clients { c < f.clients }
-    ensures { Reads area.now f (client_of result) (client_read c) }
+    ensures { Reads area.now f result (client_read c) }
 {
     let n = f.clients as usize;
     let at = sizes::clients_at(f);
@@ -92,7 +43,7 @@ pub fn client_of(area: &[u8], f: Capacity, c: usize) -> Client
 pub fn set_client(area: &mut [u8], f: Capacity, c: usize, client: Client)
     requires inside { Inside area.old f }
     requires c_lt_clients { c < f.clients }
-    ensures { Changes area.old area.new f (client_set c (client_of client)) }
+    ensures { Changes area.old area.new f (client_set c client) }
 {
     let n = f.clients as usize;
     let at = sizes::clients_at(f);
@@ -112,7 +63,7 @@ pub fn reply_count(area: &[u8], f: Capacity) -> u64
 }
 
 // The reply at a place, or none.
-pub fn reply_of(area: &[u8], f: Capacity, i: usize) -> ReplyOption
+pub fn reply_of(area: &[u8], f: Capacity, i: usize) -> Option<Reply>
     requires { Inside area.now f }
     ensures { Reads area.now f (reply_of result) (reply_at i) }
 {
@@ -120,15 +71,15 @@ pub fn reply_of(area: &[u8], f: Capacity, i: usize) -> ReplyOption
     let n = reply_count(area, f) as usize;
     let most = limits.history as usize;
     if most < n {
-        return ReplyOption::None;
+        return None;
     }
     if n <= i {
-        return ReplyOption::None;
+        return None;
     }
     let at = sizes::replies_at(f);
     let a = 8 * at;
     let e = 8 * (at + most * 5);
-    ReplyOption::Some(replies::read(&area[a..e], n, i))
+    Some(replies::read(&area[a..e], n, i))
 }
 
 // One reply more, where there is room for it.
@@ -143,8 +94,8 @@ pub fn append_reply(area: &mut [u8], f: Capacity, reply: Reply)
     let a = 8 * at;
     let e = 8 * (at + most * 5);
     match replies::append(&mut area[a..e], n, most, reply) {
-        Appending::Appended(m) => words::store(area, 86, m as u64),
-        Appending::Full => {}
+        Some(m) => words::store(area, 86, m as u64),
+        None => {}
     }
 }
 
@@ -159,29 +110,29 @@ pub fn confirmation_count(area: &[u8], f: Capacity) -> u64
 }
 
 // The confirmation at a place, or none.
-pub fn confirmation_of(area: &[u8], f: Capacity, i: usize) -> ConfirmationOption
+pub fn confirmation_of(area: &[u8], f: Capacity, i: usize) -> Option<Confirmation>
     requires { Inside area.now f }
-    ensures { Reads area.now f (confirmation_read result) (confirmation_at i) }
+    ensures { Reads area.now f result (confirmation_at i) }
 {
     let limits = f.limits;
     let n = confirmation_count(area, f) as usize;
     let most = limits.history as usize;
     if most < n {
-        return ConfirmationOption::None;
+        return None;
     }
     if n <= i {
-        return ConfirmationOption::None;
+        return None;
     }
     let at = sizes::confirmations_at(f);
     let a = 8 * at;
     let e = 8 * (at + most * 3);
-    ConfirmationOption::Some(confirmations::read(&area[a..e], n, i))
+    Some(confirmations::read(&area[a..e], n, i))
 }
 
 // One confirmation more, where there is room for it.
 pub fn append_confirmation(area: &mut [u8], f: Capacity, confirmation: Confirmation)
     requires { Inside area.old f }
-    ensures { Changes area.old area.new f (confirmed (confirmation_of confirmation)) }
+    ensures { Changes area.old area.new f (confirmed confirmation) }
 {
     let limits = f.limits;
     let n = confirmation_count(area, f) as usize;
@@ -190,8 +141,8 @@ pub fn append_confirmation(area: &mut [u8], f: Capacity, confirmation: Confirmat
     let a = 8 * at;
     let e = 8 * (at + most * 3);
     match confirmations::append(&mut area[a..e], n, most, confirmation) {
-        Appending::Appended(m) => words::store(area, 87, m as u64),
-        Appending::Full => {}
+        Some(m) => words::store(area, 87, m as u64),
+        None => {}
     }
 }
 
@@ -206,18 +157,18 @@ fn violation_count(area: &[u8], f: Capacity) -> u64
 }
 
 // The violation at a place of those that are kept, or none.
-pub fn violation_of(area: &[u8], f: Capacity, i: usize) -> ViolationOption
+pub fn violation_of(area: &[u8], f: Capacity, i: usize) -> Option<Violation>
     requires { Inside area.now f }
     ensures { Reads area.now f result (violation_at i) }
 {
     let n = violation_count(area, f) as usize;
     if 32 < n {
-        return ViolationOption::None;
+        return None;
     }
     if n <= i {
-        return ViolationOption::None;
+        return None;
     }
-    ViolationOption::Some(violations::read(&area[2048..4096], n, i))
+    Some(violations::read(&area[2048..4096], n, i))
 }
 
 // ---- applied payloads
@@ -231,24 +182,24 @@ fn applied_count(area: &[u8], f: Capacity) -> u64
 }
 
 // The kind of the payload in a row, whose bytes go to the front of a buffer.
-fn read_row(s: &[u8], p: usize, buffer: &mut [u8]) -> PayloadOption
+fn read_row(s: &[u8], p: usize, buffer: &mut [u8]) -> Option<Kind>
     requires { (length s.now ≡ 8 * (1 + words_for p)) × (p ≤ length buffer.old) }
     ensures { ReadsRow p result s.now buffer.old buffer.new }
 {
     let mark = words::load(s, 0) as usize;
     if 2 + p < mark {
-        return PayloadOption::None;
+        return None;
     }
-    PayloadOption::Some(marked::read_payload(s, buffer))
+    Some(marked::read_payload(s, buffer))
 }
 
 // The kind of the payload at a place of n, or none; its bytes go to the front of a buffer.
-fn read_place(s: &[u8], n: usize, p: usize, i: usize, buffer: &mut [u8]) -> PayloadOption
+fn read_place(s: &[u8], n: usize, p: usize, i: usize, buffer: &mut [u8]) -> Option<Kind>
     requires { (p ≤ 256) × (8 * (n * (1 + words_for p)) ≤ length s.now) × (p ≤ length buffer.old) }
     ensures { ReadsPlace p n i result s.now buffer.old buffer.new }
 {
     if n <= i {
-        return PayloadOption::None;
+        return None;
     }
     let w = 1 + (p + 7) / 8;
     let at = rows::start_of(i, n, w);
@@ -258,7 +209,7 @@ fn read_place(s: &[u8], n: usize, p: usize, i: usize, buffer: &mut [u8]) -> Payl
 }
 
 // The kind of the payload first applied at an index, or none; the bytes of a command go to the front of a buffer.
-pub fn read_applied(area: &[u8], f: Capacity, index: LogIndex, buffer: &mut [u8]) -> PayloadOption
+pub fn read_applied(area: &[u8], f: Capacity, index: LogIndex, buffer: &mut [u8]) -> Option<Kind>
     requires inside { Inside area.now f }
     requires payload_in_bounds { f.limits.payload ≤ length buffer.old }
     ensures { ReadsApplied area.now f index.0 result buffer.old buffer.new }
@@ -267,10 +218,10 @@ pub fn read_applied(area: &[u8], f: Capacity, index: LogIndex, buffer: &mut [u8]
     let i = index.0 as usize;
     let n = applied_count(area, f) as usize;
     if i < 1 {
-        return PayloadOption::None;
+        return None;
     }
     if (limits.log_indexes as usize) < n {
-        return PayloadOption::None;
+        return None;
     }
     let at = sizes::applied_at(f);
     let w = sizes::applied_words(f);

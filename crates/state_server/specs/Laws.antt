@@ -1,9 +1,8 @@
 -- What the proofs of lib.rt cite. Assumes nothing.
-use Rattle.std.specs.Prelude.{◌≡◌, Bool, true, false, ◌||◌, ℕ, suc, ◌+◌, ◌-◌, ◌*◌, ◌≤◌, ◌<◌, leb, ltb, take, drop, replicate}
+use Rattle.std.specs.Prelude.{◌≡◌, Bool, true, false, ◌||◌, ℕ, suc, ◌+◌, ◌-◌, ◌*◌, ◌≤◌, ◌<◌, leb, ltb, take, drop, replicate, Option, None, Some, Result, Ok, Err}
 use Rattle.std.proofs.Math.Path.{refl, ap, subst}
 use Rattle.std.proofs.Common.{sym, ap₂, ◌∙◌, add-one, drop_of_length-le, drop_at, drop-cons}
 use mathlib.Core.List.{List, [], ◌∷◌, ◌++◌}
-use Rattle.std.proofs.Math.Option.{Option, none, some}
 use native.Mathlib.Omega.{arith}
 use Rattle.std.proofs.Math.ListN.{length, get_or, set}
 use Rattle.std.proofs.Math.Seq.{sets}
@@ -21,12 +20,9 @@ use Rattle.layout.specs.Tables.{Holds, Held, rows_in}
 use Rattle.layout.specs.TableLaws.{held_rows, held_length, rows_are, clear_held}
 use Rattle.layout.specs.Contents.{holds_parse, holds_w}
 use Rattle.layout.specs.Keys.{key_row, keys, inserting_number, keys_after, Inserts, Removes}
-use Rattle.layout.specs.declared.keys.Inserting.{Inserting}
-use Rattle.layout.specs.declared.keys.Inserting.TheVariants.{Inserted, Full}
+use Rattle.layout.specs.declared.keys.Full.{Full}
 use Rattle.storage.specs.PartLaws.{lent, back}
 use Rattle.leader.specs.Leader.{better, leader, leader_from}
-use Rattle.leader.specs.declared.LeaderOption.{LeaderOption}
-use Rattle.leader.specs.declared.LeaderOption.TheVariants as led
 use Rattle.protocol.specs.declared.Status.{Status}
 use Rattle.model.specs.State.{State, Server, new_server, server_at}
 use Rattle.model.specs.Fields.{with_pending}
@@ -34,19 +30,18 @@ use Rattle.model.specs.Simulation.{on_server, leader_of, reported_status, report
 use Rattle.model.specs.Fits.{state_fits, table_fits, server_tests}
 use Rattle.state.specs.declared.Capacity.{Capacity}
 use Rattle.state.specs.declared.ServerState.{ServerState}
-use Rattle.state.specs.declared.StatusOption.{StatusOption}
-use Rattle.state.specs.declared.StatusOption.TheVariants as status
-use Rattle.units.specs.declared.TermOption.{TermOption}
 use Rattle.state.specs.Sizes.{block_words, pending_words, bytes_of, BlockAt, Counted}
 use Rattle.state.specs.SizeLaws.{room}
 use Rattle.state.specs.Parts.{server_state_in, server_state_words, server_state_code, status_words, bool_number, term_flag, term_number}
-use Rattle.state.specs.Server.{state_of_server, status_here, term_here, option_status}
+use Rattle.state.specs.Server.{state_of_server}
 use Rattle.state.specs.Area.{Area, capacity_of}
 use Rattle.state.specs.Fitting.{area_fits}
 use Rattle.state.specs.FitsBy.{server_count}
 use Rattle.state.specs.Changes.{Inside, AreaOf, Changes, Reads}
 use Rattle.state.specs.Lens.{area_of, ServerCut, server_contents, server_cut, server_at_held, part_lent, part_put, cut_server, server_in_range, pending_content}
 use Rattle.state_server.specs.Servers.{BlockIn, server_state_at, status_at, status_runs, with_count, with_state, server_state_set, StoresState, PendingIn, pending_at, PendingCount, Counts, pending_has, pending_room, registered, forgotten, pending_cleared, after_server}
+use Rattle.units.specs.declared.Term.{Term}
+use Rattle.leader.specs.declared.Leading.{Leading}
 
 -- ---- places
 
@@ -59,18 +54,18 @@ module _ (b : List ℕ) (F : Capacity) (k at : ℕ) (i : Inside b F) (h : BlockA
 
 -- ---- whether a server runs
 
-pub runs_none : (x : StatusOption) → x ≡ status.None → false ≡ status_runs x
+pub runs_none : (x : Option Status) → x ≡ None → false ≡ status_runs x
 unfolding status_runs
 runs_none x e = sym (ap status_runs e)
 
-pub runs_some : (x : StatusOption) (y : Status) → x ≡ status.Some y → true ≡ status_runs x
+pub runs_some : (x : Option Status) (y : Status) → x ≡ Some y → true ≡ status_runs x
 unfolding status_runs
 runs_some x y e = sym (ap status_runs e)
 
-pub status_runs_lem : (o : Option Status) → status_runs (option_status o) ≡ is_some o
+pub status_runs_lem : (o : Option Status) → status_runs o ≡ is_some o
 unfolding status_runs
-status_runs_lem none = refl
-status_runs_lem (some x) = refl
+status_runs_lem None = refl
+status_runs_lem (Some x) = refl
 
 -- ---- the fixed part, read
 
@@ -86,7 +81,7 @@ module _ (b : List ℕ) (F : Capacity) (k at : ℕ) (i : k < F.servers) (p : Blo
   unfolding server_state_at
   state_read r q = record { to = λ s h e. q ∙ holds_parse (state_there s h e) }
 
-  pub status_read : (r : StatusOption) → r ≡ (server_state_in (W (lent (8 * at + 64) (8 * at + 176) b))).status → Reads b F r (status_at k)
+  pub status_read : (r : Option Status) → r ≡ (server_state_in (W (lent (8 * at + 64) (8 * at + 176) b))).status → Reads b F r (status_at k)
   unfolding status_at
   status_read r q = record { to = λ s h e. q ∙ ap (λ (x : ServerState). x.status) (holds_parse (state_there s h e)) }
 
@@ -129,9 +124,7 @@ state_stored b ys b₂ b₃ x g f n eg ey e₂ ef en e₃ = record {
 
 -- the state of a server that is in the state x
 pub state_with : (x : ServerState) (v : Server) → state_of_server (with_state x v) ≡ with_count x (length v.pending)
-state_with x v =
-    ap₂ (λ (a : StatusOption) (t : TermOption). record { status = a; incarnation = x.incarnation; election = x.election; heartbeat = x.heartbeat; crash_on_next_input = x.crash_on_next_input; next_apply = x.next_apply; pending = length v.pending; leading = t })
-    (status_here x.status) (term_here x.leading)
+state_with x v = refl
 
 module _ (b ys : List ℕ) (F : Capacity) (k at : ℕ) (i : k < F.servers) (p : BlockIn b F k at) where
   pub state_put : (x : ServerState) → StoresState (lent (8 * at + 64) (8 * at + 176) b) ys x
@@ -226,8 +219,8 @@ module _ (b ys : List ℕ) (F : Capacity) (k n a : ℕ) (i : k < F.servers) (c :
       let j : k < length s.servers = omega (arith, server_count s (area_fits h.area), ap (λ (G : Capacity). G.servers) h.capacity) in
       allb_in (server_tests s.config s.limits (with_pending (server_at s k) (insert_by pairs key_of key (server_at s k).pending))) (server_in_range s k (λ v. with_pending v (insert_by pairs key_of key v.pending)) j t) 7
 
-  module _ (key : ClientKey) (q : Inserting) (e : Inserts key n F.limits.history q (rows b F k n a i c p) ys) where
-    pub registered_done : (b₂ : List ℕ) (m : ℕ) → q ≡ Inserted m → Counts (back a (a + 16 * F.limits.history) b ys) b₂ F k m → Changes b b₂ F (registered k key)
+  module _ (key : ClientKey) (q : Result ℕ Full) (e : Inserts key n F.limits.history q (rows b F k n a i c p) ys) where
+    pub registered_done : (b₂ : List ℕ) (m : ℕ) → q ≡ Ok m → Counts (back a (a + 16 * F.limits.history) b ys) b₂ F k m → Changes b b₂ F (registered k key)
     unfolding registered
     registered_done b₂ m o w = record {
       to = λ s r h t.
@@ -239,8 +232,8 @@ module _ (b ys : List ℕ) (F : Capacity) (k n a : ℕ) (i : k < F.servers) (c :
           (subst (λ (m' : ℕ). Held (keys F.clients) (pending_words F) m' ys (insert_by pairs key_of key (server_at s k).pending)) (ap (keys_after n) o) y) w t;
     }
 
-    pub registered_full : q ≡ Full → Changes b (back a (a + 16 * F.limits.history) b ys) F (registered k key)
-    registered_full o = record {
+    pub registered_full : (full : Full) → q ≡ Err full → Changes b (back a (a + 16 * F.limits.history) b ys) F (registered k key)
+    registered_full full o = record {
       to = λ s r h t.
           let x : List ClientKey = (server_at s k).pending in
           let z : leb (length (insert_by pairs key_of key x)) F.limits.history ≡ true =
@@ -268,44 +261,44 @@ module _ (b ys : List ℕ) (F : Capacity) (k n a : ℕ) (i : k < F.servers) (c :
 
 -- ---- the leader
 
-pub after_none : (best : LeaderOption) (k : ℕ) (o : StatusOption) → o ≡ status.None → best ≡ after_server best k o
+pub after_none : (best : Option Leading) (k : ℕ) (o : Option Status) → o ≡ None → best ≡ after_server best k o
 unfolding after_server
 after_none best k o e = ap (after_server best k) (sym e)
 
-pub after_some : (best r : LeaderOption) (k : ℕ) (o : StatusOption) (x : Status) → o ≡ status.Some x → r ≡ better best (record { id = record { 0 = k + 1 }; status = x }) → r ≡ after_server best k o
+pub after_some : (best r : Option Leading) (k : ℕ) (o : Option Status) (x : Status) → o ≡ Some x → r ≡ better best (record { id = record { 0 = k + 1 }; status = x }) → r ≡ after_server best k o
 unfolding after_server
 after_some best r k o x e q = q ∙ ap (after_server best k) (sym e)
 
 -- The loop over the servers: at place k, with the leader so far.
-pub record Choosing (b : List ℕ) (F : Capacity) (best : LeaderOption) (k : ℕ) : Type 0 where
+pub record Choosing (b : List ℕ) (F : Capacity) (best : Option Leading) (k : ℕ) : Type 0 where
   pub upto : k ≤ F.servers
   pub left : (s : State) → Area b s → F ≡ capacity_of s → leader_from best (reported_from k (drop k s.servers)) ≡ leader_of s
 
-pub choosing_start : (b : List ℕ) (F : Capacity) → Choosing b F led.None 0
+pub choosing_start : (b : List ℕ) (F : Capacity) → Choosing b F None 0
 unfolding leader
 choosing_start b F = record { upto = omega arith; left = λ s h e. refl }
 
 -- one server more
-step : (best : LeaderOption) (k : ℕ) (v : Server) (vs : List Server) → leader_from best (reported_from k (v ∷ vs)) ≡ leader_from (after_server best k (option_status v.status)) (reported_from (suc k) vs)
+step : (best : Option Leading) (k : ℕ) (v : Server) (vs : List Server) → leader_from best (reported_from k (v ∷ vs)) ≡ leader_from (after_server best k v.status) (reported_from (suc k) vs)
 unfolding after_server reported_from leader_from
 step best k v vs = by v.status
   where
-    by : (o : Option Status) → leader_from best (reported_status k o (reported_from (suc k) vs)) ≡ leader_from (after_server best k (option_status o)) (reported_from (suc k) vs)
-    by none = refl
-    by (some x) = refl
+    by : (o : Option Status) → leader_from best (reported_status k o (reported_from (suc k) vs)) ≡ leader_from (after_server best k o) (reported_from (suc k) vs)
+    by None = refl
+    by (Some x) = refl
 
-pub choosing_turn : (b : List ℕ) (F : Capacity) (best next : LeaderOption) (k : ℕ) (o : StatusOption) → Choosing b F best k → k < F.servers → Reads b F o (status_at k) → next ≡ after_server best k o → Choosing b F next (k + 1)
+pub choosing_turn : (b : List ℕ) (F : Capacity) (best next : Option Leading) (k : ℕ) (o : Option Status) → Choosing b F best k → k < F.servers → Reads b F o (status_at k) → next ≡ after_server best k o → Choosing b F next (k + 1)
 unfolding status_at
 choosing_turn b F best next k o c i q e = record {
   upto = omega arith;
   left = λ s h ef.
       let j : k < length s.servers = omega (arith, server_count s (area_fits h), ap (λ (G : Capacity). G.servers) ef) in
-      let n : next ≡ after_server best k (option_status (server_at s k).status) = e ∙ ap (after_server best k) (q.to s h ef) in
-      ap₂ (λ (l : LeaderOption) (m : ℕ). leader_from l (reported_from m (drop m s.servers))) n (add-one k)
+      let n : next ≡ after_server best k (server_at s k).status = e ∙ ap (after_server best k) (q.to s h ef) in
+      ap₂ (λ (l : Option Leading) (m : ℕ). leader_from l (reported_from m (drop m s.servers))) n (add-one k)
       ∙ sym (step best k (server_at s k) (drop (suc k) s.servers)) ∙ ap (λ (vs : List Server). leader_from best (reported_from k vs)) (sym (drop-cons s.servers k (new_server 0) j)) ∙ c.left s h ef;
 }
 
-pub choosing_done : (b : List ℕ) (F : Capacity) (best : LeaderOption) (k : ℕ) → Choosing b F best k → F.servers ≤ k → Reads b F best leader_of
+pub choosing_done : (b : List ℕ) (F : Capacity) (best : Option Leading) (k : ℕ) → Choosing b F best k → F.servers ≤ k → Reads b F best leader_of
 unfolding leader_from reported_from
 choosing_done b F best k c l = record {
   to = λ s h e.

@@ -1,10 +1,9 @@
 -- What callers cite: a server with some fields another, and question 10 of each change. Assumes nothing.
-use Rattle.std.specs.Prelude.{◌≡◌, Bool, ℕ, ◌<◌, length, get_or}
+use Rattle.std.specs.Prelude.{◌≡◌, Bool, ℕ, ◌<◌, length, get_or, Option}
 use Rattle.std.proofs.Math.Path.{refl, sym, ap, ap₂}
 use Rattle.std.proofs.Common.{◌∙◌, arith, le-leb, leb-true}
 use Rattle.std.proofs.Math.Bool.{true}
 use mathlib.Core.List.{List, []}
-use Rattle.std.proofs.Math.Option.{Option}
 use Rattle.std.proofs.Math.Dec.{leb}
 use Rattle.laws.specs.Bools.{◌and◌, every, cases, and_left, and_true}
 use Rattle.laws.proofs.BoolLaws.{allb_in, and_right, and_both, true_and}
@@ -24,7 +23,7 @@ use Rattle.model.specs.Fields.{with_pending}
 use Rattle.model.specs.Simulation.{on_server}
 use Rattle.model.specs.Fits.{state_fits, server_fits, server_tests, table_fits}
 use Rattle.state.specs.declared.ServerState.{ServerState}
-use Rattle.state.specs.Server.{state_of_server, status_option, option_status, term_option', option_term, status_there, term_there}
+use Rattle.state.specs.Server.{state_of_server}
 use Rattle.state.specs.FitsBy.{fits_server_one}
 use Rattle.state.specs.Lens.{server_same, ServersFit, server_fine, fits_on_server, servers_kept}
 use Rattle.state_server.specs.Servers.{with_state, server_state_set, state_in_range, pending_room, key_in_range, registered, forgotten, pending_cleared}
@@ -35,8 +34,7 @@ use Rattle.state_server.specs.Laws.{insert_tested}
 -- the state of a server with v's storage and pending keys, put into v
 pub state_of_other : (u v : Server) → u.storage ≡ v.storage → u.pending ≡ v.pending → with_state (state_of_server u) v ≡ u
 state_of_other u v d k =
-    ap₂ (λ (x : Storage) (ks : List ClientKey). with_parts (status_option (option_status u.status)) x ks (term_option' (option_term u.leading))) (sym d) (sym k)
-    ∙ ap₂ (λ (x : Option Status) (t : Option Term). with_parts x u.storage u.pending t) (status_there u.status) (term_there u.leading)
+    ap₂ (λ (x : Storage) (ks : List ClientKey). with_parts u.status x ks u.leading) (sym d) (sym k)
   where
     with_parts : Option Status → Storage → List ClientKey → Option Term → Server
     with_parts x y ks t = record {

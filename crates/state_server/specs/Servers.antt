@@ -1,5 +1,5 @@
 -- One server of a state, without its storage: what is read of it, and the state with it another. Assumes nothing.
-use Rattle.std.specs.Prelude.{◌≡◌, Bool, true, false, List, [], ◌∷◌, ℕ, ◌+◌, ◌*◌, ◌^◌, ◌≤◌, leb, ltb, length, get_or, set, take}
+use Rattle.std.specs.Prelude.{◌≡◌, Bool, true, false, List, [], ◌∷◌, ℕ, ◌+◌, ◌*◌, ◌^◌, ◌≤◌, leb, ltb, length, get_or, set, take, Option, None, Some}
 use Rattle.laws.specs.Bools.{allb}
 use Rattle.laws.specs.Lists.{is_some}
 use Rattle.laws.specs.Order.{pairs, lookup, insert_by, remove_by}
@@ -13,20 +13,19 @@ use Rattle.words.specs.Words.{bytes}
 use Rattle.layout.specs.Cuts.{total}
 use Rattle.layout.specs.Keys.{keys}
 use Rattle.leader.specs.Leader.{better}
-use Rattle.leader.specs.declared.LeaderOption.{LeaderOption}
 use Rattle.model.specs.State.{State, Server, server_at, id_of}
 use Rattle.model.specs.Fields.{with_pending}
 use Rattle.model.specs.Simulation.{on_server}
 use Rattle.model.specs.Fits.{if_some, status_fits}
 use Rattle.state.specs.declared.Capacity.{Capacity}
 use Rattle.state.specs.declared.ServerState.{ServerState}
-use Rattle.state.specs.declared.StatusOption.{StatusOption}
-use Rattle.state.specs.declared.StatusOption.TheVariants as status
 use Rattle.state.specs.Sizes.{block_words, pending_words}
 use Rattle.state.specs.Parts.{server_state_words}
-use Rattle.state.specs.Server.{state_of_server, option_status, status_option, term_option'}
+use Rattle.state.specs.Server.{state_of_server}
 use Rattle.state.specs.Changes.{Reads}
 use Rattle.state.specs.Lens.{block_parts, ServerCut}
+use Rattle.leader.specs.declared.Leading.{Leading}
+use Rattle.protocol.specs.declared.Status.{Status}
 
 -- ---- the fixed part
 
@@ -40,13 +39,13 @@ unfoldable pub server_state_at : ℕ → State → ServerState
 server_state_at k s = state_of_server (server_at s k)
 
 -- Its status.
-unfoldable pub status_at : ℕ → State → StatusOption
-status_at k s = option_status (server_at s k).status
+unfoldable pub status_at : ℕ → State → Option Status
+status_at k s = (server_at s k).status
 
 -- Whether a status is there: its server runs.
-unfoldable pub status_runs : StatusOption → Bool
-status_runs status.None = false
-status_runs (status.Some x) = true
+unfoldable pub status_runs : Option Status → Bool
+status_runs None = false
+status_runs (Some x) = true
 
 -- The state of a server with another count of pending keys.
 abbrev pub with_count : ServerState → ℕ → ServerState
@@ -64,7 +63,7 @@ with_count x n = record {
 -- A server in the state x: its storage and its pending keys are as they were, whatever count of keys x has.
 abbrev pub with_state : ServerState → Server → Server
 with_state x v = record {
-  status = status_option x.status;
+  status = x.status;
   storage = v.storage;
   incarnation = x.incarnation;
   election = x.election;
@@ -72,7 +71,7 @@ with_state x v = record {
   crash_on_next_input = x.crash_on_next_input;
   next_apply = x.next_apply;
   pending = v.pending;
-  leading = term_option' x.leading;
+  leading = x.leading;
 }
 
 -- The simulation's state with the server at k in the state x.
@@ -83,13 +82,13 @@ server_state_set k x s = on_server s k (with_state x)
 unfoldable pub state_in_range : SimConfig → Limits → ServerState → Bool
 state_in_range config limits x =
     allb (
-    if_some (status_fits config limits) (status_option x.status)
+    if_some (status_fits config limits) x.status
     ∷ ltb x.incarnation (2 ^ 32)
     ∷ word x.election
     ∷ word x.heartbeat
     ∷ leb 1 x.next_apply
     ∷ leb x.next_apply (limits.log_indexes + 1)
-    ∷ if_some (λ (term : Term). word term.0) (term_option' x.leading)
+    ∷ if_some (λ (term : Term). word term.0) x.leading
     ∷ [])
 
 -- Whatever server's state the bytes b are, b' are x with the count of pending keys that was there.
@@ -144,6 +143,6 @@ pending_cleared k s = on_server s k (λ v. with_pending v [])
 -- ---- the leader
 
 -- The leader so far after the server at k, which runs where it has a status.
-unfoldable pub after_server : LeaderOption → ℕ → StatusOption → LeaderOption
-after_server best k status.None = best
-after_server best k (status.Some x) = better best (record { id = id_of k; status = x })
+unfoldable pub after_server : Option Leading → ℕ → Option Status → Option Leading
+after_server best k None = best
+after_server best k (Some x) = better best (record { id = id_of k; status = x })

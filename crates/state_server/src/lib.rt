@@ -10,9 +10,9 @@ ghost use Rattle.state_server.specs.Servers.{BlockIn, server_state_at, status_at
 
 use client::ClientKey;
 use layout::keys;
-use layout::keys::Inserting;
-use leader::{LeaderOption, Reported};
-use state::{Capacity, ServerState, StatusOption, server, sizes};
+use leader::{Leading, Reported};
+use protocol::Status;
+use state::{Capacity, ServerState, server, sizes};
 use units::NodeId;
 
 // ---- the fixed part
@@ -39,7 +39,7 @@ pub fn server_of(area: &[u8], f: Capacity, k: usize) -> ServerState
 }
 
 // Its status alone.
-pub fn status_of(area: &[u8], f: Capacity, k: usize) -> StatusOption
+pub fn status_of(area: &[u8], f: Capacity, k: usize) -> Option<Status>
     requires inside { Inside area.now f }
     requires k_lt_servers { k < f.servers }
     ensures { Reads area.now f result (status_at k) }
@@ -51,12 +51,12 @@ pub fn status_of(area: &[u8], f: Capacity, k: usize) -> StatusOption
 }
 
 // Whether a server runs: it has a status.
-pub fn runs(status: StatusOption) -> bool
+pub fn runs(status: Option<Status>) -> bool
     ensures { result ≡ status_runs status }
 {
     match status {
-        StatusOption::None => false,
-        StatusOption::Some(_) => true,
+        None => false,
+        Some(_) => true,
     }
 }
 
@@ -183,8 +183,8 @@ pub fn register(area: &mut [u8], f: Capacity, k: usize, key: ClientKey)
     let a = pending_in(area, f, k);
     let e = a + 16 * room;
     match keys::insert(&mut area[a..e], n, room, key) {
-        Inserting::Inserted(m) => store_count(area, f, k, m),
-        Inserting::Full => {}
+        Ok(m) => store_count(area, f, k, m),
+        Err(_) => {}
     }
 }
 
@@ -219,13 +219,13 @@ pub fn clear_pending(area: &mut [u8], f: Capacity, k: usize)
 // ---- the leader
 
 // The leader so far after the server at a place.
-fn after_server(best: LeaderOption, k: usize, status: StatusOption) -> LeaderOption
+fn after_server(best: Option<Leading>, k: usize, status: Option<Status>) -> Option<Leading>
     requires { k < 8 }
     ensures { result ≡ after_server best k status }
 {
     match status {
-        StatusOption::None => best,
-        StatusOption::Some(x) => {
+        None => best,
+        Some(x) => {
             let id = NodeId(k as u64 + 1);
             leader::better(best, Reported { id, status: x })
         }
@@ -233,17 +233,15 @@ fn after_server(best: LeaderOption, k: usize, status: StatusOption) -> LeaderOpt
 }
 
 // The running server that leads the highest term, and among equals the last, with that term.
-pub fn leader_of(area: &[u8], f: Capacity) -> LeaderOption
+pub fn leader_of(area: &[u8], f: Capacity) -> Option<Leading>
     requires { Inside area.now f }
     ensures { Reads area.now f result leader_of }
 {
     let n = f.servers as usize;
-    let mut best = LeaderOption::None;
-    let mut k = 0;
-    while k < n {
+    let mut best = None;
+    for k in 0..n {
         let status = status_of(area, f, k);
         best = after_server(best, k, status);
-        k += 1;
     }
     best
 }

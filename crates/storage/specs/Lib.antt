@@ -6,5 +6,4 @@ pub mod PartLaws
 pub mod Replay
 pub mod ReplayLaws
 pub mod Writes
-pub mod WritesLaws
 pub mod StoresLaws

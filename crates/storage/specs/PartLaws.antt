@@ -1,6 +1,6 @@
 -- The parts of a disk as they are lent, and the disk when one is back. Assumes nothing.
 use Rattle.std.specs.Prelude.{◌≡◌, refl, List, [], ◌++◌, ℕ, ◌+◌, ◌-◌, ◌*◌, ◌≤◌, ◌<◌, length, take, drop}
-use Rattle.std.proofs.Common.{sym, ap, ap₂, ◌∙◌, subst, append_assoc, append-nil, arith, length-append, drop_of_length-le, take_at, drop_at}
+use Rattle.std.proofs.Common.{sym, ap, ap₂, ◌∙◌, subst, append_assoc, append-nil, arith, length-append, take_at, drop_at}
 use Rattle.std.proofs.lemmas.List.Edits.{sets}
 use Rattle.words.specs.Sets.{sets_at, part_at, length_part}
 use Rattle.layout.specs.Tables.{Held, Becomes}

@@ -1,27 +1,23 @@
 -- What the functions of replay.rt leave and answer. Assumes nothing.
-use Rattle.std.specs.Prelude.{◌≡◌, List, ℕ, ◌+◌, ◌*◌, ◌≤◌, eqb, get_or, take, drop}
-use Rattle.laws.specs.Bools.{pick}
+use Rattle.std.specs.Prelude.{◌≡◌, List, ℕ, ◌+◌, ◌*◌, ◌≤◌, get_or, take, drop}
+use Rattle.units.specs.Types.{Payload, noop, command, Entry}
 use Rattle.layout.specs.Marked.{words_for}
 use Rattle.layout.specs.Tables.{Gives}
 use Rattle.raft_log.specs.Log.{Log, truncate_at}
 use Rattle.record.specs.Postcard.{record_bytes, hard_state_record, truncate_record, put_bytes}
-use Rattle.record.specs.declared.PayloadShape.{PayloadShape}
-use Rattle.record.specs.declared.PayloadShape.TheVariants as Payloads
+use Rattle.units.specs.declared.PayloadShape.{PayloadShape}
+use Rattle.units.specs.declared.PayloadShape.TheVariants.{Noop, Command}
+use Rattle.raft_log.specs.declared.EntryShape.{EntryShape}
 use Rattle.storage.specs.declared.HardState.{HardState}
 use Rattle.storage.specs.declared.waiting.Shape.{Shape}
-use Rattle.storage.specs.declared.waiting.Shape.TheVariants as Shape
 use Rattle.storage.specs.Storage.{Write, apply_write, apply_writes, unsynced_bytes}
-use Rattle.storage.specs.Waiting.{waiting, length_of, nothing, shape_at, Short}
+use Rattle.storage.specs.Waiting.{waiting, length_of, nothing, shape_at}
 use Rattle.storage.specs.Stores.{Parts}
-
--- The shape of a payload of a kind and so many bytes.
-unfoldable pub payload_shape : ℕ → ℕ → PayloadShape
-payload_shape kind n = pick (eqb kind 0) Payloads.Noop (Payloads.Command n)
 
 -- The length of the record of a write of this shape.
 abbrev pub shape_bytes : Shape → ℕ
 shape_bytes (Shape.HardState h) = record_bytes (hard_state_record h.term h.voted_for)
-shape_bytes (Shape.Put index term kind n) = put_bytes index term (payload_shape kind n)
+shape_bytes (Shape.Put index e) = put_bytes index e.term e.payload
 shape_bytes (Shape.Truncate from) = record_bytes (truncate_record from)
 
 -- r is the length of the record.
@@ -38,6 +34,15 @@ pub record Sums (p m r : ℕ) (s : List ℕ) : Type 0 where
 unfoldable pub body_at : ℕ → ℕ → ℕ → ℕ → List ℕ → List ℕ
 body_at p L k d b = take d (drop (16 * (L * (2 + words_for p)) + 8 * (k * (3 + words_for p) + 1)) b)
 
+-- The payload of write k, which has this shape.
+abbrev pub payload_at : ℕ → ℕ → ℕ → PayloadShape → List ℕ → Payload
+payload_at p L k Noop b = noop
+payload_at p L k (Command d) b = command (body_at p L k d b)
+
+-- The entry of write k, which has this shape.
+abbrev pub entry_at : ℕ → ℕ → ℕ → EntryShape → List ℕ → Entry
+entry_at p L k e b = record { term = e.term; payload = payload_at p L k e.payload b }
+
 -- The first d bytes of the command of write k are at the front of a buffer.
 pub record ReadsCommand (p L k d : ℕ) (b z : List ℕ) : Type 0 where
   pub is : take d z ≡ body_at p L k d b
@@ -50,10 +55,10 @@ truncate_from from y = truncate_at y from
 pub record Changes (p L W : ℕ) (b b' : List ℕ) (op : Log → Log) : Type 0 where
   pub to : (m : ℕ) (x y : Log) (ws : List Write) → Parts p L W m b x y ws → Parts p L W m b' x (op y) ws
 
--- r is write k of the m that b has, without the bytes of its command.
+-- r is write k of the m that b has, without the bytes of its command, which has at most p.
 pub record Tells (p L W m k : ℕ) (r : Shape) (b : List ℕ) : Type 0 where
   pub is : (x y : Log) (ws : List Write) → Parts p L W m b x y ws → r ≡ shape_at k ws
-  pub short : Short p r
+  pub most : length_of r ≤ p
 
 -- Write k is made on the durable log and on a hard state.
 pub record Applies (p L W m k : ℕ) (state state' : HardState) (b b' : List ℕ) : Type 0 where

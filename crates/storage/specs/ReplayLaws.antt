@@ -1,15 +1,13 @@
 -- What the proofs of replay.rt cite. Assumes nothing.
-use Rattle.std.specs.Prelude.{◌≡◌, Bool, true, eqb, get_or, take, drop}
+use Rattle.std.specs.Prelude.{◌≡◌, true, get_or, take, drop, Option, None, Some}
 use Rattle.std.proofs.Math.Path.{refl, sym, ap, subst}
-use Rattle.std.proofs.Common.{ap₂, ◌∙◌, add-one, arith, drop_of_length-le, drop-cons, take-suc, take_all, take-take, take_at, eq-eqb, ne_eqb}
+use Rattle.std.proofs.Common.{ap₂, ◌∙◌, add-one, arith, drop_of_length-le, drop-cons, take-suc, take_all, take-take, take_at}
 use mathlib.Core.List.{List, [], ◌∷◌, ◌++◌}
-use Rattle.std.proofs.Math.Option.{some}
 use Prim.Native.Nat.{ℕ, zero, suc, ◌+◌, ◌-◌, ◌*◌, ◌^◌, ◌≤◌, ◌<◌}
 use Rattle.std.proofs.Math.ListN.{length}
 use Rattle.std.proofs.lemmas.List.Edits.{sets}
 use Rattle.std.proofs.Math.Seq.{set_out}
-use Rattle.units.specs.Types.{Payload, noop, command, payload_of, Entry}
-use Rattle.units.specs.declared.Term.{Term}
+use Rattle.units.specs.Types.{Payload, noop, command, Entry, command_length, shape_of as shape_of_payload}
 use Rattle.units.specs.declared.LogIndex.{LogIndex}
 use Rattle.words.specs.Words.{bytes}
 use Rattle.words.specs.Sets.{part_part, part_sets, length_part}
@@ -20,57 +18,43 @@ use Rattle.layout.specs.TableLaws.{held_rows, held_length, row_held}
 use Rattle.layout.specs.Marked.{words_for, marked}
 use Rattle.layout.specs.MarkedLaws.{body_read}
 use Rattle.layout.specs.Parts.{lent_row}
-use Rattle.laws.specs.Bools.{pick, and_left}
+use Rattle.laws.specs.Bools.{and_left}
 use Rattle.raft_log.specs.Log.{Log, put_at}
-use Rattle.raft_log.specs.Places.{places, put_entry, Truncates}
-use Rattle.record.specs.Postcard.{record_bytes, hard_state_record, truncate_record, put_bytes, command_length}
+use Rattle.raft_log.specs.Places.{places, entry_shape, put_entry, Truncates}
+use Rattle.record.specs.Postcard.{record_bytes, hard_state_record, truncate_record, put_bytes}
 use Rattle.record.specs.Lengths.{put_bytes_is}
-use Rattle.record.specs.declared.PayloadShape.{PayloadShape}
-use Rattle.record.specs.declared.PayloadShape.TheVariants as Payloads
+use Rattle.units.specs.declared.PayloadShape.{PayloadShape}
+use Rattle.units.specs.declared.PayloadShape.TheVariants.{Noop, Command}
+use Rattle.units.specs.declared.NodeId.{NodeId}
+use Rattle.raft_log.specs.declared.EntryShape.{EntryShape}
 use Rattle.storage.specs.declared.HardState.{HardState}
 use Rattle.storage.specs.declared.waiting.Shape.{Shape}
-use Rattle.storage.specs.declared.waiting.Shape.TheVariants as Shape
 use Rattle.storage.specs.Storage.{Disk, Write, write_hard_state, write_put, write_truncate, apply_write, apply_writes, write_bytes, unsynced_bytes}
-use Rattle.storage.specs.Waiting.{kind_marking, payload_kind, kind_of, body_of, first_of, second_of, write_code, waiting, entry_shape, shape_of, length_of, put_kind, nothing, shape_at, Shows}
+use Rattle.storage.specs.Waiting.{kind_marking, vote_kind, payload_kind, kind_of, body_of, first_of, second_of, write_code, waiting, shape_of, length_of, nothing, shape_at, Shows}
 use Rattle.storage.specs.Stores.{Parts, disk_bytes}
 use Rattle.storage.specs.PartLaws.{lent, back, whole_long, durable_lent, waiting_lent, durable_back}
-use Rattle.storage.specs.Replay.{payload_shape, shape_bytes, Sizes, Sums, body_at, ReadsCommand, truncate_from, Changes, Tells, Applies, Replays}
+use Rattle.storage.specs.Replay.{shape_bytes, Sizes, Sums, body_at, payload_at, entry_at, ReadsCommand, truncate_from, Changes, Tells, Applies, Replays}
 
 -- ---- the bytes of a write
-
-pub payload_noop : (kind n : ℕ) → kind < 1 → Payloads.Noop ≡ payload_shape kind n
-unfolding payload_shape
-payload_noop kind n h = sym (ap (λ (t : Bool). pick t Payloads.Noop (Payloads.Command n)) (eq-eqb kind 0 (omega arith)))
-
-pub payload_command : (kind n : ℕ) → 1 ≤ kind → Payloads.Command n ≡ payload_shape kind n
-unfolding payload_shape
-payload_command kind n h = sym (ap (λ (t : Bool). pick t Payloads.Noop (Payloads.Command n)) (ne_eqb kind 0 (omega arith)))
-
-pub ruleset payloads = (payload_noop, payload_command)
 
 module _ (s : Shape) (r : ℕ) where
   pub sizes_state : (h : HardState) → s ≡ Shape.HardState h → r ≡ record_bytes (hard_state_record h.term h.voted_for) → r ≤ 26 → Sizes s r
   sizes_state h e f l = record { is = f ∙ ap shape_bytes (sym e); most = omega arith }
 
-  pub sizes_put : (i : LogIndex) (t : Term) (kind n : ℕ) (q : PayloadShape) → s ≡ Shape.Put i t kind n → q ≡ payload_shape kind n → command_length q ≤ n → r ≡ put_bytes i t q → r ≤ 36 + command_length q → Sizes s r
-  sizes_put i t kind n q e o k f l = record { is = f ∙ ap (put_bytes i t) o ∙ ap shape_bytes (sym e); most = omega (arith, ap length_of e) }
+  pub sizes_put : (i : LogIndex) (d : EntryShape) → s ≡ Shape.Put i d → r ≡ put_bytes i d.term d.payload → r ≤ 36 + command_length d.payload → Sizes s r
+  sizes_put i d e f l = record { is = f ∙ ap shape_bytes (sym e); most = omega (arith, ap length_of e) }
 
   pub sizes_truncate : (from : LogIndex) → s ≡ Shape.Truncate from → r ≡ record_bytes (truncate_record from) → r ≤ 15 → Sizes s r
   sizes_truncate from e f l = record { is = f ∙ ap shape_bytes (sym e); most = omega arith }
 
-pub put_fits : (s : Shape) (i : LogIndex) (t : Term) (kind n : ℕ) (q : PayloadShape) → length_of s ≤ 256 → s ≡ Shape.Put i t kind n → command_length q ≤ n → command_length q ≤ 2 ^ 32
-put_fits s i t kind n q l e k = omega (arith, ap length_of e)
+pub put_fits : (s : Shape) (i : LogIndex) (d : EntryShape) → length_of s ≤ 256 → s ≡ Shape.Put i d → command_length d.payload ≤ 2 ^ 32
+put_fits s i d l e = omega (arith, ap length_of e)
 
 pub ruleset sizes = (sizes_state, sizes_put, sizes_truncate, put_fits)
 
 shape_bytes_lem : (w : Write) → shape_bytes (shape_of w) ≡ write_bytes w
-unfolding payload_shape
 shape_bytes_lem (write_hard_state h) = refl
-shape_bytes_lem (write_put index e) = by e.payload
-  where
-    by : (y : Payload) → shape_bytes (entry_shape index e.term y) ≡ write_bytes (write_put index (record { term = e.term; payload = y }))
-    by noop = put_bytes_is index (record { term = e.term; payload = noop })
-    by (command bs) = put_bytes_is index (record { term = e.term; payload = command bs })
+shape_bytes_lem (write_put index e) = put_bytes_is index e
 shape_bytes_lem (write_truncate from) = refl
 
 -- total is the bytes of the writes before write i
@@ -92,7 +76,7 @@ summing_turn p m s total i b r c k q g z = record {
       let a : unsynced_bytes (drop i ws) ≡ write_bytes w + unsynced_bytes (drop (i + 1) ws) = ap unsynced_bytes d ∙ ap (λ (j : ℕ). write_bytes w + unsynced_bytes (drop j ws)) (sym (add-one i)) in
       omega (arith, c.is N ws h);
   upto = omega arith;
-  most = omega (arith, c.most, z.most, g.short.most);
+  most = omega (arith, c.most, z.most, g.most);
 }
 
 pub summing_done : (p m : ℕ) (s : List ℕ) (total i : ℕ) → Summing p m s total i → m ≤ i → Sums p m total s
@@ -107,7 +91,7 @@ summing_done p m s total i c k = record {
 }
 
 pub short_fits : (p m i : ℕ) (s : List ℕ) (r : Shape) → p ≤ 256 → Shows p m i r s → length_of r ≤ 256
-short_fits p m i s r q g = omega (arith, g.short.most)
+short_fits p m i s r q g = omega (arith, g.most)
 
 pub ruleset sums = (summing_start, summing_turn, summing_done, short_fits)
 
@@ -130,7 +114,7 @@ module _ (p L W : ℕ) (b : List ℕ) where
       where
         by : (x : Log) (i : ℕ) → length x ≡ L → L < i → x ≡ put_at x i e
         by x zero l h = absurd (omega arith)
-        by x (suc i) l h = sym (set_out x i (some e) (omega arith))
+        by x (suc i) l h = sym (set_out x i (Some e) (omega arith))
 
   module _ (logs : ℕ) (o : logs ≡ L * (2 + words_for p)) (ys : List ℕ) where
     pub changed : (op : Log → Log) → Becomes (places p) L L (lent (8 * logs) (16 * logs) b) ys op → Changes p L W b (back (8 * logs) (16 * logs) b ys) op
@@ -156,16 +140,23 @@ read_front p L W k logs at d b z z' q lb h l lz eo ea ez =
     let f : z' ≡ sets z 0 u = ez ∙ ap₂ (λ (j v : ℕ). sets z 0 (take j (drop v b))) n a in
     record { is = ap₂ (λ (j : ℕ) (v : List ℕ). take j v) (sym lu) f ∙ part_sets z u 0 (omega arith) }
 
-pub put_read : (p L W k d i kind : ℕ) (t : Term) (b z b' : List ℕ) → ReadsCommand p L k d b z → Changes p L W b b' (put_entry i (record { term = t; payload = payload_of kind (take (d - 0) (drop 0 z)) }))
-    → Changes p L W b b' (put_entry i (record { term = t; payload = payload_of kind (body_at p L k d b) }))
-put_read p L W k d i kind t b z b' r c =
-    let m : d - 0 ≡ d = omega arith in
-    subst (λ (v : List ℕ). Changes p L W b b' (put_entry i (record { term = t; payload = payload_of kind v }))) (ap (λ (j : ℕ). take j z) m ∙ r.is) c
+module _ (p L W k i : ℕ) (d : EntryShape) (b b' : List ℕ) where
+  pub put_noop : d.payload ≡ Noop → Changes p L W b b' (put_entry i (record { term = d.term; payload = noop })) → Changes p L W b b' (put_entry i (entry_at p L k d b))
+  put_noop e c = subst (λ (q : PayloadShape). Changes p L W b b' (put_entry i (record { term = d.term; payload = payload_at p L k q b }))) (sym e) c
+
+  pub put_command : (n : ℕ) (z : List ℕ) → d.payload ≡ Command n → ReadsCommand p L k n b z → Changes p L W b b' (put_entry i (record { term = d.term; payload = command (take (n - 0) (drop 0 z)) }))
+      → Changes p L W b b' (put_entry i (entry_at p L k d b))
+  put_command n z e r c =
+      let m : n - 0 ≡ n = omega arith in
+      subst (λ (q : PayloadShape). Changes p L W b b' (put_entry i (record { term = d.term; payload = payload_at p L k q b }))) (sym e)
+      (subst (λ (v : List ℕ). Changes p L W b b' (put_entry i (record { term = d.term; payload = command v }))) (ap (λ (j : ℕ). take j z) m ∙ r.is) c)
+
+pub ruleset put_reads = (put_noop, put_command)
 
 -- ---- write k
 
 pub told : (p L W m k logs : ℕ) (r : Shape) (b : List ℕ) → logs ≡ L * (2 + words_for p) → Shows p m k r (lent (16 * logs) (length b) b) → Tells p L W m k r b
-told p L W m k logs r b o g = record { is = λ x y ws h. g.is.to (W * (3 + words_for p)) ws (waiting_lent h logs o (length b) refl); short = g.short }
+told p L W m k logs r b o g = record { is = λ x y ws h. g.is.to (W * (3 + words_for p)) ws (waiting_lent h logs o (length b) refl); most = g.most }
 
 -- the bytes of the command of write k
 module _ (p m : ℕ) {N : ℕ} {s : List ℕ} {ws : List Write} (h : Held (waiting p) N m s ws) (k at : ℕ) (l : k < m) (e : at ≡ k * (3 + words_for p)) where
@@ -205,42 +196,40 @@ body_there {p} {L} {W} {m} {b} {x} {y} {ws} g k d l q h =
 -- the write of a shape
 state_write : (w : Write) (h : HardState) → shape_of w ≡ Shape.HardState h → w ≡ write_hard_state h
 state_write (write_hard_state g) h e = cc
-state_write (write_put i d) h e = no d.payload e
-  where
-    no : (y : Payload) → entry_shape i d.term y ≡ Shape.HardState h → write_put i d ≡ write_hard_state h
-    no noop e = cc
-    no (command bs) e = cc
+state_write (write_put i d) h e = cc
 state_write (write_truncate f) h e = cc
 
-put_write : (w : Write) (i : LogIndex) (t : Term) (kind n : ℕ) → shape_of w ≡ Shape.Put i t kind n
-    → (n ≡ length (body_of (kind_of w))) × (w ≡ write_put i (record { term = t; payload = payload_of kind (body_of (kind_of w)) }))
-unfolding payload_of
-put_write (write_hard_state g) i t kind n e = let o : ◌≡◌ {A = ℕ} 0 1 = cc in absurd (omega arith)
-put_write (write_put j d) i t kind n e = by d.payload e
+-- the payload is that of its shape and its bytes
+content : (p L k : ℕ) (b : List ℕ) (y : Payload) → ((n : ℕ) → n ≡ length (body_of (payload_kind y)) → body_at p L k n b ≡ body_of (payload_kind y)) → y ≡ payload_at p L k (shape_of_payload y) b
+content p L k b noop f = refl
+content p L k b (command bs) f = ap command (sym (f (length bs) refl))
+
+put_write : (p L k : ℕ) (b : List ℕ) (w : Write) (i : LogIndex) (d : EntryShape) → shape_of w ≡ Shape.Put i d
+    → ((n : ℕ) → n ≡ length (body_of (kind_of w)) → body_at p L k n b ≡ body_of (kind_of w)) → w ≡ write_put i (entry_at p L k d b)
+put_write p L k b (write_hard_state g) i d e f = cc
+put_write p L k b (write_put j c) i d e f =
+    let a : j ≡ i = cc in
+    let s : entry_shape c ≡ d = cc in
+    ap₂ write_put a (ap (λ (v : Payload). record { term = c.term; payload = v }) (content p L k b c.payload f) ∙ ap (λ (o : EntryShape). entry_at p L k o b) s)
+put_write p L k b (write_truncate g) i d e f = cc
+
+-- the length that a shape tells
+shape_length : (w : Write) → length_of (shape_of w) ≡ length (body_of (kind_of w))
+shape_length (write_hard_state h) = by h.voted_for
   where
-    by : (y : Payload) → entry_shape j d.term y ≡ Shape.Put i t kind n
-        → (n ≡ length (body_of (payload_kind y))) × (write_put j (record { term = d.term; payload = y }) ≡ write_put i (record { term = t; payload = payload_of kind (body_of (payload_kind y)) }))
-    by noop e =
-        let a : j ≡ i = cc in
-        let b : d.term ≡ t = cc in
-        let c : 0 ≡ kind = cc in
-        let f : n ≡ 0 = cc in
-        (f, ap₂ (λ (x : LogIndex) (y : Term). write_put x (record { term = y; payload = noop })) a b ∙ ap (λ (k : ℕ). write_put i (record { term = t; payload = payload_of k [] })) c)
-    by (command bs) e =
-        let a : j ≡ i = cc in
-        let b : d.term ≡ t = cc in
-        let c : 1 ≡ kind = cc in
-        let f : n ≡ length bs = cc in
-        (f, ap₂ (λ (x : LogIndex) (y : Term). write_put x (record { term = y; payload = command bs })) a b ∙ ap (λ (k : ℕ). write_put i (record { term = t; payload = payload_of k bs })) c)
-put_write (write_truncate f) i t kind n e = let o : ◌≡◌ {A = ℕ} 0 1 = cc in absurd (omega arith)
+    by : (v : Option NodeId) → ◌≡◌ {A = ℕ} 0 (length (body_of (vote_kind v)))
+    by None = refl
+    by (Some id) = refl
+shape_length (write_put i e) = by e.payload
+  where
+    by : (y : Payload) → command_length (shape_of_payload y) ≡ length (body_of (payload_kind y))
+    by noop = refl
+    by (command bs) = refl
+shape_length (write_truncate from) = refl
 
 truncate_write : (w : Write) (f : LogIndex) → shape_of w ≡ Shape.Truncate f → w ≡ write_truncate f
 truncate_write (write_hard_state g) f e = cc
-truncate_write (write_put i d) f e = no d.payload e
-  where
-    no : (y : Payload) → entry_shape i d.term y ≡ Shape.Truncate f → write_put i d ≡ write_truncate f
-    no noop e = cc
-    no (command bs) e = cc
+truncate_write (write_put i d) f e = cc
 truncate_write (write_truncate g) f e = cc
 
 module _ (p L W m k : ℕ) (state : HardState) (b : List ℕ) (r : Shape) (g : Tells p L W m k r b) where
@@ -259,31 +248,26 @@ module _ (p L W m k : ℕ) (state : HardState) (b : List ℕ) (r : Shape) (g : T
   pub applied_state : (h : HardState) → r ≡ Shape.HardState h → Applies p L W m k state h b b
   applied_state h e = applied (write_hard_state h) b h (λ x y ws j q. state_write (get_or ws k nothing) h (q ∙ e)) (λ x y ws j. j) (λ y. refl)
 
-  module _ (i : LogIndex) (t : Term) (kind d : ℕ) (e : r ≡ Shape.Put i t kind d) where
-    pub put_kind_lem : kind ≤ 1
-    put_kind_lem = omega (arith, g.short.kind, ap put_kind e)
+  module _ (i : LogIndex) (d : EntryShape) (e : r ≡ Shape.Put i d) where
+    pub put_short : command_length d.payload ≤ p
+    put_short = omega (arith, g.most, ap length_of e)
 
-    pub put_bare : d ≤ 256 * kind
-    put_bare = omega (arith, g.short.bare, ap put_kind e, ap length_of e)
-
-    pub put_short : d ≤ p
-    put_short = omega (arith, g.short.most, ap length_of e)
-
-    pub applied_put : (b' : List ℕ) → k < m → Changes p L W b b' (put_entry i.0 (record { term = t; payload = payload_of kind (body_at p L k d b) })) → Applies p L W m k state state b b'
+    pub applied_put : (b' : List ℕ) → k < m → Changes p L W b b' (put_entry i.0 (entry_at p L k d b)) → Applies p L W m k state state b b'
     unfolding put_entry
     applied_put b' l c =
-        applied (write_put i (record { term = t; payload = payload_of kind (body_at p L k d b) })) b' state
-        (λ x y ws j q.
-        let z = put_write (get_or ws k nothing) i t kind d (q ∙ e) in
-        z.1 ∙ ap (λ (v : List ℕ). write_put i (record { term = t; payload = payload_of kind v })) (sym (body_there j k d l z.0 put_short)))
+        applied (write_put i (entry_at p L k d b)) b' state
+        (λ x y ws j q. put_write p L k b (get_or ws k nothing) i d (q ∙ e) (λ n f. body_there j k n l f (short (get_or ws k nothing) n q f)))
         (c.to m) (λ y. refl)
+      where
+        short : (w : Write) (n : ℕ) → shape_of w ≡ r → n ≡ length (body_of (kind_of w)) → n ≤ p
+        short w n q f = omega (arith, shape_length w, ap length_of q, g.most)
 
   pub applied_truncate : (from : LogIndex) (b' : List ℕ) → r ≡ Shape.Truncate from → Changes p L W b b' (truncate_from from.0) → Applies p L W m k state state b b'
   unfolding truncate_from
   applied_truncate from b' e c =
       applied (write_truncate from) b' state (λ x y ws j q. truncate_write (get_or ws k nothing) from (q ∙ e)) (c.to m) (λ y. refl)
 
-pub ruleset applies = (applied_state, applied_put, applied_truncate, put_kind_lem, put_bare, put_short)
+pub ruleset applies = (applied_state, applied_put, applied_truncate, put_short)
 
 -- ---- the loop: the first k writes are made
 

@@ -1,12 +1,10 @@
 -- A server's disk (consensus/storage.rs MemStorage, sim/storage.rs TrackedStorage). What follows from the waiting writes is not stored:
 -- the written indexes, and the bytes not yet synced. Assumes nothing.
-use Rattle.std.specs.Prelude.{Bool, true, false, not, List, [], ◌∷◌, ◌++◌, ℕ, ◌+◌, ltb, length}
-use Rattle.std.proofs.Math.Option.{Option, none, some}
+use Rattle.std.specs.Prelude.{Bool, false, not, List, [], ◌∷◌, ◌++◌, ℕ, ◌+◌, ltb, length, Option, None, Some}
+use Rattle.std.specs.Bool.{then_some}
 use Rattle.laws.specs.Bools.{pick}
 use Rattle.units.specs.Types.{Entry, same_payload}
-use Rattle.units.specs.declared.Term.{Term}
 use Rattle.units.specs.declared.LogIndex.{LogIndex}
-use Rattle.units.specs.declared.NodeOption.TheVariants.{None}
 use Rattle.record.specs.Postcard.{record_bytes, hard_state_record, put_record, truncate_record}
 use Rattle.storage.specs.declared.HardState.{HardState}
 use Rattle.raft_log.specs.Log.{Log, empty_log, entry_at, put_at, truncate_at, removed_by}
@@ -72,8 +70,8 @@ empty_storage indexes = record { current = empty_disk indexes; durable = empty_d
 
 -- Whether an entry is there with another payload.
 abbrev pub differs : Option Entry → Entry → Bool
-differs none new = false
-differs (some old) new = not (same_payload old.payload new.payload)
+differs None new = false
+differs (Some old) new = not (same_payload old.payload new.payload)
 
 -- The entries that a write discards: one that is put over with another payload, those that a truncation removes.
 abbrev pub discards : Log → Write → ℕ
@@ -98,6 +96,10 @@ sync s = record { current = s.current; durable = apply_writes s.durable s.waitin
 -- Whether a sync has anything to write.
 abbrev pub unsynced : Storage → Bool
 unsynced s = ltb 0 (length s.waiting)
+
+-- What a sync writes: the bytes of the waiting writes, if there are any.
+abbrev pub synced_bytes : Storage → Option ℕ
+synced_bytes s = then_some (unsynced s) (unsynced_bytes s.waiting)
 
 -- The waiting writes lost (crash); what was discarded stays counted.
 unfoldable pub crash : Storage → Storage

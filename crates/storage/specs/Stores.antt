@@ -1,12 +1,12 @@
 -- What a server's disk is in its one region and its fixed part, and what the functions of lib.rt leave. Assumes nothing.
-use Rattle.std.specs.Prelude.{◌≡◌, List, ◌++◌, ℕ, ◌+◌, ◌*◌, ◌≤◌}
+use Rattle.std.specs.Prelude.{◌≡◌, List, ◌++◌, ℕ, ◌+◌, ◌*◌, ◌≤◌, Some}
 use Rattle.layout.specs.Tables.{Held}
 use Rattle.layout.specs.Marked.{words_for}
 use Rattle.raft_log.specs.Log.{Log}
 use Rattle.raft_log.specs.Places.{places}
 use Rattle.storage.specs.declared.StorageState.{StorageState}
 use Rattle.storage.specs.declared.Synced.{Synced}
-use Rattle.storage.specs.Storage.{Write, Storage, sync, crash, unsynced, unsynced_bytes}
+use Rattle.storage.specs.Storage.{Write, Storage, sync, crash, synced_bytes}
 use Rattle.storage.specs.Waiting.{waiting}
 
 -- The bytes of a disk: two logs of L places and W rows of waiting writes, with payloads of up to p bytes.
@@ -30,12 +30,11 @@ pub record Stores (p L W : ℕ) (v : StorageState) (b : List ℕ) (x : Storage) 
   pub durable : v.durable ≡ x.durable.hard_state
   pub discarded : v.discarded ≡ x.discarded
 
--- Whatever storage x was there, `sync x` is there after; its bytes, and whether there was anything to write, are answered.
+-- Whatever storage x was there, `sync x` is there after, and what it wrote is answered, at most 292 bytes a write.
 pub record Syncs (p L W : ℕ) (v : StorageState) (r : Synced) (b b' : List ℕ) : Type 0 where
   pub to : (x : Storage) → Stores p L W v b x → Stores p L W r.state b' (sync x)
-  pub wrote : (x : Storage) → Stores p L W v b x → r.wrote ≡ unsynced x
-  pub bytes : (x : Storage) → Stores p L W v b x → r.bytes ≡ unsynced_bytes x.waiting
-  pub most : r.bytes ≤ 292 * v.waiting
+  pub written : (x : Storage) → Stores p L W v b x → r.written ≡ synced_bytes x
+  pub most : (n : ℕ) → r.written ≡ Some n → n ≤ 292 * v.waiting
 
 -- Whatever storage x was there, `crash x` is there after.
 pub record Crashes (p L W : ℕ) (v v' : StorageState) (b b' : List ℕ) : Type 0 where

@@ -1,21 +1,20 @@
 -- How the writes not yet synced lie in words (waiting.rt), and what its functions leave and answer. Payloads are of up to p bytes. Assumes nothing.
-use Rattle.std.specs.Prelude.{◌≡◌, refl, Bool, true, List, [], ◌∷◌, ℕ, zero, suc, ◌+◌, ◌-◌, ◌*◌, ◌≤◌, eqb, leb, length, get_or}
+use Rattle.std.specs.Prelude.{◌≡◌, refl, Bool, true, List, [], ◌∷◌, ℕ, zero, suc, ◌+◌, ◌-◌, ◌≤◌, eqb, leb, length, get_or, Option, None, Some}
 use Rattle.std.proofs.Common.{sym, ap, arith, eqb-true}
 use Rattle.laws.specs.Bools.{◌and◌, pick}
 use Rattle.laws.proofs.BoolLaws.{and_right}
-use Rattle.units.specs.Types.{Payload, noop, command}
+use Rattle.units.specs.Types.{Payload, noop, command, command_length}
 pub use Rattle.units.specs.Types.{node_number as voteNumber}
-use Rattle.units.specs.declared.Term.{Term}
 use Rattle.units.specs.declared.LogIndex.{LogIndex}
-use Rattle.units.specs.declared.NodeOption.{NodeOption}
-use Rattle.units.specs.declared.NodeOption.TheVariants.{None, Some}
+use Rattle.units.specs.declared.PayloadShape.{PayloadShape}
+use Rattle.units.specs.declared.PayloadShape.TheVariants.{Noop, Command}
 use Rattle.layout.specs.Code.{Code, word, pair, such, iso, sized}
 use Rattle.layout.specs.Tables.{Table, such_table, Becomes, Gives, append}
 use Rattle.layout.specs.Marked.{words_for, Marking, marked}
-use Rattle.storage.specs.declared.HardState.{HardState}
+use Rattle.raft_log.specs.Places.{entry_shape}
 use Rattle.storage.specs.declared.waiting.Shape.{Shape}
-use Rattle.storage.specs.declared.waiting.Shape.TheVariants as Shape
 use Rattle.storage.specs.Storage.{Write, write_hard_state, write_put, write_truncate}
+use Rattle.units.specs.declared.NodeId.{NodeId}
 
 -- ---- the row: a number that says the kind and the length, the bytes of a command, and two numbers
 
@@ -111,7 +110,7 @@ write_from put_noop a b = write_put (record { 0 = a }) (record { term = record {
 write_from (put_command bs) a b = write_put (record { 0 = a }) (record { term = record { 0 = b }; payload = command bs })
 
 -- The kind of a hard state, by its vote.
-abbrev pub vote_kind : NodeOption → Kind
+abbrev pub vote_kind : Option NodeId → Kind
 vote_kind None = hard_state
 vote_kind (Some id) = vote
 
@@ -164,7 +163,7 @@ from_write w = (kind_of w, (first_of w, second_of w))
 pub write_back : (w : Write) → to_write (from_write w) ≡ w
 write_back (write_hard_state h) = by h.voted_for
   where
-    by : (v : NodeOption) → write_from (vote_kind v) h.term.0 (voteNumber v) ≡ write_hard_state (record { term = h.term; voted_for = v })
+    by : (v : Option NodeId) → write_from (vote_kind v) h.term.0 (voteNumber v) ≡ write_hard_state (record { term = h.term; voted_for = v })
     by None = refl
     by (Some id) = refl
 write_back (write_put index e) = by e.payload
@@ -219,28 +218,23 @@ waiting_in L p = such_table (waiting p) (put_within L)
 pub record Pushes (p m mark : ℕ) (src : List ℕ) (a b : ℕ) (s s' : List ℕ) : Type 0 where
   pub to : (w : Write) → mark_of (kind_of w) ≡ mark → body_of (kind_of w) ≡ src → first_of w ≡ a → second_of w ≡ b → Becomes (waiting p) m (m + 1) s s' (append w)
 
--- A put without the bytes of its command.
-abbrev pub entry_shape : LogIndex → Term → Payload → Shape
-entry_shape index term noop = Shape.Put index term 0 0
-entry_shape index term (command bs) = Shape.Put index term 1 (length bs)
-
 -- A write without the bytes of its command.
 abbrev pub shape_of : Write → Shape
 shape_of (write_hard_state h) = Shape.HardState h
-shape_of (write_put index e) = entry_shape index e.term e.payload
+shape_of (write_put index e) = Shape.Put index (entry_shape e)
 shape_of (write_truncate from) = Shape.Truncate from
+
+-- The index of a put, or 0, where no entry is.
+abbrev pub shape_index : Shape → LogIndex
+shape_index (Shape.HardState h) = record { 0 = 0 }
+shape_index (Shape.Put index e) = index
+shape_index (Shape.Truncate from) = record { 0 = 0 }
 
 -- The length of a put's command.
 abbrev pub length_of : Shape → ℕ
 length_of (Shape.HardState h) = 0
-length_of (Shape.Put index term kind n) = n
+length_of (Shape.Put index e) = command_length e.payload
 length_of (Shape.Truncate from) = 0
-
--- The kind of a put's payload.
-abbrev pub put_kind : Shape → ℕ
-put_kind (Shape.HardState h) = 0
-put_kind (Shape.Put index term kind n) = kind
-put_kind (Shape.Truncate from) = 0
 
 -- Any write, for a place at which there is none.
 abbrev pub nothing : Write
@@ -250,29 +244,26 @@ nothing = write_truncate (record { 0 = 0 })
 unfoldable pub shape_at : ℕ → List Write → Shape
 shape_at k ws = shape_of (get_or ws k nothing)
 
--- What a row says by its first word and its last two; a length past p is said of no content.
+-- The shape of the payload of a row that is a put, by its first word; a length past p is said of no content.
+unfoldable pub payload_said : ℕ → ℕ → PayloadShape
+payload_said p mark = pick (leb mark 3) Noop (Command (pick (leb (mark - 4) p) (mark - 4) 0))
+
+-- What a row says by its first word and its last two.
 unfoldable pub shaped : ℕ → ℕ → ℕ → ℕ → Shape
 shaped p zero a b = Shape.HardState (record { term = record { 0 = a }; voted_for = None })
 shaped p (suc zero) a b = Shape.HardState (record { term = record { 0 = a }; voted_for = Some (record { 0 = b }) })
 shaped p (suc (suc zero)) a b = Shape.Truncate (record { 0 = a })
-shaped p (suc (suc (suc zero))) a b = Shape.Put (record { 0 = a }) (record { 0 = b }) 0 0
-shaped p (suc (suc (suc (suc k)))) a b = Shape.Put (record { 0 = a }) (record { 0 = b }) 1 (pick (leb k p) k 0)
+shaped p (suc (suc (suc m))) a b = Shape.Put (record { 0 = a }) (record { term = record { 0 = b }; payload = payload_said p (3 + m) })
 
--- A shape whose kind and length are those of a payload of up to p bytes: a noop has none.
-pub record Short (p : ℕ) (r : Shape) : Type 0 where
-  pub kind : put_kind r ≤ 1
-  pub bare : length_of r ≤ 256 * put_kind r
-  pub most : length_of r ≤ p
-
--- r is what a row says.
+-- r is what a row says; its command has at most p bytes.
 pub record Shaped (p mark a b : ℕ) (r : Shape) : Type 0 where
   pub is : r ≡ shaped p mark a b
-  pub short : Short p r
+  pub most : length_of r ≤ p
 
--- Where s holds m writes, r is write k without the bytes of its command.
+-- Where s holds m writes, r is write k without the bytes of its command, which has at most p.
 pub record Shows (p m k : ℕ) (r : Shape) (s : List ℕ) : Type 0 where
   pub is : Gives (waiting p) m s r (shape_at k)
-  pub short : Short p r
+  pub most : length_of r ≤ p
 
 -- No write.
 unfoldable pub emptied : List Write → List Write

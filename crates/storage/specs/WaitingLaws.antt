@@ -1,7 +1,7 @@
 -- What the proofs of waiting.rt cite. Assumes nothing.
-use Rattle.std.specs.Prelude.{◌≡◌, Bool, true, false, not, ◌&&◌, eqb, length, drop}
+use Rattle.std.specs.Prelude.{◌≡◌, ◌⊎◌, Bool, true, false, not, ◌&&◌, eqb, length, drop, Option, None, Some}
 use Rattle.std.proofs.Math.Path.{refl, sym, ap, ap₂}
-use Rattle.std.proofs.Common.{◌∙◌, get_or-append-add, get_or-drop, take-take, Fits, lt-ltb, le-leb}
+use Rattle.std.proofs.Common.{◌∙◌, inl, inr, get_or-append-add, get_or-drop, take-take, Fits, lt-ltb, le-leb}
 use mathlib.Core.List.{List, [], ◌∷◌, ◌++◌}
 use Prim.Native.Nat.{ℕ, zero, suc, ◌+◌, ◌-◌, ◌*◌, ◌^◌, ◌≤◌, ◌<◌}
 use native.Mathlib.Omega.{arith}
@@ -11,14 +11,14 @@ use Rattle.std.proofs.lemmas.List.Edits.{sets}
 use Rattle.std.proofs.lemmas.List.{get_or_at}
 use Rattle.std.specs.Int.{w64}
 use Rattle.std.proofs.lemmas.Bool.{lt-leb, not-true, not-false}
-use Rattle.laws.specs.Bools.{pick, ◌and◌, and_left, no_and}
+use Rattle.laws.specs.Bools.{◌and◌, and_left, no_and}
 use Rattle.laws.proofs.BoolLaws.{and_both, true_and, code_and}
-use Rattle.units.specs.Types.{Payload, noop, command, payload_of}
+use Rattle.units.specs.Types.{Payload, noop, command, command_length, shape_of as shape_of_payload}
+use Rattle.units.specs.declared.PayloadShape.{PayloadShape}
+use Rattle.units.specs.declared.PayloadShape.TheVariants.{Noop, Command}
 use Rattle.units.specs.declared.Term.{Term}
 use Rattle.units.specs.declared.LogIndex.{LogIndex}
 use Rattle.units.specs.declared.NodeId.{NodeId}
-use Rattle.units.specs.declared.NodeOption.{NodeOption}
-use Rattle.units.specs.declared.NodeOption.TheVariants.{None, Some}
 use Rattle.words.specs.Words.{bytes, W, Bytes, allz}
 use Rattle.words.specs.Sets.{sets_append}
 use Rattle.words.specs.Lift.{bytes_append, length_bytes, W-part}
@@ -28,20 +28,19 @@ use Rattle.layout.specs.TableLaws.{row_word, row_held, appends, clear_held, rowe
 use Rattle.layout.specs.Marked.{words_for, Sound, sound, sounds, marked, body_in}
 use Rattle.layout.specs.MarkedCalls.{laid, rest_ok}
 use Rattle.layout.specs.Payload.{mark_of as payloadMark, body_of as payloadBody}
-use Rattle.layout.specs.MarkedLaws.{puts, kind_mark, kind_body}
+use Rattle.layout.specs.MarkedLaws.{puts}
 use Rattle.layout.specs.Parts.{lent_row, back_row, length_lent_row, row_back, lent_fine, lent_fails}
 use Rattle.storage.specs.declared.HardState.{HardState}
 use Rattle.storage.specs.declared.waiting.Shape.{Shape}
-use Rattle.storage.specs.declared.waiting.Shape.TheVariants as Shape
 use Rattle.storage.specs.Storage.{Write, write_hard_state, write_put, write_truncate}
-use Rattle.storage.specs.Waiting.{Kind, mark_of, body_of, kind_marking, kind_from, kind_of, first_of, second_of, vote_kind, voteNumber, payload_kind, plain, plain_mark, two_more, write_from, write_code, waiting, put_within, within_mark, waiting_in, Pushes, entry_shape, shape_of, length_of, nothing, shape_at, shaped, Short, Shaped, Shows, emptied}
+use Rattle.storage.specs.Waiting.{Kind, mark_of, body_of, kind_marking, kind_from, kind_of, first_of, second_of, vote_kind, voteNumber, payload_kind, plain, plain_mark, two_more, write_from, write_code, waiting, put_within, within_mark, waiting_in, Pushes, shape_of, length_of, nothing, shape_at, payload_said, shaped, Shaped, Shows, emptied}
 
 -- ---- a write after the last
 
 plain_write : (w : Write) → plain (kind_of w) (second_of w) ≡ true
 plain_write (write_hard_state h) = by h.voted_for
   where
-    by : (v : NodeOption) → plain (vote_kind v) (voteNumber v) ≡ true
+    by : (v : Option NodeId) → plain (vote_kind v) (voteNumber v) ≡ true
     by None = refl
     by (Some id) = refl
 plain_write (write_put index e) = by e.payload
@@ -88,17 +87,16 @@ put_body (command bs) = refl
 module _ (p m : ℕ) (s s' : List ℕ) where
   pub pushed_state : (h : HardState) → h.voted_for ≡ None → Pushes p m 0 [] h.term.0 0 s s' → Becomes (waiting p) m (m + 1) s s' (append (write_hard_state h))
   pushed_state h e P =
-      P.to (write_hard_state h) (ap (λ (v : NodeOption). mark_of (vote_kind v)) e) (ap (λ (v : NodeOption). body_of (vote_kind v)) e) refl (ap voteNumber e)
+      P.to (write_hard_state h) (ap (λ (v : Option NodeId). mark_of (vote_kind v)) e) (ap (λ (v : Option NodeId). body_of (vote_kind v)) e) refl (ap voteNumber e)
 
   pub pushed_vote : (h : HardState) (id : NodeId) → h.voted_for ≡ Some id → Pushes p m 1 [] h.term.0 id.0 s s' → Becomes (waiting p) m (m + 1) s s' (append (write_hard_state h))
   pushed_vote h id e P =
-      P.to (write_hard_state h) (ap (λ (v : NodeOption). mark_of (vote_kind v)) e) (ap (λ (v : NodeOption). body_of (vote_kind v)) e) refl (ap voteNumber e)
+      P.to (write_hard_state h) (ap (λ (v : Option NodeId). mark_of (vote_kind v)) e) (ap (λ (v : Option NodeId). body_of (vote_kind v)) e) refl (ap voteNumber e)
 
-  pub pushed_put : (index : LogIndex) (term : Term) (kind : ℕ) (src : List ℕ) → kind ≤ 1 → length src ≤ 256 * kind → Pushes p m (3 + kind + length src) src index.0 term.0 s s'
-      → Becomes (waiting p) m (m + 1) s s' (append (write_put index (record { term = term; payload = payload_of kind src })))
-  pushed_put index term kind src k l P =
-      let n : mark_of (payload_kind (payload_of kind src)) ≡ 3 + kind + length src = omega (arith, put_mark (payload_of kind src), kind_mark kind src k l) in
-      P.to (write_put index (record { term = term; payload = payload_of kind src })) n (put_body (payload_of kind src) ∙ kind_body kind src k l) refl refl
+  pub pushed_put : (index : LogIndex) (term : Term) (y : Payload) (mark k : ℕ) (src : List ℕ) → Pushes p m k src index.0 term.0 s s' → k ≡ 2 + mark → mark ≡ payloadMark y → src ≡ payloadBody y
+      → Becomes (waiting p) m (m + 1) s s' (append (write_put index (record { term = term; payload = y })))
+  pushed_put index term y mark k src P e em es =
+      P.to (write_put index (record { term = term; payload = y })) (put_mark y ∙ ap (λ (j : ℕ). 2 + j) (sym em) ∙ sym e) (put_body y ∙ sym es) refl refl
 
   pub pushed_truncate : (from : LogIndex) → Pushes p m 2 [] from.0 0 s s' → Becomes (waiting p) m (m + 1) s s' (append (write_truncate from))
   pushed_truncate from P = P.to (write_truncate from) refl refl refl refl
@@ -115,41 +113,45 @@ cleared_writes p m end s s' e f =
 
 -- ---- what a row says
 
+module _ (p m : ℕ) where
+  pub said_noop : m < 4 → Noop ≡ payload_said p m
+  unfolding payload_said
+  said_noop h = rw (le-leb m 3 (omega arith))
+
+  pub said_command : 4 ≤ m → m - 4 ≤ p → Command (m - 4) ≡ payload_said p m
+  unfolding payload_said
+  said_command h k = rw (lt-leb m 3 (omega arith), le-leb (m - 4) p k)
+
+  pub said_long : 4 ≤ m → p < m - 4 → Command 0 ≡ payload_said p m
+  unfolding payload_said
+  said_long h k = rw (lt-leb m 3 (omega arith), lt-leb (m - 4) p k)
+
+pub ruleset payloads = (said_noop, said_command, said_long)
+
 module _ (p m a b : ℕ) where
-  shaped_as : (k : ℕ) (r : Shape) → m ≡ k → r ≡ shaped p k a b → Short p r → Shaped p m a b r
-  shaped_as k r e f l = record { is = f ∙ ap (λ (j : ℕ). shaped p j a b) (sym e); short = l }
+  shaped_as : (k : ℕ) (r : Shape) → m ≡ k → r ≡ shaped p k a b → length_of r ≤ p → Shaped p m a b r
+  shaped_as k r e f l = record { is = f ∙ ap (λ (j : ℕ). shaped p j a b) (sym e); most = l }
 
-  pub shaped_state : m < 1 → Shaped p m a b (Shape.HardState (record { term = record { 0 = a }; voted_for = None }))
+  pub shaped_state : m ≡ 0 → Shaped p m a b (Shape.HardState (record { term = record { 0 = a }; voted_for = None }))
   unfolding shaped
-  shaped_state h = shaped_as 0 _ (omega arith) refl (record { kind = omega arith; bare = omega arith; most = omega arith })
+  shaped_state h = shaped_as 0 _ h refl (omega arith)
 
-  pub shaped_vote : 1 ≤ m → m < 2 → Shaped p m a b (Shape.HardState (record { term = record { 0 = a }; voted_for = Some (record { 0 = b }) }))
+  pub shaped_vote : m ≡ 1 → Shaped p m a b (Shape.HardState (record { term = record { 0 = a }; voted_for = Some (record { 0 = b }) }))
   unfolding shaped
-  shaped_vote h k = shaped_as (suc zero) _ (omega arith) refl (record { kind = omega arith; bare = omega arith; most = omega arith })
+  shaped_vote h = shaped_as (suc zero) _ h refl (omega arith)
 
-  pub shaped_truncate : 2 ≤ m → m < 3 → Shaped p m a b (Shape.Truncate (record { 0 = a }))
+  pub shaped_truncate : m ≡ 2 → Shaped p m a b (Shape.Truncate (record { 0 = a }))
   unfolding shaped
-  shaped_truncate h k = shaped_as (suc (suc zero)) _ (omega arith) refl (record { kind = omega arith; bare = omega arith; most = omega arith })
+  shaped_truncate h = shaped_as (suc (suc zero)) _ h refl (omega arith)
 
-module _ (p m : ℕ) (index : LogIndex) (term : Term) (q : p ≤ 256) where
-  shaped_put : (k kind n : ℕ) → m ≡ k → Shape.Put index term kind n ≡ shaped p k index.0 term.0 → kind ≤ 1 → n ≤ 256 * kind → n ≤ p → Shaped p m index.0 term.0 (Shape.Put index term kind n)
-  shaped_put k kind n e f a b c = shaped_as p m index.0 term.0 k (Shape.Put index term kind n) e f (record { kind = a; bare = b; most = c })
-
-  pub shaped_noop : 3 ≤ m → m < 4 → Shaped p m index.0 term.0 (Shape.Put index term 0 0)
+  pub shaped_put : (q : PayloadShape) → 3 ≤ m → q ≡ payload_said p m → command_length q ≤ p → Shaped p m a b (Shape.Put (record { 0 = a }) (record { term = record { 0 = b }; payload = q }))
   unfolding shaped
-  shaped_noop h k = shaped_put (suc (suc (suc zero))) 0 0 (omega arith) refl (omega arith) (omega arith) (omega arith)
+  shaped_put q h e l =
+      let k : 3 + (m - 3) ≡ m = omega arith in
+      shaped_as (suc (suc (suc (m - 3)))) _ (omega arith)
+      (ap (λ (o : PayloadShape). Shape.Put (record { 0 = a }) (record { term = record { 0 = b }; payload = o })) (e ∙ ap (payload_said p) (sym k))) l
 
-  pub shaped_command : 4 ≤ m → m - 4 ≤ p → Shaped p m index.0 term.0 (Shape.Put index term 1 (m - 4))
-  unfolding shaped
-  shaped_command h k =
-      shaped_put (suc (suc (suc (suc (m - 4))))) 1 (m - 4) (omega arith) (ap (λ (t : Bool). Shape.Put index term 1 (pick t (m - 4) 0)) (sym (le-leb (m - 4) p k))) (omega arith) (omega arith) k
-
-  pub shaped_long : 4 ≤ m → p < m - 4 → Shaped p m index.0 term.0 (Shape.Put index term 1 0)
-  unfolding shaped
-  shaped_long h k =
-      shaped_put (suc (suc (suc (suc (m - 4))))) 1 0 (omega arith) (ap (λ (t : Bool). Shape.Put index term 1 (pick t (m - 4) 0)) (sym (lt-leb (m - 4) p k))) (omega arith) (omega arith) (omega arith)
-
-pub ruleset shapes = (shaped_state, shaped_vote, shaped_truncate, shaped_noop, shaped_command, shaped_long)
+pub ruleset shapes = (shaped_state, shaped_vote, shaped_truncate, shaped_put)
 
 -- ---- write k
 
@@ -157,23 +159,27 @@ shaped_write : (p : ℕ) (w : Write) → (write_code p).good w ≡ true → shap
 unfolding shaped
 shaped_write p (write_hard_state h) g = by h.voted_for
   where
-    by : (v : NodeOption) → shaped p (mark_of (vote_kind v)) h.term.0 (voteNumber v) ≡ Shape.HardState (record { term = h.term; voted_for = v })
+    by : (v : Option NodeId) → shaped p (mark_of (vote_kind v)) h.term.0 (voteNumber v) ≡ Shape.HardState (record { term = h.term; voted_for = v })
     by None = refl
     by (Some id) = refl
 shaped_write p (write_put index e) g = by e.payload (sound kind_marking p (payload_kind e.payload) (and_left _ _ (and_left _ _ g)))
   where
-    by : (y : Payload) → Sound kind_marking p (payload_kind y) → shaped p (mark_of (payload_kind y)) index.0 e.term.0 ≡ entry_shape index e.term y
-    by noop s = refl
+    put : PayloadShape → Shape
+    put q = Shape.Put index (record { term = e.term; payload = q })
+
+    by : (y : Payload) → Sound kind_marking p (payload_kind y) → shaped p (mark_of (payload_kind y)) index.0 e.term.0 ≡ put (shape_of_payload y)
+    by noop s = ap put (sym (said_noop p 3 (omega arith)))
     by (command bs) s =
-        let f : 4 + length bs ≡ suc (suc (suc (suc (length bs)))) = omega arith in
-        ap (λ (k : ℕ). shaped p k index.0 e.term.0) f ∙ ap (λ (t : Bool). Shape.Put index e.term 1 (pick t (length bs) 0)) (le-leb (length bs) p s.short)
+        let f : 4 + length bs ≡ suc (suc (suc (1 + length bs))) = omega arith in
+        let g : 3 + (1 + length bs) - 4 ≡ length bs = omega arith in
+        ap (λ (k : ℕ). shaped p k index.0 e.term.0) f ∙ ap put (sym (said_command p (3 + (1 + length bs)) (omega arith) (omega (arith, s.short))) ∙ ap Command g)
 shaped_write p (write_truncate from) g = refl
 
 pub shows : (p m k at mark a b : ℕ) (s : List ℕ) (r : Shape) → k < m → at ≡ k * (3 + words_for p) → mark ≡ get_or (W s) at 0 → a ≡ get_or (W s) (at + (3 + words_for p) - 2) 0
     → b ≡ get_or (W s) (at + (3 + words_for p) - 1) 0 → Shaped p mark a b r
     → Shows p m k r s
 unfolding shape_at
-shows p m k at mark a b s r h e em ea eb c = record { is = record { to = λ N ws g. c.is ∙ is g }; short = c.short }
+shows p m k at mark a b s r h e em ea eb c = record { is = record { to = λ N ws g. c.is ∙ is g }; most = c.most }
   where
     is : {N : ℕ} {ws : List Write} → Held (waiting p) N m s ws → shaped p mark a b ≡ shape_of (get_or ws k nothing)
     is {N} {ws} g =
@@ -205,27 +211,19 @@ plain_kind (suc (suc (suc (suc m)))) d b = refl
 plain_as : (m k b : ℕ) (r : Bool) → m ≡ k → r ≡ plain_mark k b → r ≡ plain_mark m b
 plain_as m k b r e f = f ∙ ap (λ (j : ℕ). plain_mark j b) (sym e)
 
-pub plain_state : (m b : ℕ) → m < 1 → eqb b 0 ≡ plain_mark m b
+pub plain_zero : (m b : ℕ) → (m ≡ 0) ⊎ (m ≡ 2) → eqb b 0 ≡ plain_mark m b
 unfolding plain_mark
-plain_state m b h = plain_as m zero b (eqb b 0) (omega arith) refl
+plain_zero m b (inl e) = plain_as m zero b (eqb b 0) e refl
+plain_zero m b (inr e) = plain_as m (suc (suc zero)) b (eqb b 0) e refl
 
-pub plain_vote : (m b : ℕ) → 1 ≤ m → m < 2 → true ≡ plain_mark m b
+pub plain_other : (m b : ℕ) → (m ≡ 0 → ⊥) → (m ≡ 2 → ⊥) → true ≡ plain_mark m b
 unfolding plain_mark
-plain_vote m b h k = plain_as m (suc zero) b true (omega arith) refl
+plain_other zero b h k = absurd (h refl)
+plain_other (suc zero) b h k = refl
+plain_other (suc (suc zero)) b h k = absurd (k refl)
+plain_other (suc (suc (suc m))) b h k = refl
 
-pub plain_truncate : (m b : ℕ) → 2 ≤ m → m < 3 → eqb b 0 ≡ plain_mark m b
-unfolding plain_mark
-plain_truncate m b h k = plain_as m (suc (suc zero)) b (eqb b 0) (omega arith) refl
-
-pub plain_put : (m b : ℕ) → 3 ≤ m → true ≡ plain_mark m b
-unfolding plain_mark
-plain_put zero b h = absurd (omega arith)
-plain_put (suc zero) b h = absurd (omega arith)
-plain_put (suc (suc zero)) b h = absurd (omega arith)
-plain_put (suc (suc (suc zero))) b h = refl
-plain_put (suc (suc (suc (suc m)))) b h = refl
-
-pub ruleset plains = (plain_state, plain_vote, plain_truncate, plain_put)
+pub ruleset plains = (plain_zero, plain_other)
 
 within_kind : (n m : ℕ) (d : List ℕ) (a b : ℕ) → put_within n (write_from (kind_from m d) a b) ≡ within_mark n m a
 unfolding kind_from within_mark

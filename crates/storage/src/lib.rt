@@ -11,14 +11,14 @@ pub mod replay; // what a sync does with them
 pub mod write; // one more write
 
 use layout::rows;
-use units::{NodeOption, Term};
+use units::{NodeId, Term};
 
 // The persistent state other than the log.
 #[derive(Clone, Copy)]
 pub struct HardState {
     pub term: Term,
     // The candidate this server voted for in the term.
-    pub voted_for: NodeOption,
+    pub voted_for: Option<NodeId>,
 }
 
 // A server's storage without its region: both hard states, the count of waiting writes, and the entries discarded.
@@ -30,12 +30,11 @@ pub struct StorageState {
     pub discarded: u64,
 }
 
-// The answer of a sync: whether there was anything to write, and how many bytes.
+// The answer of a sync: the state after it, and how many bytes were written, if there was anything to write.
 #[derive(Clone, Copy)]
 pub struct Synced {
     pub state: StorageState,
-    pub wrote: bool,
-    pub bytes: u64,
+    pub written: Option<u64>,
 }
 
 // Makes the waiting writes durable.
@@ -44,24 +43,18 @@ pub fn sync(v: StorageState, disk: &mut [u8], places: usize, rows: usize, p: usi
     ensures { Syncs p places rows v result disk.old disk.new }
 {
     let m = v.waiting as usize;
-    let current = v.current;
-    let before = v.durable;
-    let discarded = v.discarded;
     let logs = rows::start(places, places, 2 + (p + 7) / 8);
     let from = 16 * logs;
-    let end = disk.len();
-    let bytes = replay::unsynced_bytes(&disk[from..end], m, p);
-    let after = replay::replay(disk, places, rows, p, m, before);
-    waiting::clear(&mut disk[from..end], m, p);
+    let bytes = replay::unsynced_bytes(&disk[from..], m, p);
+    let durable = replay::replay(disk, places, rows, p, m, v.durable);
+    waiting::clear(&mut disk[from..], m, p);
     Synced {
         state: StorageState {
-            current,
-            durable: after,
+            durable,
             waiting: 0,
-            discarded,
+            ..v
         },
-        wrote: 0 < m,
-        bytes,
+        written: (0 < m).then_some(bytes),
     }
 }
 
@@ -71,17 +64,13 @@ pub fn crash(v: StorageState, disk: &mut [u8], places: usize, rows: usize, p: us
     ensures { Crashes p places rows v result disk.old disk.new }
 {
     let m = v.waiting as usize;
-    let state = v.durable;
-    let discarded = v.discarded;
     let logs = rows::start(places, places, 2 + (p + 7) / 8);
     let from = 16 * logs;
-    let end = disk.len();
     words::close_gap(disk, 0, from, 8 * logs);
-    waiting::clear(&mut disk[from..end], m, p);
+    waiting::clear(&mut disk[from..], m, p);
     StorageState {
-        current: state,
-        durable: state,
+        current: v.durable,
         waiting: 0,
-        discarded,
+        ..v
     }
 }

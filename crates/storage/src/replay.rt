@@ -1,33 +1,20 @@
 // What a sync does with the m waiting writes of a disk: the sum of their records' lengths, and the replay onto the durable log and a hard state.
 ghost use Rattle.std.specs.Prelude.{◌≡◌, ◌+◌, ◌*◌, ◌^◌, ◌≤◌, ◌<◌, length};
-ghost use Rattle.units.specs.Types.{payload_of};
+ghost use Rattle.units.specs.Types.{payload_behind, command_length};
 ghost use Rattle.layout.specs.Marked.{words_for};
+ghost use Rattle.layout.specs.Payload.{body_of};
 ghost use Rattle.raft_log.specs.Places.{put_entry};
-ghost use Rattle.record.specs.Postcard.{command_length};
 ghost use Rattle.storage.specs.Waiting.{length_of};
 ghost use Rattle.storage.specs.Stores.{disk_bytes};
-ghost use Rattle.storage.specs.Replay.{payload_shape, Sizes, Sums, body_at, ReadsCommand, truncate_from, Changes, Tells, Applies, Replays};
+ghost use Rattle.storage.specs.Replay.{Sizes, Sums, entry_at, ReadsCommand, truncate_from, Changes, Tells, Applies, Replays};
 
 use crate::waiting::Shape;
 use crate::{HardState, waiting};
 use layout::rows;
-use record::PayloadShape;
-use units::{LogIndex, Term};
+use raft_log::EntryShape;
+use units::{LogIndex, PayloadRef, PayloadShape, Term};
 
 // ---- the bytes of the records
-
-// The shape of a payload of a kind and so many bytes.
-fn payload_shape(kind: u64, length: usize) -> PayloadShape
-    ensures { (result ≡ payload_shape kind length) × (command_length result ≤ length) }
-{
-    if kind < 1 {
-        PayloadShape::Noop
-    } else {
-        PayloadShape::Command {
-            length: length as u64,
-        }
-    }
-}
 
 // The length of the record of a write.
 fn record_bytes(shape: Shape) -> u64
@@ -35,20 +22,8 @@ fn record_bytes(shape: Shape) -> u64
     ensures { Sizes shape result }
 {
     match shape {
-        Shape::HardState(state) => {
-            let term = state.term;
-            let vote = state.voted_for;
-            record::hard_state_bytes(term, vote)
-        }
-        Shape::Put {
-            index,
-            term,
-            kind,
-            length,
-        } => {
-            let payload = payload_shape(kind, length);
-            record::put_bytes(index, term, payload)
-        }
+        Shape::HardState(state) => record::hard_state_bytes(state.term, state.voted_for),
+        Shape::Put { index, entry } => record::put_bytes(index, entry.term, entry.payload),
         Shape::Truncate(from) => record::truncate_bytes(from),
     }
 }
@@ -59,11 +34,9 @@ pub fn unsynced_bytes(s: &[u8], m: usize, p: usize) -> u64
     ensures { Sums p m result s.now }
 {
     let mut total: u64 = 0;
-    let mut i = 0;
-    while i < m {
+    for i in 0..m {
         let shape = waiting::write_at(s, m, p, i);
         total += record_bytes(shape);
-        i += 1;
     }
     total
 }
@@ -78,12 +51,11 @@ fn put(
     p: usize,
     index: LogIndex,
     term: Term,
-    kind: u64,
-    src: &[u8],
+    payload: PayloadRef<'_>,
 )
     requires p_bound { (p ≤ 256) × (length disk.old ≡ disk_bytes p places rows) }
-    requires kind_bound { (kind ≤ 1) × (length src.now ≤ 256 * kind) × (length src.now ≤ p) }
-    ensures { Changes p places rows disk.old disk.new (put_entry index.0 (record { term = term; payload = payload_of kind src.now })) }
+    requires payload_bound { length (body_of (payload_behind payload)) ≤ p }
+    ensures { Changes p places rows disk.old disk.new (put_entry index.0 (record { term = term; payload = payload_behind payload.entry })) }
 {
     let i = index.0 as usize;
     if i < 1 {
@@ -95,7 +67,7 @@ fn put(
     let logs = rows::start(places, places, 2 + (p + 7) / 8);
     let from = 8 * logs;
     let to = 16 * logs;
-    raft_log::put(&mut disk[from..to], places, p, index, term, kind, src);
+    raft_log::put(&mut disk[from..to], places, p, index, term, payload);
 }
 
 // The bytes of the command of write k go to the front of a buffer.
@@ -118,7 +90,7 @@ fn read_command(
     words::copy_from(buffer, 0, &disk[from..to]);
 }
 
-// Puts the entry whose payload is of a kind and so many bytes of write k.
+// Puts the entry of write k, which has this shape.
 fn put_waiting(
     disk: &mut [u8],
     places: usize,
@@ -126,17 +98,22 @@ fn put_waiting(
     p: usize,
     k: usize,
     index: LogIndex,
-    term: Term,
-    kind: u64,
-    bytes: usize,
+    entry: EntryShape,
 )
     requires p_bound { (p ≤ 256) × (length disk.old ≡ disk_bytes p places rows) × (k < rows) }
-    requires kind_bound { (kind ≤ 1) × (bytes ≤ 256 * kind) × (bytes ≤ p) }
-    ensures { Changes p places rows disk.old disk.new (put_entry index.0 (record { term = term; payload = payload_of kind (body_at p places k bytes disk.old) })) }
+    requires payload_bound { command_length entry.payload ≤ p }
+    ensures { Changes p places rows disk.old disk.new (put_entry index.0 (entry_at p places k entry disk.old)) }
 {
-    let mut buffer = [0u8; 256];
-    read_command(disk, places, rows, p, k, bytes, &mut buffer);
-    put(disk, places, rows, p, index, term, kind, &buffer[0..bytes]);
+    let term = entry.term;
+    match entry.payload {
+        PayloadShape::Noop => put(disk, places, rows, p, index, term, PayloadRef::Noop),
+        PayloadShape::Command { length } => {
+            let mut buffer = [0u8; 256];
+            read_command(disk, places, rows, p, k, length, &mut buffer);
+            let payload = PayloadRef::Command(&buffer[..length]);
+            put(disk, places, rows, p, index, term, payload);
+        }
+    }
 }
 
 // Removes every entry at `from` or later.
@@ -159,8 +136,7 @@ fn write_at(disk: &[u8], places: usize, rows: usize, p: usize, m: usize, k: usiz
 {
     let logs = rows::start(places, places, 2 + (p + 7) / 8);
     let from = 16 * logs;
-    let end = disk.len();
-    waiting::write_at(&disk[from..end], m, p, k)
+    waiting::write_at(&disk[from..], m, p, k)
 }
 
 // Write k made on the durable log and a hard state (State::apply).
@@ -178,13 +154,8 @@ fn apply(
 {
     match write_at(disk, places, rows, p, m, k) {
         Shape::HardState(next) => next,
-        Shape::Put {
-            index,
-            term,
-            kind,
-            length,
-        } => {
-            put_waiting(disk, places, rows, p, k, index, term, kind, length);
+        Shape::Put { index, entry } => {
+            put_waiting(disk, places, rows, p, k, index, entry);
             state
         }
         Shape::Truncate(from) => {
@@ -207,10 +178,8 @@ pub fn replay(
     ensures { Replays p places rows m state result disk.old disk.new }
 {
     let mut next = state;
-    let mut k = 0;
-    while k < m {
+    for k in 0..m {
         next = apply(disk, places, rows, p, m, k, next);
-        k += 1;
     }
     next
 }

@@ -2,30 +2,39 @@
 // length of a command. A row is a number that says the kind of the write and the length of a command, the command's bytes, padded with
 // zeros, and two numbers: term and vote, index and term, or the index from which a truncation removes. The caller keeps m.
 ghost use Rattle.std.specs.Prelude.{◌≡◌, ◌+◌, ◌-◌, ◌*◌, ◌≤◌, ◌<◌, length};
-ghost use Rattle.units.specs.Types.{payload_of};
+ghost use Rattle.units.specs.Types.{payload_behind, command_length};
 ghost use Rattle.laws.specs.Decides.{Decides};
 ghost use Rattle.words.specs.Words.{W};
 ghost use Rattle.layout.specs.Code.{ok_n};
 ghost use Rattle.layout.specs.Tables.{Tabled, Becomes, append};
 ghost use Rattle.layout.specs.Marked.{words_for};
+ghost use Rattle.layout.specs.Payload.{body_of};
 ghost use Rattle.storage.specs.Storage.{write_hard_state, write_put, write_truncate};
-ghost use Rattle.storage.specs.Waiting.{waiting, waiting_in, plain_mark, within_mark, Pushes, Shaped, Shows, emptied};
+ghost use Rattle.storage.specs.Waiting.{waiting, waiting_in, shape_index, payload_said, plain_mark, within_mark, Pushes, Shaped, Shows, emptied};
 
 use crate::HardState;
 use layout::{marked, rows};
-use units::{LogIndex, NodeId, NodeOption, Term};
+use raft_log::EntryShape;
+use units::{LogIndex, NodeId, PayloadRef, PayloadShape, Term};
 
-// A write without the bytes of its command: a put has its payload's kind, 0 or 1, and the length of a command.
+// A write without the bytes of its command.
 #[derive(Clone, Copy)]
 pub enum Shape {
     HardState(HardState),
-    Put {
-        index: LogIndex,
-        term: Term,
-        kind: u64,
-        length: usize,
-    },
+    Put { index: LogIndex, entry: EntryShape },
     Truncate(LogIndex),
+}
+
+impl Shape {
+    // The index of a put, or 0, where no entry is.
+    pub fn put_index(self) -> LogIndex
+        ensures { result ≡ shape_index self }
+    {
+        match self {
+            Shape::Put { index, .. } => index,
+            _ => LogIndex(0),
+        }
+    }
 }
 
 // ---- a write after the last
@@ -49,29 +58,28 @@ pub fn push_hard_state(s: &mut [u8], m: usize, p: usize, state: HardState)
     ensures { Becomes (waiting p) m (m + 1) s.old s.new (append (write_hard_state state)) }
 {
     let term = state.term;
-    let vote = state.voted_for;
-    let none = [0u8; 0];
-    match vote {
-        NodeOption::None => push(s, m, p, 0, &none, term.0, 0),
-        NodeOption::Some(id) => push(s, m, p, 1, &none, term.0, id.0),
+    match state.voted_for {
+        None => push(s, m, p, 0, &[], term.0, 0),
+        Some(id) => push(s, m, p, 1, &[], term.0, id.0),
     }
 }
 
-// One more write: an entry put at an index; its payload is that of a kind and the bytes of src, of which a noop has none.
+// One more write: an entry put at an index.
 pub fn push_put(
     s: &mut [u8],
     m: usize,
     p: usize,
     index: LogIndex,
     term: Term,
-    kind: u64,
-    src: &[u8],
+    payload: PayloadRef<'_>,
 )
     requires p_bound { (p ≤ 256) × (8 * (m * (3 + words_for p) + (3 + words_for p)) ≤ length s.old) }
-    requires kind_bound { (kind ≤ 1) × (length src.now ≤ 256 * kind) × (length src.now ≤ p) }
-    ensures { Becomes (waiting p) m (m + 1) s.old s.new (append (write_put index (record { term = term; payload = payload_of kind src.now }))) }
+    requires payload_bound { length (body_of (payload_behind payload)) ≤ p }
+    ensures { Becomes (waiting p) m (m + 1) s.old s.new (append (write_put index (record { term = term; payload = payload_behind payload.entry }))) }
 {
-    push(s, m, p, 3 + kind + src.len() as u64, src, index.0, term.0);
+    let mark = 2 + raft_log::mark_of(payload);
+    let bytes = raft_log::bytes_of(payload);
+    push(s, m, p, mark, bytes, index.0, term.0);
 }
 
 // One more write: a truncation.
@@ -79,8 +87,7 @@ pub fn push_truncate(s: &mut [u8], m: usize, p: usize, from: LogIndex)
     requires { (p ≤ 256) × (8 * (m * (3 + words_for p) + (3 + words_for p)) ≤ length s.old) }
     ensures { Becomes (waiting p) m (m + 1) s.old s.new (append (write_truncate from)) }
 {
-    let none = [0u8; 0];
-    push(s, m, p, 2, &none, from.0, 0);
+    push(s, m, p, 2, &[], from.0, 0);
 }
 
 // ---- no write waits
@@ -96,57 +103,41 @@ pub fn clear(s: &mut [u8], m: usize, p: usize)
 
 // ---- reading
 
-// What a row says by its numbers.
-fn row_shape(p: usize, mark: u64, a: u64, b: u64) -> Shape
-    requires { p ≤ 256 }
-    ensures { Shaped p mark a b result }
-{
-    if mark < 1 {
-        return Shape::HardState(HardState {
-            term: Term(a),
-            voted_for: NodeOption::None,
-        });
-    }
-    if mark < 2 {
-        return Shape::HardState(HardState {
-            term: Term(a),
-            voted_for: NodeOption::Some(NodeId(b)),
-        });
-    }
-    if mark < 3 {
-        return Shape::Truncate(LogIndex(a));
-    }
-    put_shape(p, mark, LogIndex(a), Term(b))
-}
-
-// What a row says that is a put.
-fn put_shape(p: usize, mark: u64, index: LogIndex, term: Term) -> Shape
-    requires { (p ≤ 256) × (3 ≤ mark) }
-    ensures { Shaped p mark index.0 term.0 result }
+// The shape of the payload of a row that is a put; a length past p is said of no content.
+fn payload_said(p: usize, mark: u64) -> PayloadShape
+    requires { 3 ≤ mark }
+    ensures { (result ≡ payload_said p mark) × (command_length result ≤ p) }
 {
     if mark < 4 {
-        return Shape::Put {
-            index,
-            term,
-            kind: 0,
-            length: 0,
-        };
+        return PayloadShape::Noop;
     }
-    let k = (mark - 4) as usize;
-    if k <= p {
-        Shape::Put {
-            index,
-            term,
-            kind: 1,
-            length: k,
-        }
-    } else {
-        Shape::Put {
-            index,
-            term,
-            kind: 1,
-            length: 0,
-        }
+    let length = (mark - 4) as usize;
+    PayloadShape::Command {
+        length: if length <= p { length } else { 0 },
+    }
+}
+
+// What a row says by its numbers.
+fn row_shape(p: usize, mark: u64, a: u64, b: u64) -> Shape
+    ensures { Shaped p mark a b result }
+{
+    match mark {
+        0 => Shape::HardState(HardState {
+            term: Term(a),
+            voted_for: None,
+        }),
+        1 => Shape::HardState(HardState {
+            term: Term(a),
+            voted_for: Some(NodeId(b)),
+        }),
+        2 => Shape::Truncate(LogIndex(a)),
+        _ => Shape::Put {
+            index: LogIndex(a),
+            entry: EntryShape {
+                term: Term(b),
+                payload: payload_said(p, mark),
+            },
+        },
     }
 }
 
@@ -169,30 +160,24 @@ pub fn write_at(s: &[u8], m: usize, p: usize, k: usize) -> Shape
 fn used(mark: u64) -> usize
     ensures { result ≡ mark - 4 }
 {
-    if mark < 4 { 0 } else { (mark - 4) as usize }
+    mark.saturating_sub(4) as usize
 }
 
 // Whether a row's second number is zero where it says nothing.
 fn plain(mark: u64, b: u64) -> bool
     ensures { result ≡ plain_mark mark b }
 {
-    if mark < 1 {
-        return b == 0;
+    match mark {
+        0 | 2 => b == 0,
+        _ => true,
     }
-    if mark < 2 {
-        return true;
-    }
-    if mark < 3 { b == 0 } else { true }
 }
 
 // Whether a put's index is 1 to n, by its row's numbers.
 fn within(n: u64, mark: u64, a: u64) -> bool
     ensures { result ≡ within_mark n mark a }
 {
-    if mark < 3 {
-        return true;
-    }
-    (1 <= a) & (a <= n)
+    mark < 3 || (1 <= a && a <= n)
 }
 
 // Whether a row is a write to a log of n places with a command of up to p bytes.
@@ -217,15 +202,13 @@ fn check_writes(s: &[u8], m: usize, n: u64, p: usize) -> bool
     ensures { result ≡ ok_n (waiting_in n p).row m (W s.now) }
 {
     let w = 3 + (p + 7) / 8;
-    let mut i = 0;
-    while i < m {
+    for i in 0..m {
         let at = rows::start_of(i, m, w);
         let a = 8 * at;
         let e = 8 * (at + w);
         if !check_write(&s[a..e], n, p) {
             return false;
         }
-        i += 1;
     }
     true
 }

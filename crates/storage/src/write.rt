@@ -1,25 +1,33 @@
 // The writes of an input (sim/storage.rs): seen at once in the current log and hard state, and kept waiting for the next sync.
 ghost use Rattle.std.specs.Prelude.{◌≡◌, ◌+◌, ◌*◌, ◌≤◌, ◌<◌, length};
-ghost use Rattle.laws.specs.Bools.{pick};
-ghost use Rattle.units.specs.Types.{payload_of};
+ghost use Rattle.units.specs.Types.{payload_behind};
+ghost use Rattle.units.specs.declared.refusal.Refusal.TheVariants.{Room};
 ghost use Rattle.layout.specs.Marked.{words_for};
+ghost use Rattle.layout.specs.Payload.{body_of};
 ghost use Rattle.storage.specs.Storage.{write_hard_state, write_put, write_truncate};
 ghost use Rattle.storage.specs.Stores.{disk_bytes};
-ghost use Rattle.storage.specs.Writes.{Writes, Makes, Replaces, replaced_by};
+ghost use Rattle.storage.specs.Writes.{Writes, Makes, Replaces};
 
 use crate::{HardState, StorageState, waiting};
 use layout::rows;
-use raft_log::Place;
-use units::{LogIndex, Term};
+use units::refusal::Refusal;
+use units::{LogIndex, PayloadRef, Term};
 
-// The answer of a write: the state after it; or why nothing has changed.
+// Why a write is not made; nothing has changed then.
 #[derive(Clone, Copy)]
-pub enum Written {
-    Done(StorageState),
+pub enum WriteError {
     // There is no room for another waiting write.
     Full,
     // The count of discarded entries would be past 64 bits.
     Past64Bits,
+}
+
+impl From<WriteError> for Refusal {
+    ghost from_gives = { λ error refusal. refusal ≡ Room };
+
+    fn from(_error: WriteError) -> Refusal {
+        Refusal::Room
+    }
 }
 
 // Replaces the hard state.
@@ -30,63 +38,40 @@ pub fn set_hard_state(
     rows: usize,
     p: usize,
     state: HardState,
-) -> Written
+) -> Result<StorageState, WriteError>
     requires { (p ≤ 256) × (length disk.old ≡ disk_bytes p places rows) }
     ensures { Writes p places rows v (write_hard_state state) result disk.old disk.new }
 {
-    let count = v.waiting;
-    let durable = v.durable;
-    let discarded = v.discarded;
-    if rows <= count as usize {
-        return Written::Full;
+    let m = v.waiting as usize;
+    if rows <= m {
+        return Err(WriteError::Full);
     }
     let logs = rows::start(places, places, 2 + (p + 7) / 8);
     let from = 16 * logs;
-    let end = disk.len();
-    waiting::push_hard_state(&mut disk[from..end], count as usize, p, state);
-    Written::Done(StorageState {
+    waiting::push_hard_state(&mut disk[from..], m, p, state);
+    Ok(StorageState {
         current: state,
-        durable,
-        waiting: count + 1,
-        discarded,
+        waiting: v.waiting + 1,
+        ..v
     })
 }
 
-// 0 where two payloads are the same, 1 else.
-fn other(same: bool) -> u64
-    ensures { (result ≡ pick same 0 1) × (result ≤ 1) }
-{
-    if same { 0 } else { 1 }
-}
-
-// 1 where an entry is at a place and its payload is another, 0 else.
-fn replaced(place: Place, same: bool) -> u64
-    ensures { (result ≡ replaced_by place same) × (result ≤ 1) }
-{
-    match place {
-        Place::None => 0,
-        Place::Noop { term: _ } => other(same),
-        Place::Command { term: _, length: _ } => other(same),
-    }
-}
-
-// How many entries of a log a put discards.
+// How many entries of a log a put discards: one of another payload that is there.
 fn replaces(
     log: &[u8],
     n: usize,
     p: usize,
     index: LogIndex,
     term: Term,
-    kind: u64,
-    src: &[u8],
+    payload: PayloadRef<'_>,
 ) -> u64
     requires p_bound { (p ≤ 256) × (8 * (n * (2 + words_for p)) ≤ length log.now) }
-    requires kind_bound { (kind ≤ 1) × (length src.now ≤ 256 * kind) × (length src.now ≤ p) }
-    ensures { Replaces p n (write_put index (record { term = term; payload = payload_of kind src.now })) result log.now }
+    requires payload_bound { length (body_of (payload_behind payload)) ≤ p }
+    ensures { Replaces p n (write_put index (record { term = term; payload = payload_behind payload.entry })) result log.now }
 {
-    let place = raft_log::entry(log, n, p, index);
-    let same = raft_log::holds(log, n, p, index, kind, src);
-    replaced(place, same)
+    let there = raft_log::entry(log, n, p, index).is_some();
+    let same = raft_log::holds(log, n, p, index, payload);
+    u64::from(there & !same)
 }
 
 // Puts an entry in the current log, and as one more waiting write.
@@ -98,22 +83,20 @@ fn put_entry(
     m: usize,
     index: LogIndex,
     term: Term,
-    kind: u64,
-    src: &[u8],
+    payload: PayloadRef<'_>,
 )
     requires p_bound { (p ≤ 256) × (length disk.old ≡ disk_bytes p places rows) × (m < rows) × (1 ≤ index.0) × (index.0 ≤ places) }
-    requires kind_bound { (kind ≤ 1) × (length src.now ≤ 256 * kind) × (length src.now ≤ p) }
-    ensures { Makes p places rows m (write_put index (record { term = term; payload = payload_of kind src.now })) disk.old disk.new }
+    requires payload_bound { length (body_of (payload_behind payload)) ≤ p }
+    ensures { Makes p places rows m (write_put index (record { term = term; payload = payload_behind payload.entry })) disk.old disk.new }
 {
     let logs = rows::start(places, places, 2 + (p + 7) / 8);
     let to = 8 * logs;
     let from = 16 * logs;
-    let end = disk.len();
-    raft_log::put(&mut disk[0..to], places, p, index, term, kind, src);
-    waiting::push_put(&mut disk[from..end], m, p, index, term, kind, src);
+    raft_log::put(&mut disk[0..to], places, p, index, term, payload);
+    waiting::push_put(&mut disk[from..], m, p, index, term, payload);
 }
 
-// Puts an entry at an index; its payload is that of a kind and the bytes of src, of which a noop has none.
+// Puts an entry at an index.
 pub fn put(
     v: StorageState,
     disk: &mut [u8],
@@ -122,33 +105,27 @@ pub fn put(
     p: usize,
     index: LogIndex,
     term: Term,
-    kind: u64,
-    src: &[u8],
-) -> Written
+    payload: PayloadRef<'_>,
+) -> Result<StorageState, WriteError>
     requires p_bound { (p ≤ 256) × (length disk.old ≡ disk_bytes p places rows) × (1 ≤ index.0) × (index.0 ≤ places) }
-    requires kind_bound { (kind ≤ 1) × (length src.now ≤ 256 * kind) × (length src.now ≤ p) }
-    ensures { Writes p places rows v (write_put index (record { term = term; payload = payload_of kind src.now })) result disk.old disk.new }
+    requires payload_bound { length (body_of (payload_behind payload)) ≤ p }
+    ensures { Writes p places rows v (write_put index (record { term = term; payload = payload_behind payload.entry })) result disk.old disk.new }
 {
-    let count = v.waiting;
-    let current = v.current;
-    let durable = v.durable;
-    let discarded = v.discarded;
-    if rows <= count as usize {
-        return Written::Full;
+    let m = v.waiting as usize;
+    if rows <= m {
+        return Err(WriteError::Full);
     }
     let logs = rows::start(places, places, 2 + (p + 7) / 8);
     let to = 8 * logs;
-    let d = replaces(&disk[0..to], places, p, index, term, kind, src);
-    if 18446744073709551615 - d < discarded {
-        return Written::Past64Bits;
-    }
-    let m = count as usize;
-    put_entry(disk, places, rows, p, m, index, term, kind, src);
-    Written::Done(StorageState {
-        current,
-        durable,
-        waiting: count + 1,
-        discarded: discarded + d,
+    let d = replaces(&disk[0..to], places, p, index, term, payload);
+    let Some(discarded) = v.discarded.checked_add(d) else {
+        return Err(WriteError::Past64Bits);
+    };
+    put_entry(disk, places, rows, p, m, index, term, payload);
+    Ok(StorageState {
+        waiting: v.waiting + 1,
+        discarded,
+        ..v
     })
 }
 
@@ -160,31 +137,26 @@ pub fn truncate(
     rows: usize,
     p: usize,
     index: LogIndex,
-) -> Written
+) -> Result<StorageState, WriteError>
     requires { (p ≤ 256) × (length disk.old ≡ disk_bytes p places rows) }
     ensures { Writes p places rows v (write_truncate index) result disk.old disk.new }
 {
-    let count = v.waiting;
-    let current = v.current;
-    let durable = v.durable;
-    let discarded = v.discarded;
-    if rows <= count as usize {
-        return Written::Full;
+    let m = v.waiting as usize;
+    if rows <= m {
+        return Err(WriteError::Full);
     }
     let logs = rows::start(places, places, 2 + (p + 7) / 8);
     let to = 8 * logs;
     let from = 16 * logs;
-    let end = disk.len();
     let d = raft_log::removed(&disk[0..to], places, p, index);
-    if 18446744073709551615 - d < discarded {
-        return Written::Past64Bits;
-    }
+    let Some(discarded) = v.discarded.checked_add(d) else {
+        return Err(WriteError::Past64Bits);
+    };
     raft_log::truncate(&mut disk[0..to], places, p, index);
-    waiting::push_truncate(&mut disk[from..end], count as usize, p, index);
-    Written::Done(StorageState {
-        current,
-        durable,
-        waiting: count + 1,
-        discarded: discarded + d,
+    waiting::push_truncate(&mut disk[from..], m, p, index);
+    Ok(StorageState {
+        waiting: v.waiting + 1,
+        discarded,
+        ..v
     })
 }

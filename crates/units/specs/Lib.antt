@@ -1,3 +1,5 @@
 pub mod Types
 pub mod PayloadLaws
 pub mod Time
+pub mod Refusals
+pub mod RefusalLaws

@@ -3,80 +3,82 @@
 
 ghost use Rattle.std.specs.Prelude.{◌≡◌};
 ghost use Rattle.units.specs.Time.{plus, minus, sum_number, plus_number};
+ghost use Rattle.units.specs.Types.{command_length, payload_behind, payload_of};
+
+pub mod refusal; // why a call is refused
 
 // Identifies a server.
-#[derive(Clone, Copy)]
+#[derive(Clone, Copy, PartialEq, Eq, PartialOrd, Ord)]
 pub struct NodeId(pub u64);
 
-// A server that may be absent: the Rust's Option<NodeId>, as in a vote or a leader hint.
-#[derive(Clone, Copy)]
-pub enum NodeOption {
-    None,
-    Some(NodeId),
-}
-
 // An election term.
-#[derive(Clone, Copy)]
+#[derive(Clone, Copy, PartialEq, Eq, PartialOrd, Ord)]
 pub struct Term(pub u64);
 
-// A term that may be absent: the Rust's Option<Term>, as in the term that a server leads.
-#[derive(Clone, Copy)]
-pub enum TermOption {
-    None,
-    Some(Term),
-}
-
 // A position in the log. The first entry has index 1.
-#[derive(Clone, Copy)]
+#[derive(Clone, Copy, PartialEq, Eq, PartialOrd, Ord)]
 pub struct LogIndex(pub u64);
 
 // A point in simulated time: nanoseconds since the start.
-#[derive(Clone, Copy)]
+#[derive(Clone, Copy, PartialEq, Eq, PartialOrd, Ord)]
 pub struct SimTime(pub u64);
 
 // A length of time in nanoseconds.
-#[derive(Clone, Copy)]
+#[derive(Clone, Copy, PartialEq, Eq, PartialOrd, Ord)]
 pub struct Duration(pub u64);
 
-// The sum of a time and a duration, or that it is past 64 bits.
+// The shape of a payload: nothing, or a command of so many bytes.
 #[derive(Clone, Copy)]
-pub enum TimeSum {
-    Fits(SimTime),
-    Past64Bits,
+pub enum PayloadShape {
+    Noop,
+    Command { length: usize },
 }
 
-impl TimeSum {
-    // Document 01's number: 0 where the sum fits, else question 10's.
-    pub fn number(self) -> u64
-        ensures { result ≡ sum_number self }
+impl PayloadShape {
+    // The length of a command; a noop has none.
+    pub fn length(self) -> usize
+        ensures { result ≡ command_length self }
     {
         match self {
-            TimeSum::Fits(_) => 0,
-            TimeSum::Past64Bits => 10,
+            PayloadShape::Noop => 0,
+            PayloadShape::Command { length } => length,
         }
+    }
+}
+
+// A payload whose bytes lie elsewhere.
+#[derive(Clone, Copy)]
+pub enum PayloadRef<'a> {
+    Noop,
+    Command(&'a [u8]),
+}
+
+// The payload of a kind and bytes: 0 is a noop, 1 a command.
+#[tactic(auto, unfolding(crate::specs::Types::payload_of))]
+pub fn payload_of(kind: u64, bytes: &[u8]) -> PayloadRef<'_>
+    ensures { payload_behind result ≡ payload_of kind bytes.now }
+{
+    if kind == 0 {
+        PayloadRef::Noop
+    } else {
+        PayloadRef::Command(bytes)
     }
 }
 
 impl SimTime {
     // The time `duration` after this one.
-    pub fn plus(self, duration: Duration) -> TimeSum
+    #[tactic(auto, unfolding(crate::specs::Time::plus, crate::specs::Time::plus_number))]
+    pub fn plus(self, duration: Duration) -> Option<SimTime>
         ensures { (result ≡ plus self duration) × (sum_number result ≡ plus_number self duration) }
     {
-        let t = self.0;
-        let d = duration.0;
-        if d <= 18446744073709551615 - t {
-            TimeSum::Fits(SimTime(t + d))
-        } else {
-            TimeSum::Past64Bits
-        }
+        self.0.checked_add(duration.0).map(SimTime)
     }
 
     // The time from `earlier` to this one, or zero if `earlier` is later.
+    #[tactic(auto, unfolding(crate::specs::Time::minus))]
     pub fn minus(self, earlier: SimTime) -> Duration
         ensures { result ≡ minus self earlier }
     {
-        let t = self.0;
-        let e = earlier.0;
-        if e <= t { Duration(t - e) } else { Duration(0) }
+        Duration(self.0.saturating_sub(earlier.0))
     }
 }

@@ -1,12 +1,13 @@
 -- Numbers as bytes, the lowest first, at any count of bytes; and lists whose elements fit a width. Assumes nothing.
-use Rattle.std.specs.Prelude.{◌≡◌, refl, List, [], ◌∷◌, ◌++◌, ℕ, zero, suc, ◌+◌, ◌*◌, ◌/◌, ◌%◌, ◌^◌, ◌≤◌, ◌<◌, length, get_or, take, drop, replicate}
-use Rattle.std.proofs.Common.{sym, ap, ap₂, ◌∙◌, subst, pow-suc, mul_assoc, mul_comm, one-mul, add-zero, zero-add, suc-add, div-one, arith, length-drop, pow_pos, take-add, drop-drop, length-take-le, drop-cons, get_or-drop}
+use Rattle.std.specs.Prelude.{◌≡◌, refl, List, [], ◌∷◌, ◌++◌, ℕ, zero, suc, ◌+◌, ◌-◌, ◌*◌, ◌/◌, ◌%◌, ◌^◌, ◌≤◌, ◌<◌, length, get_or, take, drop, replicate, Result, Ok, IsOk, MatchResult, ◌≢◌}
+use Rattle.std.proofs.Common.{sym, ap, ap₂, ◌∙◌, subst, pow-suc, mul_assoc, mul_comm, one-mul, add-zero, suc-add, div-one, arith, pow_pos, length-take-le, take-suc, take_all, get_or-drop}
 use Rattle.std.proofs.Math.Nat.{pow-zero, div-div-eq-div-mul}
 use Rattle.std.proofs.lemmas.List.Edits.{sets}
-use Rattle.std.specs.Int.{Width, w64}
+use Rattle.std.specs.Int.{Width, w32, w64, byte_at, byte_worth, bytes_low_first, sum_through, to_le_bytes, from_le_bytes}
+use Rattle.std.specs.Array.{IsWholeChunk}
 use mir.Val.{Fits, bits}
 use Rattle.words.specs.Words.{le, bytes_of, le_at, Each, Bytes}
-use Rattle.words.specs.Sets.{part_at, length_part, part_sets, part_sets_below, part_sets_above, sets_append}
+use Rattle.words.specs.Sets.{part_at, length_part, part_sets, part_sets_below, part_sets_above}
 
 -- ---- lists whose elements fit a width
 
@@ -75,7 +76,7 @@ bytes_of_each zero v k = omega arith
 bytes_of_each (suc n) v zero = omega arith
 bytes_of_each (suc n) v (suc k) = bytes_of_each n (v / 256) k
 
--- ---- two runs side by side are one: how a number is read and written of two halves
+-- ---- std's bytes of a number, and the number of bytes
 
 le_append : (a b : List ℕ) → le (a ++ b) ≡ le a + 256 ^ length a * le b
 unfolding le
@@ -83,24 +84,32 @@ le_append [] b = omega (arith, ap (λ (p : ℕ). p * le b) (pow-zero 256), one-m
 le_append (x ∷ a) b =
     omega (arith, le_append a b, ap (λ (p : ℕ). p * le b) (pow-suc 256 (length a) ∙ mul_comm (256 ^ length a) 256), mul_assoc 256 (256 ^ length a) (le b))
 
-get_join : (n m : ℕ) (s : List ℕ) (at : ℕ) → at + n ≤ length s → le_at n s at + 256 ^ n * le_at m s (at + n) ≡ le_at (n + m) s at
-get_join n m s at h =
-    let e : length (take n (drop at s)) ≡ n = length-take-le n (drop at s) (rw length-drop (omega arith)) in
-    sym (ap le (take-add n m (drop at s) ∙ ap (λ (r : List ℕ). take n (drop at s) ++ take m r) (drop-drop n at s))
-    ∙ le_append (take n (drop at s)) (take m (drop (at + n) s))
-    ∙ ap (λ (k : ℕ). le_at n s at + 256 ^ k * le_at m s (at + n)) e)
+sum_le : (k : ℕ) (l : List ℕ) → k < length l → sum_through (λ i. byte_worth i (get_or l i 0)) k ≡ le (take (suc k) l)
+unfolding le
+sum_le zero [] h = absurd (omega arith)
+sum_le zero (x ∷ l) h = omega arith
+sum_le (suc k) l h =
+    let x : ℕ = get_or l (suc k) 0 in
+    ap (λ (p : ℕ). p + x * 256 ^ suc k) (sum_le k l (omega arith))
+    ∙ sym (ap le (take-suc l (suc k) 0 h) ∙ le_append (take (suc k) l) (x ∷ [])
+    ∙ ap₂ (λ (p q : ℕ). le (take (suc k) l) + p * q) (ap (λ (n : ℕ). 256 ^ n) (length-take-le (suc k) l (omega arith))) (add-zero x)
+    ∙ ap (λ (p : ℕ). le (take (suc k) l) + p) (mul_comm (256 ^ suc k) x))
 
-bytes_of_append : (n m v : ℕ) → bytes_of n v ++ bytes_of m (v / 256 ^ n) ≡ bytes_of (n + m) v
+byte_is : (i v : ℕ) → byte_at i v ≡ v / 256 ^ i % 256
+byte_is zero v = ap (λ (x : ℕ). x % 256) (sym (div-one v))
+byte_is (suc i) v = refl
+
+low_first : (i n v : ℕ) → bytes_low_first i n v ≡ bytes_of n (v / 256 ^ i)
 unfolding bytes_of
-bytes_of_append zero m v = rw (pow-zero, div-one, zero-add)
-bytes_of_append (suc n) m v =
-    rw (suc-add, pow-suc, mul_comm (256 ^ n) 256, ← div-div-eq-div-mul) (ap (λ (r : List ℕ). v % 256 ∷ r) (bytes_of_append n m (v / 256)))
+low_first i zero v = refl
+low_first i (suc n) v =
+    ap₂ (λ (x : ℕ) (l : List ℕ). x ∷ l) (byte_is i v)
+    (low_first (suc i) n v ∙ ap (bytes_of n) (ap (λ (p : ℕ). v / p) (pow-suc 256 i) ∙ sym (div-div-eq-div-mul v (256 ^ i) 256)))
 
-put_join : (n m : ℕ) (s s₁ : List ℕ) (at v : ℕ) → s₁ ≡ sets s at (bytes_of n v) → sets s₁ (at + n) (bytes_of m (v / 256 ^ n)) ≡ sets s at (bytes_of (n + m) v)
-put_join n m s s₁ at v e =
-    ap (λ (l : List ℕ). sets l (at + n) (bytes_of m (v / 256 ^ n))) e
-    ∙ sets_append (bytes_of n v) s (bytes_of m (v / 256 ^ n)) at (at + n) (omega (arith, length_bytes_of n v))
-    ∙ ap (sets s at) (bytes_of_append n m v)
+take_bytes_of : (n m v : ℕ) → take n (bytes_of (n + m) v) ≡ bytes_of n v
+unfolding bytes_of
+take_bytes_of zero m v = refl
+take_bytes_of (suc n) m v = rw suc-add (ap (λ (r : List ℕ). v % 256 ∷ r) (take_bytes_of n m (v / 256)))
 
 -- ---- a number that was written: read at its place, and elsewhere
 
@@ -128,32 +137,32 @@ bytes_of_le_at n s at h B =
 pub le_at_lt : (n : ℕ) (s : List ℕ) (at : ℕ) → at + n ≤ length s → Bytes s → le_at n s at < 256 ^ n
 le_at_lt n s at h B = subst (λ (k : ℕ). le_at n s at < 256 ^ k) (length_part s at n h) (le_lt (take n (drop at s)) (each_take n (drop at s) (each_drop at s B)))
 
--- ---- what the proofs of `get64`, `put64` and their parts cite: the code's calls, as premises
+-- ---- what the proofs of `get64`, `put64` and the like cite
 
 pub byte_fits : (l : List ℕ) (k : ℕ) → Bytes l → Fits w64 (get_or l k 0)
 byte_fits l k B = omega (arith, (B k).fits)
 
-pub byte_lt : (l : List ℕ) (k : ℕ) → Bytes l → get_or l k 0 < 256
-byte_lt l k B = (B k).fits
+sum_le_at : (k : ℕ) (s y : List ℕ) (at : ℕ) → at + suc k ≤ length s → y ≡ take (suc k) (drop at s) → sum_through (λ i. byte_worth i (get_or y i 0)) k ≡ le_at (suc k) s at
+sum_le_at k s y at h e =
+    let l : length y ≡ suc k = ap length e ∙ length_part s at (suc k) h in
+    sum_le k y (omega arith) ∙ ap le (take_all (suc k) y (omega arith) ∙ e)
 
-pub get_8 : (s : List ℕ) (at : ℕ) → at < length s → get_or s at 0 ≡ le_at 1 s at
-unfolding le
-get_8 s at h = sym (ap (λ (r : List ℕ). le (take 1 r)) (drop-cons s at 0 h) ∙ add-zero (get_or s at 0))
+-- bytes that were read as an array, q, and the number that they say
+pub get_32 : (s : List ℕ) (at : ℕ) {E : Type 0} {q : Result (List ℕ) E} {y : List ℕ} {r : ℕ} → at + 4 ≤ length s
+    → (length (take (at + 4 - at) (drop at s)) ≡ 4 → IsOk q) × MatchResult q (λ y. IsWholeChunk (take (at + 4 - at) (drop at s)) y 4) (λ _. length (take (at + 4 - at) (drop at s)) ≢ 4)
+    → q ≡ Ok y → r ≡ from_le_bytes w32 y → r ≡ le_at 4 s at
+get_32 s at {y = y} h c o e =
+    e ∙ sum_le_at 3 s y at h ((rw o at c.1).same ∙ ap (λ (n : ℕ). take n (drop at s)) (let d : at + 4 - at ≡ 4 = omega arith in d))
 
-pub get_16 : (s : List ℕ) (at a b : ℕ) → at + 2 ≤ length s → a ≡ le_at 1 s at → b ≡ le_at 1 s (at + 1) → a + 256 * b ≡ le_at 2 s at
-get_16 s at a b h p q = omega (arith, get_join 1 1 s at (omega arith))
+pub get_64 : (s : List ℕ) (at : ℕ) {E : Type 0} {q : Result (List ℕ) E} {y : List ℕ} {r : ℕ} → at + 8 ≤ length s
+    → (length (take (at + 8 - at) (drop at s)) ≡ 8 → IsOk q) × MatchResult q (λ y. IsWholeChunk (take (at + 8 - at) (drop at s)) y 8) (λ _. length (take (at + 8 - at) (drop at s)) ≢ 8)
+    → q ≡ Ok y → r ≡ from_le_bytes w64 y → r ≡ le_at 8 s at
+get_64 s at {y = y} h c o e =
+    e ∙ sum_le_at 7 s y at h ((rw o at c.1).same ∙ ap (λ (n : ℕ). take n (drop at s)) (let d : at + 8 - at ≡ 8 = omega arith in d))
 
-pub get_32 : (s : List ℕ) (at a b : ℕ) → at + 4 ≤ length s → a ≡ le_at 2 s at → b ≡ le_at 2 s (at + 2) → a + 65536 * b ≡ le_at 4 s at
-get_32 s at a b h p q = omega (arith, get_join 2 2 s at (omega arith))
+-- the bytes of a number, and the lowest four of them
+pub eight_bytes : (v : ℕ) → to_le_bytes w64 v ≡ bytes_of 8 v
+eight_bytes v = low_first 0 8 v ∙ ap (bytes_of 8) (div-one v)
 
-pub get_64 : (s : List ℕ) (at a b : ℕ) → at + 8 ≤ length s → a ≡ le_at 4 s at → b ≡ le_at 4 s (at + 4) → a + 4294967296 * b ≡ le_at 8 s at
-get_64 s at a b h p q = omega (arith, get_join 4 4 s at (omega arith))
-
-pub put_16 : (s s₁ s₂ : List ℕ) (at v : ℕ) → s₁ ≡ sets s at (bytes_of 1 v) → s₂ ≡ sets s₁ (at + 1) (bytes_of 1 (v / 256)) → s₂ ≡ sets s at (bytes_of 2 v)
-put_16 s s₁ s₂ at v p q = q ∙ put_join 1 1 s s₁ at v p
-
-pub put_32 : (s s₁ s₂ : List ℕ) (at v : ℕ) → s₁ ≡ sets s at (bytes_of 2 v) → s₂ ≡ sets s₁ (at + 2) (bytes_of 2 (v / 65536)) → s₂ ≡ sets s at (bytes_of 4 v)
-put_32 s s₁ s₂ at v p q = q ∙ put_join 2 2 s s₁ at v p
-
-pub put_64 : (s s₁ s₂ : List ℕ) (at v : ℕ) → s₁ ≡ sets s at (bytes_of 4 v) → s₂ ≡ sets s₁ (at + 4) (bytes_of 4 (v / 4294967296)) → s₂ ≡ sets s at (bytes_of 8 v)
-put_64 s s₁ s₂ at v p q = q ∙ put_join 4 4 s s₁ at v p
+pub four_bytes : (v : ℕ) → take 4 (to_le_bytes w64 v) ≡ bytes_of 4 v
+four_bytes v = ap (take 4) (eight_bytes v) ∙ take_bytes_of 4 4 v

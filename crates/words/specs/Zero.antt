@@ -1,20 +1,17 @@
 -- A run of zeros as a test, and the loops that look for one. Assumes nothing.
-use Rattle.std.specs.Prelude.{◌≡◌, refl, Bool, true, false, not, List, [], ◌∷◌, ◌++◌, ℕ, zero, suc, ◌+◌, ◌-◌, ◌≤◌, ◌<◌, eqb, length, get_or, take, drop, replicate}
-use Rattle.std.proofs.Common.{sym, ap, ◌∙◌, add-one, arith, take-append-drop, length-drop, take-suc, take-add, take_all, eqb-true, ne_eqb}
+use Rattle.std.specs.Prelude.{◌≡◌, refl, Bool, true, false, List, [], ◌∷◌, ◌++◌, ℕ, zero, suc, ◌+◌, ◌*◌, ◌/◌, eqb, ◌&&◌, fold, take, drop, length, replicate}
+use Rattle.std.proofs.Common.{sym, ap, ◌∙◌, zero-mul, arith, take-append-drop, take-add, eqb-true, ne_eqb}
 use Rattle.std.specs.Int.Bits.{bit_or, or_zero_l, or_add_and}
 use Rattle.std.proofs.lemmas.Nat.{and_le_r}
-use Rattle.std.proofs.lemmas.Bool.{not-true, not-false}
-use Rattle.laws.specs.Bools.{◌and◌, and_left, and_true, no_and}
-use Rattle.laws.proofs.BoolLaws.{every_append, and_right, true_and, and_no}
+use Rattle.std.specs.List.{list_all}
+use Rattle.std.specs.Simd.{first_chunks}
+use Rattle.laws.specs.Bools.{◌and◌, and_left, and_true, and_assoc, no_and}
+use Rattle.laws.proofs.BoolLaws.{every_append, and_right, true_and}
 use Rattle.words.specs.Words.{allz}
 
 pub allz_append : (a b : List ℕ) → allz (a ++ b) ≡ (allz a and allz b)
 unfolding allz
 allz_append a b = every_append (λ x. eqb x 0) a b
-
-pub allz_suc : (l : List ℕ) (i : ℕ) → i < length l → allz (take (suc i) l) ≡ (allz (take i l) and eqb (get_or l i 0) 0)
-unfolding allz
-allz_suc l i h = ap allz (take-suc l i 0 h) ∙ allz_append (take i l) (get_or l i 0 ∷ []) ∙ ap (λ (t : Bool). allz (take i l) and t) (and_true (eqb (get_or l i 0) 0))
 
 pub allz_add : (l : List ℕ) (i n : ℕ) → allz (take (i + n) l) ≡ (allz (take i l) and allz (take n (drop i l)))
 allz_add l i n = ap allz (take-add i n l) ∙ allz_append (take i l) (take n (drop i l))
@@ -39,51 +36,37 @@ or_eqb (suc a) b =
     ne_eqb (bit_or (suc a) b) 0 (λ (e : bit_or (suc a) b ≡ 0). omega (arith, or_add_and (suc a) b, and_le_r (suc a) b))
     ∙ sym (no_and (eqb (suc a) 0) (eqb b 0) (ne_eqb (suc a) 0 (omega arith)))
 
--- ---- in a chunk: acc is the or of the bytes before i
+-- ---- what the proofs of `none_set` and `all_zero` cite
 
-pub record Ored (s : List ℕ) (acc i : ℕ) : Type 0 where
-  pub is : eqb acc 0 ≡ allz (take i s)
-  pub upto : i ≤ length s
-
-pub ored_start : {s : List ℕ} → Ored s 0 0
+or_allz : (l : List ℕ) (a : ℕ) → eqb (fold bit_or a l) 0 ≡ (eqb a 0 and allz l)
 unfolding allz
-ored_start = record { is = refl; upto = omega arith }
+or_allz [] a = sym (and_true (eqb a 0))
+or_allz (x ∷ l) a = or_allz l (bit_or a x) ∙ ap (λ (b : Bool). b and allz l) (or_eqb a x) ∙ and_assoc (eqb a 0) (eqb x 0) (allz l)
 
-pub ored_turn : {s : List ℕ} {acc i : ℕ} → Ored s acc i → i < length s → Ored s (bit_or acc (get_or s i 0)) (i + 1)
-ored_turn {s} {acc} {i} o h = rw add-one (record { is = or_eqb acc (get_or s i 0) ∙ ap (λ (b : Bool). b and eqb (get_or s i 0) 0) o.is ∙ sym (allz_suc s i h); upto = h })
+pub ored : (l : List ℕ) {a : ℕ} → a ≡ fold bit_or 0 l → eqb a 0 ≡ allz l
+ored l e = ap (λ (x : ℕ). eqb x 0) e ∙ or_allz l 0 ∙ true_and (allz l)
 
-pub ored_end : {s : List ℕ} {acc i : ℕ} → Ored s acc i → length s ≤ i → eqb acc 0 ≡ allz s
-ored_end {s} {acc} {i} o h = o.is ∙ ap allz (take_all i s h)
+both : (a b : Bool) → (a && b) ≡ (a and b)
+unfolding ◌and◌
+both true b = refl
+both false b = refl
 
--- ---- chunk by chunk: all is zero before i, and r is the answer at the chunk of n from i
-
-pub record Zeroed (s : List ℕ) (i : ℕ) : Type 0 where
-  pub is : allz (take i s) ≡ true
-  pub upto : i ≤ length s
-
-pub zeroed_start : {s : List ℕ} → Zeroed s 0
+chunks_allz : (n k : ℕ) (l : List ℕ) → list_all allz (first_chunks n k l) ≡ allz (take (k * n) l)
 unfolding allz
-zeroed_start = record { is = refl; upto = omega arith }
+chunks_allz n zero l = ap (λ (m : ℕ). allz (take m l)) (sym (zero-mul n))
+chunks_allz n (suc k) l =
+    both (allz (take n l)) (list_all allz (first_chunks n k (drop n l)))
+    ∙ ap (λ (b : Bool). allz (take n l) and b) (chunks_allz n k (drop n l))
+    ∙ sym (ap (λ (m : ℕ). allz (take m l)) (let e : suc k * n ≡ n + k * n = omega arith in e) ∙ allz_add l n (k * n))
 
-pub zeroed_turn : {s : List ℕ} {i : ℕ} {r : Bool} (n : ℕ) → Zeroed s i → n ≤ length s - i → r ≡ allz (take (i + n - i) (drop i s)) → not r ≡ false → Zeroed s (i + n)
-zeroed_turn {s} {i} {r} n z h e t =
-    let d : i + n - i ≡ n = omega arith in
-    record {
-      is = allz_add s i n ∙ ap (λ (b : Bool). b and allz (take n (drop i s))) z.is ∙ true_and _ ∙ ap (λ (m : ℕ). allz (take m (drop i s))) (sym d) ∙ sym e ∙ not-false r t;
-      upto = omega (arith, z.upto);
-    }
+-- r is the answer at the whole chunks, and q at the rest
+pub chunks_zero : (l : List ℕ) {rest : List ℕ} {r q : Bool} → r ≡ list_all allz (first_chunks 1024 (length l / 1024) l) → r ≡ true
+    → rest ≡ drop (length l / 1024 * 1024) l → q ≡ allz rest → q ≡ allz l
+chunks_zero l e t d f =
+    let n : ℕ = length l / 1024 * 1024 in
+    f ∙ ap allz d ∙ sym (allz_split l n ∙ ap (λ (b : Bool). b and allz (drop n l)) (sym (chunks_allz 1024 (length l / 1024) l) ∙ sym e ∙ t) ∙ true_and _)
 
-pub zeroed_not : (s : List ℕ) (i n : ℕ) (r : Bool) → r ≡ allz (take (i + n - i) (drop i s)) → not r ≡ true → false ≡ allz s
-zeroed_not s i n r e t =
-    let d : i + n - i ≡ n = omega arith in
-    let f : allz (take n (drop i s)) ≡ false = ap (λ (m : ℕ). allz (take m (drop i s))) (sym d) ∙ sym e ∙ not-true r t in
-    sym (allz_split s i ∙ and_no _ _ (allz_split (drop i s) n ∙ no_and _ _ f))
-
-pub zeroed_end : {s : List ℕ} {i : ℕ} {r : Bool} → Zeroed s i → r ≡ allz (take (length s - i) (drop i s)) → r ≡ allz s
-zeroed_end {s} {i} {r} z e =
-    e ∙ ap allz (take_all (length s - i) (drop i s) (omega (arith, length-drop i s)))
-    ∙ sym (allz_split s i ∙ ap (λ (b : Bool). b and allz (drop i s)) z.is ∙ true_and _)
-
-pub ruleset ored = (ored_start, ored_turn, ored_end)
-
-pub ruleset zeroed = (zeroed_start, zeroed_turn, zeroed_not, zeroed_end)
+pub chunks_not : (l : List ℕ) {r : Bool} → r ≡ list_all allz (first_chunks 1024 (length l / 1024) l) → r ≡ false → r ≡ allz l
+chunks_not l e t =
+    let n : ℕ = length l / 1024 * 1024 in
+    t ∙ sym (allz_split l n ∙ no_and _ _ (sym (chunks_allz 1024 (length l / 1024) l) ∙ sym e ∙ t))

@@ -1,4 +1,4 @@
--- Made by tools/uniform from proofs.txt, not by hand: d6cfabd38bc5d33e
+-- Made by tools/uniform from proofs.txt, not by hand: d2cfd5bee1aac536
 use Rattle.checks_on_status.specs.Laws.{status_follows, status_leads}
 use borrow.Author.Rules.{rules}
 use Rattle.checks_on_status.proofs.on_status.Goals as goal

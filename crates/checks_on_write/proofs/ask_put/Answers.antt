@@ -1,4 +1,4 @@
--- Made by tools/uniform from proofs.txt, not by hand: 5dc9ac390fcf4019
+-- Made by tools/uniform from proofs.txt, not by hand: c730228272c76ba9
 use Rattle.checks_on_write.specs.WritesLaws.{put_asked}
 use Rattle.checks_on_write.proofs.ask_put.Goals as goal
 

@@ -1,26 +1,8 @@
--- Made by tools/uniform from proofs.txt, not by hand: 86783d8cf2abd21a
-use Prim.Native.Nat.{◌-◌}
-use Rattle.clients.specs.ClientLaws.{client_rows}
+-- Made by tools/uniform from proofs.txt, not by hand: 743d83227670cfce
+use Rattle.layout.specs.AllRows.{all_rows}
+use Rattle.clients.specs.Clients.{clients}
 use borrow.Author.Rules.{rules}
 use Rattle.clients.proofs.rows_ok.Goals as goal
 
-pub loop-i-init : goal.loop-i-init
-loop-i-init c = search (client_rows, rules)
-
-pub row_ok-requires : goal.row_ok-requires
-row_ok-requires c = search (client_rows, rules)
-
-pub returns-then-not-row_ok : goal.returns-then-not-row_ok
-returns-then-not-row_ok c = search (client_rows, rules)
-
-pub overflow_add-i : goal.overflow_add-i
-overflow_add-i c = search (client_rows, rules)
-
-pub loop-i-smaller : goal.loop-i-smaller
-loop-i-smaller c = search (client_rows, rules)
-
-pub loop-i-preserved : goal.loop-i-preserved
-loop-i-preserved c = search (client_rows, rules)
-
 pub returns : goal.returns
-returns c = search (client_rows, rules)
+returns c = all_rows (clients c.args.servers).row _ _ _ _ _ c.all.ensures.ran (λ x b q k. search rules)

@@ -1,26 +1,11 @@
--- Made by tools/uniform from proofs.txt, not by hand: 6e71c6210e0df582
-use Prim.Native.Nat.{◌-◌}
-use Rattle.faults.specs.Laws.{grouping}
+-- Made by tools/uniform from proofs.txt, not by hand: df00e4011653fe11
+use Rattle.std.proofs.Common.{◌/◌, ◌^◌, min, eqb, ap, ◌∙◌, tests}
+use Rattle.std.specs.List.{list_all}
+use Rattle.std.proofs.lemmas.Iterator.{YieldsList-from_slice}
+use Rattle.std.proofs.lemmas.Iterator.Search.{all_from_yields_List}
+use Rattle.faults.specs.Laws.{group_bytes}
 use borrow.Author.Rules.{rules}
 use Rattle.faults.proofs.groups_in.Goals as goal
 
-pub loop-i-init : goal.loop-i-init
-loop-i-init c = search (grouping, rules)
-
-pub overflow_shr-rest : goal.overflow_shr-rest
-overflow_shr-rest c = search (grouping, rules)
-
-pub returns-then-rest-servers-ne0 : goal.returns-then-rest-servers-ne0
-returns-then-rest-servers-ne0 c = search (grouping, rules)
-
-pub overflow_add-i : goal.overflow_add-i
-overflow_add-i c = search (grouping, rules)
-
-pub loop-i-smaller : goal.loop-i-smaller
-loop-i-smaller c = search (grouping, rules)
-
-pub loop-i-preserved : goal.loop-i-preserved
-loop-i-preserved c = search (grouping, rules)
-
 pub returns : goal.returns
-returns c = search (grouping, rules)
+returns c = all_from_yields_List (λ group. eqb (group / 2 ^ min c.args.servers 8) 0) _ _ _ c.all.ensures.ran (YieldsList-from_slice c.to_le_bytes.result cc) (λ x b q k. search (rules, tests)) ∙ ap (list_all (λ group. eqb (group / 2 ^ min c.args.servers 8) 0)) c.to_le_bytes.ensures ∙ group_bytes _ _

@@ -1,7 +1,10 @@
--- Made by tools/uniform from proofs.txt, not by hand: 32233f183091c8d9
-use Rattle.faults.specs.Laws.{in_cluster_is}
+-- Made by tools/uniform from proofs.txt, not by hand: f30ae6746b162ed6
+use Rattle.std.proofs.Common.{tests}
+use Rattle.laws.specs.Bools.{◌and◌}
+use Rattle.faults.specs.Fault.{in_cluster}
 use borrow.Author.Rules.{rules}
 use Rattle.faults.proofs.in_cluster.Goals as goal
 
 pub returns : goal.returns
-returns c = search (in_cluster_is, rules)
+unfolding in_cluster ◌and◌
+returns c = search (tests, rules)

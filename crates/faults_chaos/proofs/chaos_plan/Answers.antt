@@ -1,28 +1,20 @@
--- Made by tools/uniform from proofs.txt, not by hand: b4300fe27c295a3c
-use Rattle.faults_chaos.specs.Plans.{ids_told, times_told, asking}
+-- Made by tools/uniform from proofs.txt, not by hand: 43f01701bdb6ba2e
+use Rattle.std.proofs.Common.{tests}
+use Rattle.faults_chaos.specs.Plans.{wrong_count, unknown_server, time_limit, times_told, planned}
 use borrow.Author.Rules.{rules}
 use Rattle.faults_chaos.proofs.chaos_plan.Goals as goal
 
-pub returns-then-n-eq0 : goal.returns-then-n-eq0
-returns-then-n-eq0 c = search (asking, rules)
+pub returns-then-not-contains : goal.returns-then-not-contains
+returns-then-not-contains c = wrong_count _ _ _ _ _ (search (rules, tests)) c.if-not-contains.true
 
-pub returns-then-n-gt8 : goal.returns-then-n-gt8
-returns-then-n-gt8 c = search (asking, rules)
+pub returns-then-not-known_ids : goal.returns-then-not-known_ids
+returns-then-not-known_ids c = unknown_server _ _ _ _ _ (search (rules, tests)) c.if-not-contains.false _ c.known_ids.ensures c.if-not-known_ids.true
 
-pub known_ids-requires : goal.known_ids-requires
-known_ids-requires c = search (asking, rules)
-
-pub times_in_range-requires : goal.times_in_range-requires
-times_in_range-requires c = search (asking, rules)
+pub returns-then-not-times_in_range : goal.returns-then-not-times_in_range
+returns-then-not-times_in_range c = time_limit _ _ _ _ _ (search (rules, tests)) c.if-not-contains.false _ c.known_ids.ensures c.if-not-known_ids.false _ c.times_in_range.ensures c.if-not-times_in_range.true
 
 pub plan-requires : goal.plan-requires
-plan-requires c = record { servers_nonzero = search rules; servers_value = ids_told _ _ c.known_ids.ensures c.if-known_ids.true; times = times_told _ _ c.times_in_range.ensures c.if-times_in_range.true; room_bound = search rules }
+plan-requires c = record { times = times_told _ _ c.times_in_range.ensures c.if-not-times_in_range.false; room_bound = search rules }
 
-pub returns-then-times_in_range : goal.returns-then-times_in_range
-returns-then-times_in_range c = search (asking, rules)
-
-pub returns-else-times_in_range : goal.returns-else-times_in_range
-returns-else-times_in_range c = search (asking, rules)
-
-pub returns-else-known_ids : goal.returns-else-known_ids
-returns-else-known_ids c = search (asking, rules)
+pub returns : goal.returns
+returns c = planned _ _ _ _ _ (search (rules, tests)) c.if-not-contains.false _ c.known_ids.ensures c.if-not-known_ids.false _ c.times_in_range.ensures _ c.if-not-times_in_range.false c.plan.ensures

@@ -1,60 +1,24 @@
--- Made by tools/uniform from proofs.txt, not by hand: e9acce03de43e338
+-- Made by tools/uniform from proofs.txt, not by hand: 014ecc8bc7b894e2
 use native.Mathlib.Omega.{arith}
-use Prim.Native.Nat.{◌-◌}
-use Rattle.faults_chaos.specs.Plans.{planning}
+use Rattle.std.proofs.lemmas.Result.{err_from_is_err_and}
+use Rattle.faults_chaos.specs.Plans.{planning, not_reached, planning_next, plan_no_second, plan_no_room, entries_there, entries_absent}
 use borrow.Author.Rules.{rules}
 use Rattle.faults_chaos.proofs.plan.Goals as goal
-
-pub overflow_mul-gaps : goal.overflow_mul-gaps
-overflow_mul-gaps c = search (planning, rules)
 
 pub loop-config-init : goal.loop-config-init
 loop-config-init c = search (planning, rules)
 
-pub uniform-gap-requires : goal.uniform-gap-requires
-uniform-gap-requires c = search (planning, rules)
-
-pub overflow_add-start : goal.overflow_add-start
-overflow_add-start c = search (planning, rules)
-
-pub overflow_add-result : goal.overflow_add-result
-overflow_add-result c = search (planning, rules)
-
-pub overflow_add-result-then-count-room : goal.overflow_add-result-then-count-room
-overflow_add-result-then-count-room c = search (planning, rules)
-
-pub returns-then-count-room : goal.returns-then-count-room
-returns-then-count-room c = search (planning, rules)
-
-pub returns-then-end-start : goal.returns-then-end-start
-returns-then-end-start c = search (planning, rules)
-
-pub one_fault-fault-requires : goal.one_fault-fault-requires
-one_fault-fault-requires c = let p = c.loop-config.invariant in record { servers_nonzero = (p.some, p.most); servers_value = p.known; time_bound = (omega (arith, p.is_end, p.times.end), p.times.longest) }
-
-pub count_of-placed-requires : goal.count_of-placed-requires
-count_of-placed-requires c = search (planning, rules)
-
-pub returns-then-placed-eq0 : goal.returns-then-placed-eq0
-returns-then-placed-eq0 c = search (planning, rules)
-
-pub overflow_sub-room : goal.overflow_sub-room
-overflow_sub-room c = search (planning, rules)
-
 pub returns-then-room-count : goal.returns-then-room-count
 returns-then-room-count c = search (planning, rules)
 
-pub overflow_add-count : goal.overflow_add-count
-overflow_add-count c = search (planning, rules)
+pub returns-then-le : goal.returns-then-le
+returns-then-le c = search (planning, rules)
 
-pub overflow_add-draws : goal.overflow_add-draws
-overflow_add-draws c = search (planning, rules)
+pub returns-in_err-ok_or : goal.returns-in_err-ok_or
+returns-in_err-ok_or c = let p = err_from_is_err_and c.from_residual.result c.from_residual.ensures.1 in let q = entries_absent _ _ _ _ c.ok_or.ensures.value c.in_err-ok_or.was in rw (p.1, p.2, q.1) (plan_no_second _ _ _ _ _ _ _ _ _ c.loop-config.invariant _ c.uniform-gap.ensures.result_value _ (not_reached c.le.ensures c.if-le.false) c.one_fault-fault.ensures.result_value q.0)
 
-pub overflow_add-draws-in-loop-config : goal.overflow_add-draws-in-loop-config
-overflow_add-draws-in-loop-config c = search (planning, rules)
-
-pub loop-config-smaller : goal.loop-config-smaller
-loop-config-smaller c = search (planning, rules)
+pub returns-then-room-count-2 : goal.returns-then-room-count-2
+returns-then-room-count-2 c = plan_no_room _ _ _ _ _ _ _ _ _ c.loop-config.invariant _ c.uniform-gap.ensures.result_value _ (not_reached c.le.ensures c.if-le.false) c.one_fault-fault.ensures.result_value _ (entries_there _ _ _ _ c.ok_or.ensures.value c.in_ok-ok_or.was) (omega arith)
 
 pub loop-config-preserved : goal.loop-config-preserved
-loop-config-preserved c = search (planning, rules)
+loop-config-preserved c = planning_next _ _ _ _ _ _ _ _ _ c.loop-config.invariant _ c.uniform-gap.ensures.result_value _ (not_reached c.le.ensures c.if-le.false) c.one_fault-fault.ensures.result_value _ (entries_there _ _ _ _ c.ok_or.ensures.value c.in_ok-ok_or.was) _ c.count-placed.ensures.0 c.count-placed.ensures.1 c.if-room-count-2.false c.one_fault-fault.ensures.draws_bound.1

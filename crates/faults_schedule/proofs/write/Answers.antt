@@ -1,7 +1,6 @@
--- Made by tools/uniform from proofs.txt, not by hand: 9b962117a5d9d39d
-use native.Mathlib.Omega.{arith}
-use Prim.Native.Nat.{◌-◌}
-use Rattle.faults_schedule.specs.WriteLaws.{writing, written}
+-- Made by tools/uniform from proofs.txt, not by hand: 5a2ee61e8126cb81
+use Rattle.faults_chaos.specs.Plans.{reached}
+use Rattle.faults_schedule.proofs.WriteLaws.{writing, written}
 use borrow.Author.Rules.{rules}
 use Rattle.faults_schedule.proofs.write.Goals as goal
 
@@ -17,14 +16,20 @@ uniform-gap-requires c = search (writing, rules)
 pub overflow_add-start : goal.overflow_add-start
 overflow_add-start c = search (writing, rules)
 
+pub le-requires : goal.le-requires
+le-requires c = search (writing, rules)
+
 pub place-requires : goal.place-requires
 place-requires c = search (writing, rules)
 
-pub returns-then-end-start : goal.returns-then-end-start
-returns-then-end-start c = written _ _ _ _ _ _ _ _ _ _ _ c.requires c.loop-config.invariant _ c.uniform-gap.ensures.result_value c.if-end-start.true c.place.ensures
+pub returns-then-le : goal.returns-then-le
+returns-then-le c = written _ _ _ _ _ _ _ _ _ _ c.requires c.loop-config.invariant _ c.uniform-gap.ensures.result_value (reached c.le.ensures c.if-le.true) c.place.ensures
 
 pub one_fault-fault-requires : goal.one_fault-fault-requires
-one_fault-fault-requires c = let p = c.loop-config.invariant.plan in record { servers_nonzero = (p.some, p.most); servers_value = p.known; time_bound = (omega (arith, p.is_end, p.times.end), p.times.longest) }
+one_fault-fault-requires c = search (writing, rules)
+
+pub unwrap-requires : goal.unwrap-requires
+unwrap-requires c = search (writing, rules)
 
 pub push_entries-count-requires : goal.push_entries-count-requires
 push_entries-count-requires c = search (writing, rules)

@@ -1,14 +1,12 @@
--- Made by tools/uniform from proofs.txt, not by hand: 94bb186c0dec55b1
-use Prim.Native.Nat.{◌-◌}
-use Rattle.leader.specs.Laws.{leading_start, leading_turn, leading_end}
-use Rattle.std.proofs.Common.{arith}
+-- Made by tools/uniform from proofs.txt, not by hand: 6bbde5d73126af7b
+use Rattle.std.proofs.Common.{◌∙◌, None}
+use Rattle.std.proofs.lemmas.Iterator.{YieldsList-from_slice}
+use Rattle.std.proofs.lemmas.Iterator.Consumers.{fold_from_yields_List}
+use Rattle.leader.specs.Leader.{better, leader}
+use Rattle.leader.specs.Laws.{fold_better}
+use borrow.Author.Rules.{rules}
 use Rattle.leader.proofs.leader.Goals as goal
 
-pub loop-i-init : goal.loop-i-init
-loop-i-init c = (omega arith, leading_start _)
-
-pub loop-i-preserved : goal.loop-i-preserved
-loop-i-preserved c = (omega arith, leading_turn _ _ _ _ _ c.loop-i-test.true c.better-best.ensures c.loop-i.invariant.1)
-
 pub returns : goal.returns
-returns c = leading_end _ _ _ c.loop-i-test.false c.loop-i.invariant.1
+unfolding leader
+returns c = fold_from_yields_List _ better None _ c.fold.ensures.ran (YieldsList-from_slice c.args.reported.now cc) (λ a x b q k. search rules) ∙ fold_better None c.args.reported.now

@@ -1,4 +1,4 @@
--- Made by tools/uniform from proofs.txt, not by hand: 6755fb239aed29e7
+-- Made by tools/uniform from proofs.txt, not by hand: 9a67a96bdff511a3
 use Rattle.metrics_words.proofs.Typed.{eight_senders}
 use Rattle.metrics_words.specs.Laws.{stores_metrics}
 use Rattle.metrics_words.proofs.store.Goals as goal

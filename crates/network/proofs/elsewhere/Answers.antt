@@ -1,34 +1,12 @@
--- Made by tools/uniform from proofs.txt, not by hand: 93b9c098cfe052b5
-use Prim.Native.Nat.{◌-◌}
-use Rattle.network.specs.Network.{elsewhere}
-use Rattle.network.specs.Laws.{looking}
+-- Made by tools/uniform from proofs.txt, not by hand: 59476114873b26d7
+use Rattle.std.proofs.Common.{◌∙◌, refl, not, ◌&&◌, eqb}
+use Rattle.std.proofs.lemmas.Iterator.{YieldsList-from_range}
+use Rattle.std.proofs.lemmas.Iterator.Search.{any_from_yields_List}
+use Rattle.network.specs.Network.{in_group, elsewhere}
+use Rattle.network.specs.Laws.{list_any_from}
 use borrow.Author.Rules.{rules}
 use Rattle.network.proofs.elsewhere.Goals as goal
 
-pub loop-j-init : goal.loop-j-init
-unfolding elsewhere
-loop-j-init c = search (looking, rules)
-
-pub in_group-requires : goal.in_group-requires
-unfolding elsewhere
-in_group-requires c = search (looking, rules)
-
-pub returns-then-i-j : goal.returns-then-i-j
-unfolding elsewhere
-returns-then-i-j c = search (looking, rules)
-
-pub overflow_add-j : goal.overflow_add-j
-unfolding elsewhere
-overflow_add-j c = search (looking, rules)
-
-pub loop-j-smaller : goal.loop-j-smaller
-unfolding elsewhere
-loop-j-smaller c = search (looking, rules)
-
-pub loop-j-preserved : goal.loop-j-preserved
-unfolding elsewhere
-loop-j-preserved c = search (looking, rules)
-
 pub returns : goal.returns
 unfolding elsewhere
-returns c = search (looking, rules)
+returns c = any_from_yields_List (λ j. not (eqb c.args.i j) && in_group c.args.groups j c.args.server) _ _ _ c.any.ensures.ran (YieldsList-from_range 0 8 8 refl refl) (λ x b q k. search rules) ∙ list_any_from _ 0 8

@@ -1,29 +1,12 @@
--- Made by tools/uniform from proofs.txt, not by hand: c2e2122303c81009
-use Prim.Native.Nat.{◌-◌}
-use Rattle.network.specs.Ranges.{within}
+-- Made by tools/uniform from proofs.txt, not by hand: 0ab3acca4fee3edb
+use Rattle.std.proofs.Common.{◌∙◌, not, ◌||◌, Bool, ℕ}
+use Rattle.std.proofs.lemmas.Iterator.{YieldsList-from_slice}
+use Rattle.std.proofs.lemmas.Iterator.Consumers.{YieldsList-from_enumerate}
+use Rattle.std.proofs.lemmas.Iterator.Search.{all_from_yields_List}
+use Rattle.network.specs.Network.{link_within}
+use Rattle.network.specs.Ranges.{list_all_within}
 use borrow.Author.Rules.{rules}
 use Rattle.network.proofs.links_within.Goals as goal
 
-pub loop-k-init : goal.loop-k-init
-loop-k-init c = search (within, rules)
-
-pub bounds-links-k : goal.bounds-links-k
-bounds-links-k c = search (within, rules)
-
-pub link_within-requires : goal.link_within-requires
-link_within-requires c = search (within, rules)
-
-pub returns-then-links-k : goal.returns-then-links-k
-returns-then-links-k c = search (within, rules)
-
-pub overflow_add-k : goal.overflow_add-k
-overflow_add-k c = search (within, rules)
-
-pub loop-k-smaller : goal.loop-k-smaller
-loop-k-smaller c = search (within, rules)
-
-pub loop-k-preserved : goal.loop-k-preserved
-loop-k-preserved c = search (within, rules)
-
 pub returns : goal.returns
-returns c = search (within, rules)
+returns c = all_from_yields_List (λ (p : ℕ × Bool). not p.1 || link_within c.args.servers p.0) _ _ _ c.all.ensures.ran (YieldsList-from_enumerate (YieldsList-from_slice c.args.links cc) cc) (λ x b q k. search rules) ∙ list_all_within _ 0 _

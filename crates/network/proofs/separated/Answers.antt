@@ -1,38 +1,12 @@
--- Made by tools/uniform from proofs.txt, not by hand: 850c06684c18b939
-use Prim.Native.Nat.{◌-◌}
-use Rattle.network.specs.Network.{separated}
-use Rattle.network.specs.Laws.{looking}
+-- Made by tools/uniform from proofs.txt, not by hand: d474894350d2ceeb
+use Rattle.std.proofs.Common.{◌∙◌, refl, ◌&&◌}
+use Rattle.std.proofs.lemmas.Iterator.{YieldsList-from_range}
+use Rattle.std.proofs.lemmas.Iterator.Search.{any_from_yields_List}
+use Rattle.network.specs.Network.{in_group, elsewhere, separated}
+use Rattle.network.specs.Laws.{list_any_from}
 use borrow.Author.Rules.{rules}
 use Rattle.network.proofs.separated.Goals as goal
 
-pub loop-i-init : goal.loop-i-init
-unfolding separated
-loop-i-init c = search (looking, rules)
-
-pub in_group-requires : goal.in_group-requires
-unfolding separated
-in_group-requires c = search (looking, rules)
-
-pub elsewhere-requires : goal.elsewhere-requires
-unfolding separated
-elsewhere-requires c = search (looking, rules)
-
-pub returns-then-in_group-elsewhere : goal.returns-then-in_group-elsewhere
-unfolding separated
-returns-then-in_group-elsewhere c = search (looking, rules)
-
-pub overflow_add-i : goal.overflow_add-i
-unfolding separated
-overflow_add-i c = search (looking, rules)
-
-pub loop-i-smaller : goal.loop-i-smaller
-unfolding separated
-loop-i-smaller c = search (looking, rules)
-
-pub loop-i-preserved : goal.loop-i-preserved
-unfolding separated
-loop-i-preserved c = search (looking, rules)
-
 pub returns : goal.returns
 unfolding separated
-returns c = search (looking, rules)
+returns c = any_from_yields_List (λ i. in_group c.args.groups i c.args.link.from.0 && elsewhere c.args.groups i c.args.link.to.0) _ _ _ c.any.ensures.ran (YieldsList-from_range 0 8 8 refl refl) (λ x b q k. search rules) ∙ list_any_from _ 0 8

@@ -1,4 +1,4 @@
--- Made by tools/uniform from proofs.txt, not by hand: b6bf895c1b6cffe1
+-- Made by tools/uniform from proofs.txt, not by hand: 78051e0a2445ee05
 use Rattle.network_words.specs.LinkLaws.{gathered}
 use borrow.Author.Rules.{rules}
 use Rattle.network_words.proofs.word_of.Goals as goal
@@ -6,14 +6,14 @@ use Rattle.network_words.proofs.word_of.Goals as goal
 pub loop-k-init : goal.loop-k-init
 loop-k-init c = search (gathered, rules)
 
-pub overflow_sub-k : goal.overflow_sub-k
-overflow_sub-k c = search (gathered, rules)
+pub overflow_step-k : goal.overflow_step-k
+overflow_step-k c = search (gathered, rules)
 
 pub bounds-links-k : goal.bounds-links-k
 bounds-links-k c = search (gathered, rules)
 
-pub bit_of-requires : goal.bit_of-requires
-bit_of-requires c = search (gathered, rules)
+pub from-requires : goal.from-requires
+from-requires c = search (gathered, rules)
 
 pub overflow_mul-word : goal.overflow_mul-word
 overflow_mul-word c = search (gathered, rules)

@@ -1,9 +1,6 @@
--- Made by tools/uniform from proofs.txt, not by hand: c65ac995571dee37
+-- Made by tools/uniform from proofs.txt, not by hand: b01a8021b516df43
 use Rattle.raft_log.specs.Laws.{Seeking}
 use Rattle.raft_log.proofs.last_index.Given as goal
 
 abbrev pub invariant-loop-i : goal.invariant-loop-i
 invariant-loop-i l = Seeking l.p l.n l.s l.i
-
-abbrev pub decreases-loop-i : goal.decreases-loop-i
-decreases-loop-i l = l.i

@@ -1,10 +1,7 @@
--- Made by tools/uniform from proofs.txt, not by hand: 45d1536aec4929a9
+-- Made by tools/uniform from proofs.txt, not by hand: 65cecd94e2a79448
 use Rattle.sim_direct.specs.Laws.{fire_stopped, fire_nine, fire_goes}
 use borrow.Author.Rules.{rules}
 use Rattle.sim_direct.proofs.fire_timer_plan.Goals as goal
-
-pub direct_asked-asked-requires : goal.direct_asked-asked-requires
-direct_asked-asked-requires c = search (fire_stopped, fire_nine, fire_goes, rules)
 
 pub returns-then-code-gt0 : goal.returns-then-code-gt0
 returns-then-code-gt0 c = search (fire_stopped, fire_nine, fire_goes, rules)

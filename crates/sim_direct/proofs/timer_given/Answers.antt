@@ -1,4 +1,4 @@
--- Made by tools/uniform from proofs.txt, not by hand: d2f8301991327558
+-- Made by tools/uniform from proofs.txt, not by hand: 6eed627407ba311d
 use Rattle.sim_direct.specs.Laws.{timer_beat, timer_vote}
 use borrow.Author.Rules.{rules}
 use Rattle.sim_direct.proofs.timer_given.Goals as goal

@@ -1,4 +1,4 @@
--- Made by tools/uniform from proofs.txt, not by hand: bb9e691a41b28b72
+-- Made by tools/uniform from proofs.txt, not by hand: bd0b1e79d9957c40
 use Rattle.sim_outputs.specs.Laws.{code_first, code_second, code_third, code_none}
 use borrow.Author.Rules.{rules}
 use Rattle.sim_outputs.proofs.asks_code.Goals as goal

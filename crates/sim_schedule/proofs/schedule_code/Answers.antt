@@ -1,4 +1,4 @@
--- Made by tools/uniform from proofs.txt, not by hand: ce5abe90a75ee996
+-- Made by tools/uniform from proofs.txt, not by hand: cdc85b193930c377
 use Rattle.sim_schedule.specs.ScheduleLaws.{codes}
 use borrow.Author.Rules.{rules}
 use Rattle.sim_schedule.proofs.schedule_code.Goals as goal

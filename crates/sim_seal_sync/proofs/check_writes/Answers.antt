@@ -1,5 +1,4 @@
--- Made by tools/uniform from proofs.txt, not by hand: 7089522e5ed730b3
-use Prim.Native.Nat.{◌-◌}
+-- Made by tools/uniform from proofs.txt, not by hand: 496fe385338f374b
 use Rattle.sim_seal_sync.specs.Laws.{checking_start, checking_turn, checking_done}
 use borrow.Author.Rules.{rules}
 use Rattle.sim_seal_sync.proofs.check_writes.Goals as goal
@@ -12,9 +11,6 @@ loop-i-init c = checking_start _ _ _ _ c.requires.inside c.write_count-n.ensures
 
 pub check_write-requires : goal.check_write-requires
 check_write-requires c = search (checking_start, checking_turn, checking_done, rules)
-
-pub overflow_add-i : goal.overflow_add-i
-overflow_add-i c = search (checking_start, checking_turn, checking_done, rules)
 
 pub loop-i-smaller : goal.loop-i-smaller
 loop-i-smaller c = search (checking_start, checking_turn, checking_done, rules)

@@ -1,11 +1,17 @@
--- Made by tools/uniform from proofs.txt, not by hand: 885bb07eaa9c2d2e
+-- Made by tools/uniform from proofs.txt, not by hand: 1937ff2cb93d79b6
 use Rattle.state.specs.Exits.{inside_after}
 use Rattle.sim_seal_sync.specs.Laws.{counted_synced}
 use borrow.Author.Rules.{rules}
 use Rattle.sim_seal_sync.proofs.sync_counted.Goals as goal
 
-pub count_sync-counted-requires : goal.count_sync-counted-requires
-count_sync-counted-requires c = search (inside_after, counted_synced, rules)
+pub metrics_of-m-requires : goal.metrics_of-m-requires
+metrics_of-m-requires c = search (inside_after, counted_synced, rules)
+
+pub count_sync-requires : goal.count_sync-requires
+count_sync-requires c = search (inside_after, counted_synced, rules)
+
+pub unwrap_or-next-requires : goal.unwrap_or-next-requires
+unwrap_or-next-requires c = search (inside_after, counted_synced, rules)
 
 pub set_metrics-requires : goal.set_metrics-requires
 set_metrics-requires c = search (inside_after, counted_synced, rules)

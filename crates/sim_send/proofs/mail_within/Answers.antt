@@ -1,4 +1,4 @@
--- Made by tools/uniform from proofs.txt, not by hand: 34845ede484c6054
+-- Made by tools/uniform from proofs.txt, not by hand: bdade533c168375b
 use Rattle.sim_send.specs.Laws.{mail_single, mail_double}
 use borrow.Author.Rules.{rules}
 use Rattle.sim_send.proofs.mail_within.Goals as goal
@@ -12,5 +12,5 @@ sum64-second-requires c = search (mail_single, mail_double, rules)
 pub returns-in-None : goal.returns-in-None
 returns-in-None c = search (mail_single, mail_double, rules)
 
-pub returns-in-After : goal.returns-in-After
-returns-in-After c = search (mail_single, mail_double, rules)
+pub returns-in-Some : goal.returns-in-Some
+returns-in-Some c = search (mail_single, mail_double, rules)

@@ -1,15 +1,9 @@
--- Made by tools/uniform from proofs.txt, not by hand: 3360929c14d9f5ab
+-- Made by tools/uniform from proofs.txt, not by hand: 3081aa4187cf5d64
 use Rattle.state.specs.Exits.{inside_after}
 use Rattle.sim_start.specs.Laws.{start_inside, start_no, start_yes}
 use Rattle.sim_start.proofs.Typed.{config_typed}
 use borrow.Author.Rules.{rules}
 use Rattle.sim_start.proofs.start_in.Goals as goal
-
-pub start_plan-code-requires : goal.start_plan-code-requires
-start_plan-code-requires c = search (start_inside, inside_after, config_typed, start_no, start_yes, rules)
-
-pub opened_no-requires : goal.opened_no-requires
-opened_no-requires c = search (start_inside, inside_after, config_typed, start_no, start_yes, rules)
 
 pub returns-then-code-gt0 : goal.returns-then-code-gt0
 returns-then-code-gt0 c = search (start_inside, inside_after, config_typed, start_no, start_yes, rules)
@@ -19,9 +13,6 @@ lay_out-requires c = search (start_inside, inside_after, config_typed, start_no,
 
 pub begin-requires : goal.begin-requires
 begin-requires c = search (start_inside, inside_after, config_typed, start_no, start_yes, rules)
-
-pub opened-requires : goal.opened-requires
-opened-requires c = search (start_inside, inside_after, config_typed, start_no, start_yes, rules)
 
 pub returns : goal.returns
 returns c = search (start_inside, inside_after, config_typed, start_no, start_yes, rules)

@@ -1,13 +1,7 @@
--- Made by tools/uniform from proofs.txt, not by hand: ea919eb1c196ac4c
+-- Made by tools/uniform from proofs.txt, not by hand: 736e3d2655389ba7
 use Rattle.sim_start.specs.Laws.{plan_judged, plan_limits, plan_sum, plan_short, plan_together, plan_full, plan_spread}
 use borrow.Author.Rules.{rules}
 use Rattle.sim_start.proofs.start_plan.Goals as goal
-
-pub judge-requires : goal.judge-requires
-judge-requires c = search (plan_judged, plan_limits, plan_sum, plan_short, plan_together, plan_full, plan_spread, rules)
-
-pub number-judged-requires : goal.number-judged-requires
-number-judged-requires c = search (plan_judged, plan_limits, plan_sum, plan_short, plan_together, plan_full, plan_spread, rules)
 
 pub returns-then-judged-gt0 : goal.returns-then-judged-gt0
 returns-then-judged-gt0 c = search (plan_judged, plan_limits, plan_sum, plan_short, plan_together, plan_full, plan_spread, rules)

@@ -1,4 +1,4 @@
--- Made by tools/uniform from proofs.txt, not by hand: 8ef449bb77e548f0
+-- Made by tools/uniform from proofs.txt, not by hand: 54379a5779ededc4
 use Rattle.state_checks.specs.EntryLaws.{entries_known, entry_there, entry_absent, seen_inside, seen_rows}
 use borrow.Author.Rules.{rules}
 use Rattle.state_checks.proofs.is_unseen.Goals as goal
@@ -24,20 +24,20 @@ overflow_add-w c = search (entries_known, seen_inside, seen_rows, rules)
 pub overflow_add-w-2 : goal.overflow_add-w-2
 overflow_add-w-2 c = search (entries_known, seen_inside, seen_rows, rules)
 
-pub slice_bounds-find2-count : goal.slice_bounds-find2-count
-slice_bounds-find2-count c = search (entries_known, seen_inside, seen_rows, rules)
+pub slice_bounds-find-count : goal.slice_bounds-find-count
+slice_bounds-find-count c = search (entries_known, seen_inside, seen_rows, rules)
 
-pub slice_bounds-find2-start : goal.slice_bounds-find2-start
-slice_bounds-find2-start c = search (entries_known, seen_inside, seen_rows, rules)
+pub slice_bounds-find-start : goal.slice_bounds-find-start
+slice_bounds-find-start c = search (entries_known, seen_inside, seen_rows, rules)
 
-pub slice_bounds-find2-end : goal.slice_bounds-find2-end
-slice_bounds-find2-end c = search (entries_known, seen_inside, seen_rows, rules)
+pub slice_bounds-find-end : goal.slice_bounds-find-end
+slice_bounds-find-end c = search (entries_known, seen_inside, seen_rows, rules)
 
-pub find2-requires : goal.find2-requires
-find2-requires c = search (entries_known, seen_inside, seen_rows, rules)
+pub find-requires : goal.find-requires
+find-requires c = search (entries_known, seen_inside, seen_rows, rules)
 
-pub returns-in-At : goal.returns-in-At
-returns-in-At c = entry_there _ _ _ _ _ _ _ _ (search rules) (search rules) c.seen_at-at.ensures c.seen_words-all.ensures c.find2.ensures _ c.in-At.is
+pub returns-in-Ok : goal.returns-in-Ok
+returns-in-Ok c = entry_there _ _ _ _ _ _ _ _ (search rules) (search rules) c.seen_at-at.ensures c.seen_words-all.ensures c.find.ensures _ c.in-Ok.is
 
-pub returns-in-Absent : goal.returns-in-Absent
-returns-in-Absent c = entry_absent _ _ _ _ _ _ _ _ (search rules) (search rules) c.seen_at-at.ensures c.seen_words-all.ensures c.find2.ensures _ c.in-Absent.is
+pub returns-in-Err : goal.returns-in-Err
+returns-in-Err c = entry_absent _ _ _ _ _ _ _ _ (search rules) (search rules) c.seen_at-at.ensures c.seen_words-all.ensures c.find.ensures _ c.in-Err.is

@@ -1,4 +1,4 @@
--- Made by tools/uniform from proofs.txt, not by hand: 451f740067d51e10
+-- Made by tools/uniform from proofs.txt, not by hand: f1d6a234f45e3828
 use Rattle.state.specs.Exits.{inside_after}
 use Rattle.state_disk.specs.Laws.{put_written}
 use borrow.Author.Rules.{rules}
@@ -26,4 +26,4 @@ pub finish-requires : goal.finish-requires
 finish-requires c = search (put_written, inside_after, rules)
 
 pub returns : goal.returns
-returns c = put_written _ _ _ _ _ _ _ _ _ c.requires.k_lt_servers _ _ _ _ c.requires.le_index.0 c.requires.le_index.1 c.disk_in-d.ensures c.storage_of-v.ensures c.put-r.ensures c.finish.ensures
+returns c = put_written _ _ _ _ _ _ _ _ _ c.requires.k_lt_servers _ _ _ c.requires.le_index.0 c.requires.le_index.1 c.disk_in-d.ensures c.storage_of-v.ensures c.put-r.ensures c.finish.ensures

@@ -1,4 +1,4 @@
--- Made by tools/uniform from proofs.txt, not by hand: f54e1943d0994f9d
+-- Made by tools/uniform from proofs.txt, not by hand: 0c8b001237c61cd9
 use Prim.Native.Nat.{◌-◌}
 use Rattle.state_gate_blocks.specs.Laws.{blocks_start, blocks_done, block_fine, block_fails}
 use Rattle.state_gate_blocks.proofs.blocks.Goals as goal

@@ -1,10 +1,7 @@
--- Made by tools/uniform from proofs.txt, not by hand: b77dcbf311882f2d
+-- Made by tools/uniform from proofs.txt, not by hand: 363e9e112d8afaf7
 use Rattle.state_header.specs.Laws.{events_put}
 use borrow.Author.Rules.{rules}
 use Rattle.state_header.proofs.set_events.Goals as goal
-
-pub store-requires : goal.store-requires
-store-requires c = search (events_put, rules)
 
 pub returns : goal.returns
 returns c = search (events_put, rules)

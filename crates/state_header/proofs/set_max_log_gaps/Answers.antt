@@ -1,10 +1,7 @@
--- Made by tools/uniform from proofs.txt, not by hand: be9c06df46a35901
+-- Made by tools/uniform from proofs.txt, not by hand: 78978c20ffad86b7
 use Rattle.state_header.specs.Laws.{max_log_gaps_put}
 use borrow.Author.Rules.{rules}
 use Rattle.state_header.proofs.set_max_log_gaps.Goals as goal
-
-pub store-requires : goal.store-requires
-store-requires c = search (max_log_gaps_put, rules)
 
 pub returns : goal.returns
 returns c = search (max_log_gaps_put, rules)

@@ -1,4 +1,4 @@
--- Made by tools/uniform from proofs.txt, not by hand: d2222f68c2836dd8
+-- Made by tools/uniform from proofs.txt, not by hand: a3ebd30d159a8cb0
 use Prim.Native.Nat.{◌-◌}
 use Rattle.state_queue.specs.Sends.{sending_start, sending_turn, sending_done}
 use borrow.Author.Rules.{rules}

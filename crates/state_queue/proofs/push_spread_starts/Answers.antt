@@ -1,4 +1,4 @@
--- Made by tools/uniform from proofs.txt, not by hand: 2825193fe4251ba8
+-- Made by tools/uniform from proofs.txt, not by hand: 6832ac8885ba84a8
 use Prim.Native.Nat.{◌-◌}
 use Rattle.state_queue.specs.Sends.{starting_start, starting_turn, starting_done}
 use borrow.Author.Rules.{rules}

@@ -1,4 +1,4 @@
--- Made by tools/uniform from proofs.txt, not by hand: 9e4a6a4076e84bd8
+-- Made by tools/uniform from proofs.txt, not by hand: 7fa9a2942681ab8c
 use Rattle.state_records.specs.ConfirmationRows.{confirmation_put, confirmation_full, confirmations_end, confirmations_within}
 use borrow.Author.Rules.{rules}
 use Rattle.state_records.proofs.append_confirmation.Goals as goal
@@ -36,8 +36,8 @@ append-requires c = search (confirmations_end, confirmations_within, rules)
 pub store-requires : goal.store-requires
 store-requires c = search (confirmations_end, confirmations_within, rules)
 
-pub returns-in-Appended : goal.returns-in-Appended
-returns-in-Appended c = confirmation_put _ _ _ c.confirmation_count-n.ensures _ c.confirmations_at-at.ensures _ _ _ c.append.ensures _ _ c.in-Appended.is c.store.ensures
+pub returns-in-Some : goal.returns-in-Some
+returns-in-Some c = confirmation_put _ _ _ c.confirmation_count-n.ensures _ c.confirmations_at-at.ensures _ _ _ c.append.ensures _ _ c.in-Some.is c.store.ensures
 
-pub returns-in-Full : goal.returns-in-Full
-returns-in-Full c = confirmation_full _ _ _ c.confirmation_count-n.ensures _ c.confirmations_at-at.ensures _ _ _ c.append.ensures c.in-Full.is
+pub returns-in-None : goal.returns-in-None
+returns-in-None c = confirmation_full _ _ _ c.confirmation_count-n.ensures _ c.confirmations_at-at.ensures _ _ _ c.append.ensures c.in-None.is

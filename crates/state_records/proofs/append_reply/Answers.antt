@@ -1,4 +1,4 @@
--- Made by tools/uniform from proofs.txt, not by hand: 6050e294caa2f0fa
+-- Made by tools/uniform from proofs.txt, not by hand: c9001cccb490e8b5
 use Rattle.state_records.specs.ReplyRows.{reply_put, reply_full, replies_end, replies_within}
 use borrow.Author.Rules.{rules}
 use Rattle.state_records.proofs.append_reply.Goals as goal
@@ -36,8 +36,8 @@ append-requires c = search (replies_end, replies_within, rules)
 pub store-requires : goal.store-requires
 store-requires c = search (replies_end, replies_within, rules)
 
-pub returns-in-Appended : goal.returns-in-Appended
-returns-in-Appended c = reply_put _ _ _ c.reply_count-n.ensures _ c.replies_at-at.ensures _ _ _ c.append.ensures _ _ c.in-Appended.is c.store.ensures
+pub returns-in-Some : goal.returns-in-Some
+returns-in-Some c = reply_put _ _ _ c.reply_count-n.ensures _ c.replies_at-at.ensures _ _ _ c.append.ensures _ _ c.in-Some.is c.store.ensures
 
-pub returns-in-Full : goal.returns-in-Full
-returns-in-Full c = reply_full _ _ _ c.reply_count-n.ensures _ c.replies_at-at.ensures _ _ _ c.append.ensures c.in-Full.is
+pub returns-in-None : goal.returns-in-None
+returns-in-None c = reply_full _ _ _ c.reply_count-n.ensures _ c.replies_at-at.ensures _ _ _ c.append.ensures c.in-None.is

@@ -1,5 +1,4 @@
--- Made by tools/uniform from proofs.txt, not by hand: 399553295bee9937
-use Prim.Native.Nat.{◌-◌}
+-- Made by tools/uniform from proofs.txt, not by hand: 36efc83b067da4bb
 use Rattle.state_records.specs.DiscardedLaws.{adding_start, adding_turn, adding_past, adding_done}
 use Rattle.state_records.proofs.discarded_of.Goals as goal
 

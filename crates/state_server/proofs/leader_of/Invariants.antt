@@ -1,10 +1,7 @@
--- Made by tools/uniform from proofs.txt, not by hand: 3a71e6d52394e1e2
+-- Made by tools/uniform from proofs.txt, not by hand: 705d60ecdc62746e
 use Prim.Native.Nat.{◌-◌}
 use Rattle.state_server.specs.Laws.{Choosing}
 use Rattle.state_server.proofs.leader_of.Given as goal
 
 abbrev pub invariant-loop-k : goal.invariant-loop-k
 invariant-loop-k l = Choosing l.area l.f l.best l.k
-
-abbrev pub decreases-loop-k : goal.decreases-loop-k
-decreases-loop-k l = l.n - l.k

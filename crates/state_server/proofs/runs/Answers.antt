@@ -1,4 +1,4 @@
--- Made by tools/uniform from proofs.txt, not by hand: d5e364a860bf41b0
+-- Made by tools/uniform from proofs.txt, not by hand: 32d48844e45d4561
 use Rattle.state_server.specs.Laws.{runs_none, runs_some}
 use borrow.Author.Rules.{rules}
 use Rattle.state_server.proofs.runs.Goals as goal

@@ -1,50 +1,14 @@
--- Made by tools/uniform from proofs.txt, not by hand: 6c14565a539a262e
-use Prim.Native.Nat.{◌-◌}
-use Rattle.words.specs.Zero.{zeroed}
+-- Made by tools/uniform from proofs.txt, not by hand: d70eb0b2ea2115a7
+use borrow.Author.Tests.{tests}
+use Rattle.std.proofs.lemmas.Iterator.{YieldsList-from_slice}
+use Rattle.std.proofs.lemmas.Iterator.Search.{all_from_yields_List}
+use Rattle.words.specs.Words.{allz}
+use Rattle.words.specs.Zero.{chunks_zero, chunks_not}
 use borrow.Author.Rules.{rules}
 use Rattle.words.proofs.all_zero.Goals as goal
 
-pub loop-i-init : goal.loop-i-init
-loop-i-init c = search (zeroed, rules)
+pub returns-then-all : goal.returns-then-all
+returns-then-all c = chunks_zero _ (all_from_yields_List allz _ _ _ c.all.ensures.ran (YieldsList-from_slice _ cc) (λ x b q k. search (rules, tests))) c.if-all.true c.as_chunks.ensures.back c.none_set.ensures
 
-pub overflow_sub-n : goal.overflow_sub-n
-overflow_sub-n c = search (zeroed, rules)
-
-pub overflow_add-j : goal.overflow_add-j
-overflow_add-j c = search (zeroed, rules)
-
-pub slice_bounds-none_set-count : goal.slice_bounds-none_set-count
-slice_bounds-none_set-count c = search (zeroed, rules)
-
-pub slice_bounds-none_set-start : goal.slice_bounds-none_set-start
-slice_bounds-none_set-start c = search (zeroed, rules)
-
-pub slice_bounds-none_set-end : goal.slice_bounds-none_set-end
-slice_bounds-none_set-end c = search (zeroed, rules)
-
-pub none_set-requires : goal.none_set-requires
-none_set-requires c = search (zeroed, rules)
-
-pub returns-then-not-none_set : goal.returns-then-not-none_set
-returns-then-not-none_set c = search (zeroed, rules)
-
-pub loop-i-smaller : goal.loop-i-smaller
-loop-i-smaller c = search (zeroed, rules)
-
-pub loop-i-preserved : goal.loop-i-preserved
-loop-i-preserved c = search (zeroed, rules)
-
-pub slice_bounds-none_set-count-2 : goal.slice_bounds-none_set-count-2
-slice_bounds-none_set-count-2 c = search (zeroed, rules)
-
-pub slice_bounds-none_set-start-2 : goal.slice_bounds-none_set-start-2
-slice_bounds-none_set-start-2 c = search (zeroed, rules)
-
-pub slice_bounds-none_set-end-2 : goal.slice_bounds-none_set-end-2
-slice_bounds-none_set-end-2 c = search (zeroed, rules)
-
-pub none_set-requires-2 : goal.none_set-requires-2
-none_set-requires-2 c = search (zeroed, rules)
-
-pub returns : goal.returns
-returns c = search (zeroed, rules)
+pub returns-else-all : goal.returns-else-all
+returns-else-all c = chunks_not _ (all_from_yields_List allz _ _ _ c.all.ensures.ran (YieldsList-from_slice _ cc) (λ x b q k. search (rules, tests))) c.if-all.false

@@ -1,4 +1,4 @@
--- Made by tools/uniform from proofs.txt, not by hand: 8927527727656529
+-- Made by tools/uniform from proofs.txt, not by hand: 8ff20f4491492587
 use Rattle.state.specs.Exits.{inside_of, inside_after}
 use borrow.Author.Rules.{rules}
 use Rattle.area.proofs.header.metrics_set.Goals as goal
@@ -12,8 +12,11 @@ returns-then-g-gt0 c = search (inside_of, inside_after, rules)
 pub metrics_of-m-requires : goal.metrics_of-m-requires
 metrics_of-m-requires c = search (inside_of, inside_after, rules)
 
-pub record_sync-synced-requires : goal.record_sync-synced-requires
-record_sync-synced-requires c = search (inside_of, inside_after, rules)
+pub record_sync-requires : goal.record_sync-requires
+record_sync-requires c = search (inside_of, inside_after, rules)
+
+pub unwrap_or-requires : goal.unwrap_or-requires
+unwrap_or-requires c = search (inside_of, inside_after, rules)
 
 pub set_metrics-requires : goal.set_metrics-requires
 set_metrics-requires c = search (inside_of, inside_after, rules)

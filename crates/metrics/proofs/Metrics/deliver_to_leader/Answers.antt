@@ -1,22 +1,11 @@
--- Made by tools/uniform from proofs.txt, not by hand: 409f286ada6bf459
-use Rattle.metrics.specs.Metrics.{deliver_to_leader}
-use Rattle.metrics.specs.Laws.{delivering}
+-- Made by tools/uniform from proofs.txt, not by hand: 1df5549705037769
+use Rattle.metrics.proofs.Counting.{delivery_full, delivery_counted}
 use Rattle.metrics.proofs.Typed.{metrics_typed}
 use borrow.Author.Rules.{rules}
 use Rattle.metrics.proofs.Metrics.deliver_to_leader.Goals as goal
 
-pub sum_fits-requires : goal.sum_fits-requires
-unfolding deliver_to_leader
-sum_fits-requires c = search (delivering, metrics_typed, rules)
+pub returns-in_err-self : goal.returns-in_err-self
+returns-in_err-self c = delivery_full _ (search (metrics_typed, rules)) _ _ c.in_err-self.ensures c.from_residual.ensures
 
-pub overflow_add-next : goal.overflow_add-next
-unfolding deliver_to_leader
-overflow_add-next c = search (delivering, metrics_typed, rules)
-
-pub returns-then-sum_fits : goal.returns-then-sum_fits
-unfolding deliver_to_leader
-returns-then-sum_fits c = search (delivering, metrics_typed, rules)
-
-pub returns-else-sum_fits : goal.returns-else-sum_fits
-unfolding deliver_to_leader
-returns-else-sum_fits c = search (delivering, metrics_typed, rules)
+pub returns : goal.returns
+returns c = delivery_counted _ (search (metrics_typed, rules)) _ _ c.in_ok-self.ensures

@@ -1,22 +1,11 @@
--- Made by tools/uniform from proofs.txt, not by hand: fbaaae9df3b90d07
-use Rattle.metrics.specs.Metrics.{record_reply}
-use Rattle.metrics.specs.Laws.{replying}
+-- Made by tools/uniform from proofs.txt, not by hand: 52466b56026065d9
+use Rattle.metrics.proofs.Counting.{replies_full, reply_counted}
 use Rattle.metrics.proofs.Typed.{metrics_typed}
 use borrow.Author.Rules.{rules}
 use Rattle.metrics.proofs.Metrics.record_reply.Goals as goal
 
-pub sum_fits-requires : goal.sum_fits-requires
-unfolding record_reply
-sum_fits-requires c = search (replying, metrics_typed, rules)
+pub returns-in_err-self : goal.returns-in_err-self
+returns-in_err-self c = replies_full _ (search (metrics_typed, rules)) _ c.in_err-self.ensures c.from_residual.ensures
 
-pub overflow_add-next : goal.overflow_add-next
-unfolding record_reply
-overflow_add-next c = search (replying, metrics_typed, rules)
-
-pub returns-then-sum_fits : goal.returns-then-sum_fits
-unfolding record_reply
-returns-then-sum_fits c = search (replying, metrics_typed, rules)
-
-pub returns-else-sum_fits : goal.returns-else-sum_fits
-unfolding record_reply
-returns-else-sum_fits c = search (replying, metrics_typed, rules)
+pub returns : goal.returns
+returns c = reply_counted _ (search (metrics_typed, rules)) _ c.in_ok-self.ensures

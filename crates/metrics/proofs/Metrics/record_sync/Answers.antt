@@ -1,30 +1,14 @@
--- Made by tools/uniform from proofs.txt, not by hand: 7f12e4768f4e96cb
-use Rattle.metrics.specs.Metrics.{record_sync}
-use Rattle.metrics.specs.Laws.{syncing}
+-- Made by tools/uniform from proofs.txt, not by hand: 9d9f05cbdf917274
+use Rattle.metrics.proofs.Counting.{syncs_full, storage_full, sync_counted}
 use Rattle.metrics.proofs.Typed.{metrics_typed}
 use borrow.Author.Rules.{rules}
 use Rattle.metrics.proofs.Metrics.record_sync.Goals as goal
 
-pub sum_fits-requires : goal.sum_fits-requires
-unfolding record_sync
-sum_fits-requires c = search (syncing, metrics_typed, rules)
+pub returns-in_err-self : goal.returns-in_err-self
+returns-in_err-self c = syncs_full _ (search (metrics_typed, rules)) _ _ c.in_err-self.ensures c.from_residual.ensures
 
-pub sum_fits-requires-2 : goal.sum_fits-requires-2
-unfolding record_sync
-sum_fits-requires-2 c = search (syncing, metrics_typed, rules)
+pub returns-in_err-self-2 : goal.returns-in_err-self-2
+returns-in_err-self-2 c = storage_full _ (search (metrics_typed, rules)) _ _ c.in_err-self-2.ensures c.from_residual-in_err-self-2.ensures
 
-pub overflow_add-next : goal.overflow_add-next
-unfolding record_sync
-overflow_add-next c = search (syncing, metrics_typed, rules)
-
-pub overflow_add-next-then-sum_fits : goal.overflow_add-next-then-sum_fits
-unfolding record_sync
-overflow_add-next-then-sum_fits c = search (syncing, metrics_typed, rules)
-
-pub returns-then-sum_fits : goal.returns-then-sum_fits
-unfolding record_sync
-returns-then-sum_fits c = search (syncing, metrics_typed, rules)
-
-pub returns-else-sum_fits : goal.returns-else-sum_fits
-unfolding record_sync
-returns-else-sum_fits c = search (syncing, metrics_typed, rules)
+pub returns : goal.returns
+returns c = sync_counted _ (search (metrics_typed, rules)) _ _ _ c.in_ok-self.ensures c.in_ok-self-2.ensures

@@ -1,5 +1,4 @@
--- Made by tools/uniform from proofs.txt, not by hand: 5ca0f6e9bafbd5ae
-use Prim.Native.Nat.{◌-◌}
+-- Made by tools/uniform from proofs.txt, not by hand: 308a2d46effbf14b
 use Rattle.sim_checks.specs.DurabilityLaws.{replies_first, replies_turn, replies_last}
 use borrow.Author.Rules.{rules}
 use Rattle.sim_checks.proofs.durability.check_replies.Goals as goal
@@ -9,9 +8,6 @@ loop-i-init c = search (replies_first, replies_turn, replies_last, rules)
 
 pub check_reply-requires : goal.check_reply-requires
 check_reply-requires c = search (replies_first, replies_turn, replies_last, rules)
-
-pub overflow_add-i : goal.overflow_add-i
-overflow_add-i c = search (replies_first, replies_turn, replies_last, rules)
 
 pub loop-i-smaller : goal.loop-i-smaller
 loop-i-smaller c = search (replies_first, replies_turn, replies_last, rules)

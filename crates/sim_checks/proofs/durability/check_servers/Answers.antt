@@ -1,5 +1,4 @@
--- Made by tools/uniform from proofs.txt, not by hand: a8f2c0dd5b518107
-use Prim.Native.Nat.{◌-◌}
+-- Made by tools/uniform from proofs.txt, not by hand: 319ad5769ae30a69
 use Rattle.sim_checks.specs.DurabilityLaws.{servers_first, servers_turn, servers_last}
 use borrow.Author.Rules.{rules}
 use Rattle.sim_checks.proofs.durability.check_servers.Goals as goal
@@ -9,9 +8,6 @@ loop-k-init c = search (servers_first, servers_turn, servers_last, rules)
 
 pub check_server-requires : goal.check_server-requires
 check_server-requires c = search (servers_first, servers_turn, servers_last, rules)
-
-pub overflow_add-k : goal.overflow_add-k
-overflow_add-k c = search (servers_first, servers_turn, servers_last, rules)
 
 pub loop-k-smaller : goal.loop-k-smaller
 loop-k-smaller c = search (servers_first, servers_turn, servers_last, rules)

@@ -1,11 +1,7 @@
--- Made by tools/uniform from proofs.txt, not by hand: 5cc9fb991dc00c2c
-use Prim.Native.Nat.{◌-◌}
+-- Made by tools/uniform from proofs.txt, not by hand: d2b395f3ace80483
 use Rattle.sim_checks.specs.Steps.{Turning}
 use Rattle.sim_checks.specs.Durability.{server_checked}
 use Rattle.sim_checks.proofs.durability.check_servers.Given as goal
 
 abbrev pub invariant-loop-k : goal.invariant-loop-k
 invariant-loop-k l = Turning (server_checked l.time l.highest) l.initial.area l.area l.f 0 l.k l.f.servers
-
-abbrev pub decreases-loop-k : goal.decreases-loop-k
-decreases-loop-k l = l.f.servers - l.k

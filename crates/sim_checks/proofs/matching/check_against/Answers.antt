@@ -1,20 +1,16 @@
--- Made by tools/uniform from proofs.txt, not by hand: 92b7a8a016f1350a
-use Prim.Native.Nat.{◌-◌}
+-- Made by tools/uniform from proofs.txt, not by hand: e636793896c2c4cc
 use Rattle.sim_checks.specs.MatchingLaws.{against_first, against_turn, against_last}
 use borrow.Author.Rules.{rules}
 use Rattle.sim_checks.proofs.matching.check_against.Goals as goal
 
-pub overflow_add-j : goal.overflow_add-j
-overflow_add-j c = search (against_first, against_turn, against_last, rules)
+pub overflow_step-j : goal.overflow_step-j
+overflow_step-j c = search (against_first, against_turn, against_last, rules)
 
 pub loop-j-init : goal.loop-j-init
 loop-j-init c = search (against_first, against_turn, against_last, rules)
 
 pub check_pair-requires : goal.check_pair-requires
 check_pair-requires c = search (against_first, against_turn, against_last, rules)
-
-pub overflow_add-j-in-loop-j : goal.overflow_add-j-in-loop-j
-overflow_add-j-in-loop-j c = search (against_first, against_turn, against_last, rules)
 
 pub loop-j-smaller : goal.loop-j-smaller
 loop-j-smaller c = search (against_first, against_turn, against_last, rules)

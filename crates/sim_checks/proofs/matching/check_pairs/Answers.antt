@@ -1,5 +1,4 @@
--- Made by tools/uniform from proofs.txt, not by hand: db3b73665166e312
-use Prim.Native.Nat.{◌-◌}
+-- Made by tools/uniform from proofs.txt, not by hand: 8762a837eb763e2c
 use Rattle.sim_checks.specs.MatchingLaws.{pairs_first, pairs_turn, pairs_last}
 use borrow.Author.Rules.{rules}
 use Rattle.sim_checks.proofs.matching.check_pairs.Goals as goal
@@ -9,9 +8,6 @@ loop-i-init c = search (pairs_first, pairs_turn, pairs_last, rules)
 
 pub check_against-requires : goal.check_against-requires
 check_against-requires c = search (pairs_first, pairs_turn, pairs_last, rules)
-
-pub overflow_add-i : goal.overflow_add-i
-overflow_add-i c = search (pairs_first, pairs_turn, pairs_last, rules)
 
 pub loop-i-smaller : goal.loop-i-smaller
 loop-i-smaller c = search (pairs_first, pairs_turn, pairs_last, rules)

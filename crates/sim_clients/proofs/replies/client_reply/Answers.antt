@@ -1,4 +1,4 @@
--- Made by tools/uniform from proofs.txt, not by hand: e249353a3dc91dac
+-- Made by tools/uniform from proofs.txt, not by hand: 8cfde3b459778f61
 use Rattle.sim_clients.specs.ReplyLaws.{taken_none, taken_other, taken_done}
 use borrow.Author.Rules.{rules}
 use Rattle.sim_clients.proofs.replies.client_reply.Goals as goal
@@ -12,8 +12,8 @@ take_reply-requires c = search (taken_none, taken_other, taken_done, rules)
 pub returns-in-None : goal.returns-in-None
 returns-in-None c = search (taken_none, taken_other, taken_done, rules)
 
-pub returns-then-own-seq : goal.returns-then-own-seq
-returns-then-own-seq c = search (taken_none, taken_other, taken_done, rules)
+pub returns-then-sent-seq : goal.returns-then-sent-seq
+returns-then-sent-seq c = search (taken_none, taken_other, taken_done, rules)
 
-pub returns-else-own-seq : goal.returns-else-own-seq
-returns-else-own-seq c = search (taken_none, taken_other, taken_done, rules)
+pub returns-else-sent-seq : goal.returns-else-sent-seq
+returns-else-sent-seq c = search (taken_none, taken_other, taken_done, rules)

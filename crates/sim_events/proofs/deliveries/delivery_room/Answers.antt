@@ -1,4 +1,4 @@
--- Made by tools/uniform from proofs.txt, not by hand: 43c71fce9566cf1f
+-- Made by tools/uniform from proofs.txt, not by hand: d7e2e38052efdecf
 use Rattle.sim_events.specs.Laws.{delivery_read}
 use borrow.Author.Rules.{rules}
 use Rattle.sim_events.proofs.deliveries.delivery_room.Goals as goal
@@ -6,8 +6,11 @@ use Rattle.sim_events.proofs.deliveries.delivery_room.Goals as goal
 pub metrics_of-m-requires : goal.metrics_of-m-requires
 metrics_of-m-requires c = search (delivery_read, rules)
 
-pub deliver_to_leader-counted-requires : goal.deliver_to_leader-counted-requires
-deliver_to_leader-counted-requires c = search (delivery_read, rules)
+pub deliver_to_leader-requires : goal.deliver_to_leader-requires
+deliver_to_leader-requires c = search (delivery_read, rules)
+
+pub is_some-requires : goal.is_some-requires
+is_some-requires c = search (delivery_read, rules)
 
 pub returns : goal.returns
 returns c = search (delivery_read, rules)

@@ -1,4 +1,4 @@
--- Made by tools/uniform from proofs.txt, not by hand: 8a8c5f661f39de7c
+-- Made by tools/uniform from proofs.txt, not by hand: 1d72b7d03d2a4d9e
 use Rattle.sim_faults.specs.Laws.{aiming, after_crash, after_next, after_restart, after_leader, after_partition, after_block, after_unblock, after_links, after_loss, after_duplication, after_factor, after_all}
 use borrow.Author.Rules.{rules}
 use Rattle.sim_faults.proofs.links.network_after.Goals as goal
@@ -6,8 +6,14 @@ use Rattle.sim_faults.proofs.links.network_after.Goals as goal
 pub partition-requires : goal.partition-requires
 partition-requires c = search (aiming, after_crash, after_next, after_restart, after_leader, after_partition, after_unblock, after_links, after_loss, after_duplication, after_factor, after_all, rules)
 
+pub invariant_of-block : goal.invariant_of-block
+invariant_of-block c = search (aiming, after_crash, after_next, after_restart, after_leader, after_partition, after_unblock, after_links, after_loss, after_duplication, after_factor, after_all, rules)
+
 pub block-requires : goal.block-requires
 block-requires c = search (aiming, after_crash, after_next, after_restart, after_leader, after_partition, after_unblock, after_links, after_loss, after_duplication, after_factor, after_all, rules)
+
+pub invariant_of-unblock : goal.invariant_of-unblock
+invariant_of-unblock c = search (aiming, after_crash, after_next, after_restart, after_leader, after_partition, after_unblock, after_links, after_loss, after_duplication, after_factor, after_all, rules)
 
 pub unblock-requires : goal.unblock-requires
 unblock-requires c = search (aiming, after_crash, after_next, after_restart, after_leader, after_partition, after_unblock, after_links, after_loss, after_duplication, after_factor, after_all, rules)

@@ -1,5 +1,4 @@
--- Made by tools/uniform from proofs.txt, not by hand: d85ea8b1206a7f6c
-use Prim.Native.Nat.{◌-◌}
+-- Made by tools/uniform from proofs.txt, not by hand: e19fe619e62cde6b
 use Rattle.state.specs.Exits.{inside_after}
 use Rattle.sim_owed.specs.CloseLaws.{healing_start, healing_turn, healing_stop, healing_done}
 use borrow.Author.Rules.{rules}
@@ -19,9 +18,6 @@ restart_server-requires c = search (inside_after, healing_start, healing_turn, h
 
 pub returns-then-not-heal_one : goal.returns-then-not-heal_one
 returns-then-not-heal_one c = healing_stop _ _ _ _ _ c.loop-k.invariant _ _ c.loop-k-test.true c.heal_one.ensures _ _ c.if-not-heal_one.true-raw c.restart_server.ensures
-
-pub overflow_add-k-in-loop-k : goal.overflow_add-k-in-loop-k
-overflow_add-k-in-loop-k c = search (inside_after, healing_start, healing_turn, healing_stop, healing_done, rules)
 
 pub loop-k-smaller : goal.loop-k-smaller
 loop-k-smaller c = search (inside_after, healing_start, healing_turn, healing_stop, healing_done, rules)

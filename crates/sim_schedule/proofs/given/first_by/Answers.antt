@@ -1,4 +1,4 @@
--- Made by tools/uniform from proofs.txt, not by hand: 33b4074b34f3d1e0
+-- Made by tools/uniform from proofs.txt, not by hand: a897c62950b7d056
 use Rattle.sim_schedule.specs.GivenLaws.{first_groups, first_none, first_past, first_own}
 use borrow.Author.Rules.{rules}
 use Rattle.sim_schedule.proofs.given.first_by.Goals as goal

@@ -1,4 +1,4 @@
--- Made by tools/uniform from proofs.txt, not by hand: 4c0346527e918e3e
+-- Made by tools/uniform from proofs.txt, not by hand: c9cdbf0f29fa6754
 use Rattle.sim_schedule.specs.GivenLaws.{few_counted, few_others}
 use borrow.Author.Rules.{rules}
 use Rattle.sim_schedule.proofs.given.groups_few.Goals as goal

@@ -1,4 +1,4 @@
--- Made by tools/uniform from proofs.txt, not by hand: ef4903f6187d1d84
+-- Made by tools/uniform from proofs.txt, not by hand: 46273417a905202e
 use Rattle.sim_schedule.specs.GivenLaws.{second_blocked, second_unblocked, second_none}
 use borrow.Author.Rules.{rules}
 use Rattle.sim_schedule.proofs.given.second_by.Goals as goal

@@ -1,10 +1,7 @@
--- Made by tools/uniform from proofs.txt, not by hand: d7455dcd20d58f8a
+-- Made by tools/uniform from proofs.txt, not by hand: e54fa1b4f783d1bf
 use Rattle.sim_schedule.specs.GivenLaws.{within_none, within_some}
 use borrow.Author.Rules.{rules}
 use Rattle.sim_schedule.proofs.given.within_of.Goals as goal
-
-pub within_limits-requires : goal.within_limits-requires
-within_limits-requires c = search (within_none, within_some, rules)
 
 pub returns-in-None : goal.returns-in-None
 returns-in-None c = search (within_none, within_some, rules)

@@ -1,13 +1,7 @@
--- Made by tools/uniform from proofs.txt, not by hand: 3d03ce42906ecaa6
+-- Made by tools/uniform from proofs.txt, not by hand: 614254bc115217ab
 use Rattle.sim_start.specs.ContentLaws.{counts_stored}
 use borrow.Author.Rules.{rules}
 use Rattle.sim_start.proofs.content.store_counts.Goals as goal
-
-pub slice_bounds-store_all-end : goal.slice_bounds-store_all-end
-slice_bounds-store_all-end c = search (counts_stored, rules)
-
-pub store_all-requires : goal.store_all-requires
-store_all-requires c = search (counts_stored, rules)
 
 pub returns : goal.returns
 returns c = search (counts_stored, rules)

@@ -1,4 +1,4 @@
--- Made by tools/uniform from proofs.txt, not by hand: 66ff891f13b688d7
+-- Made by tools/uniform from proofs.txt, not by hand: fd4313b2461f3985
 use Rattle.state.specs.Loads.{no_status_stored, status_stored}
 use borrow.Author.Rules.{rules}
 use Rattle.state.proofs.server.store_status.Goals as goal
@@ -6,8 +6,8 @@ use Rattle.state.proofs.server.store_status.Goals as goal
 pub store_all-requires : goal.store_all-requires
 store_all-requires c = search (no_status_stored, status_stored, rules)
 
-pub number-requires : goal.number-requires
-number-requires c = search (no_status_stored, status_stored, rules)
+pub from-requires : goal.from-requires
+from-requires c = search (no_status_stored, status_stored, rules)
 
 pub node_flag-requires : goal.node_flag-requires
 node_flag-requires c = search (no_status_stored, status_stored, rules)

@@ -1,5 +1,4 @@
--- Made by tools/uniform from proofs.txt, not by hand: 41f7fef7298130a3
-use Prim.Native.Nat.{◌-◌}
+-- Made by tools/uniform from proofs.txt, not by hand: 0061eb9722034405
 use Rattle.state_asks.specs.DurabilityLaws.{filling_start, filling_turn, filling_done}
 use borrow.Author.Rules.{rules}
 use Rattle.state_asks.proofs.durability.applied_up_to.Goals as goal
@@ -15,9 +14,6 @@ offset_bounds-up_to-k c = search (filling_done, rules)
 
 pub bounds-up_to-k : goal.bounds-up_to-k
 bounds-up_to-k c = search (filling_done, rules)
-
-pub overflow_add-k : goal.overflow_add-k
-overflow_add-k c = search (filling_done, rules)
 
 pub loop-k-smaller : goal.loop-k-smaller
 loop-k-smaller c = search (filling_done, rules)

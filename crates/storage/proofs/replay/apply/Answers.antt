@@ -1,16 +1,10 @@
--- Made by tools/uniform from proofs.txt, not by hand: 043d6939d3661d6c
+-- Made by tools/uniform from proofs.txt, not by hand: 089b71ab6e81078e
 use Rattle.storage.specs.ReplayLaws.{applies}
 use borrow.Author.Rules.{rules}
 use Rattle.storage.proofs.replay.apply.Goals as goal
 
-pub write_at-requires : goal.write_at-requires
-write_at-requires c = search (applies, rules)
-
 pub put_waiting-requires : goal.put_waiting-requires
 put_waiting-requires c = search (applies, rules)
-
-pub truncate-requires : goal.truncate-requires
-truncate-requires c = search (applies, rules)
 
 pub returns-in-HardState : goal.returns-in-HardState
 returns-in-HardState c = search (applies, rules)

@@ -1,16 +1,7 @@
--- Made by tools/uniform from proofs.txt, not by hand: a86fb84629676f39
+-- Made by tools/uniform from proofs.txt, not by hand: 1f62f653c6615e3e
 use Rattle.layout.specs.TableLaws.{checks}
 use borrow.Author.Rules.{rules}
 use Rattle.storage.proofs.waiting.check.Goals as goal
-
-pub overflow_add-w : goal.overflow_add-w
-overflow_add-w c = search (checks, rules)
-
-pub overflow_add-w-2 : goal.overflow_add-w-2
-overflow_add-w-2 c = search (checks, rules)
-
-pub padding-requires : goal.padding-requires
-padding-requires c = search (checks, rules)
 
 pub returns-then-not-padding : goal.returns-then-not-padding
 returns-then-not-padding c = search (checks, rules)

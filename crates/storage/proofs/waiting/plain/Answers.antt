@@ -1,16 +1,10 @@
--- Made by tools/uniform from proofs.txt, not by hand: de169ee959b8a06e
+-- Made by tools/uniform from proofs.txt, not by hand: 9ecc4098da0e90b5
 use Rattle.storage.specs.WaitingLaws.{plains}
 use borrow.Author.Rules.{rules}
 use Rattle.storage.proofs.waiting.plain.Goals as goal
 
-pub returns-then-mark-lt1 : goal.returns-then-mark-lt1
-returns-then-mark-lt1 c = search (plains, rules)
+pub returns-in-0 : goal.returns-in-0
+returns-in-0 c = search (plains, rules)
 
-pub returns-then-mark-lt2 : goal.returns-then-mark-lt2
-returns-then-mark-lt2 c = search (plains, rules)
-
-pub returns-then-mark-lt3 : goal.returns-then-mark-lt3
-returns-then-mark-lt3 c = search (plains, rules)
-
-pub returns-else-mark-lt3 : goal.returns-else-mark-lt3
-returns-else-mark-lt3 c = search (plains, rules)
+pub returns-in_default : goal.returns-in_default
+returns-in_default c = search (plains, rules)

@@ -1,19 +1,16 @@
--- Made by tools/uniform from proofs.txt, not by hand: 557cbfd9c516375c
+-- Made by tools/uniform from proofs.txt, not by hand: 746885729c176180
 use Rattle.storage.specs.WaitingLaws.{shapes}
 use borrow.Author.Rules.{rules}
 use Rattle.storage.proofs.waiting.row_shape.Goals as goal
 
-pub returns-then-mark-lt1 : goal.returns-then-mark-lt1
-returns-then-mark-lt1 c = search (shapes, rules)
+pub returns-in-0 : goal.returns-in-0
+returns-in-0 c = search (shapes, rules)
 
-pub returns-then-mark-lt2 : goal.returns-then-mark-lt2
-returns-then-mark-lt2 c = search (shapes, rules)
+pub returns-in-1 : goal.returns-in-1
+returns-in-1 c = search (shapes, rules)
 
-pub returns-then-mark-lt3 : goal.returns-then-mark-lt3
-returns-then-mark-lt3 c = search (shapes, rules)
+pub returns-in-2 : goal.returns-in-2
+returns-in-2 c = search (shapes, rules)
 
-pub put_shape-requires : goal.put_shape-requires
-put_shape-requires c = search (shapes, rules)
-
-pub returns : goal.returns
-returns c = search (shapes, rules)
+pub returns-in_default : goal.returns-in_default
+returns-in_default c = search (shapes, rules)
