@@ -3,20 +3,17 @@ ghost use Rattle.std.specs.Prelude.{◌≤◌};
 ghost use Rattle.state.specs.Changes.{Inside};
 
 use crate::{accepted, report};
-use layout::marked::Kind;
 use protocol::{Role, Status};
 use state::Capacity;
 use std::io;
-use units::{LogIndex, NodeId, PayloadRef, SimTime, Term};
+use units::{LogIndex, NodeId, PayloadRef, PayloadShape, SimTime, Term};
 
 // The first payload applied at index 1, in order.
 fn applied(area: &mut [u8]) -> bool {
-    let g = state_gate::gate(area);
-    let f = g.capacity;
-    let limits = f.limits;
-    if 0 < g.refusal {
+    let Ok(f) = state_gate::gate(area) else {
         return false;
-    }
+    };
+    let limits = f.limits;
     if f.servers < 1 {
         return false;
     }
@@ -32,7 +29,8 @@ fn first_applied(area: &mut [u8], f: Capacity) -> bool
     requires le_servers { 1 ≤ f.servers }
     requires le_payload { 3 ≤ f.limits.payload }
 {
-    let Ok(asked) = state_asks::apply::apply_asked(area, f, 0, LogIndex(1), 1, b"abc") else {
+    let command = PayloadRef::Command(b"abc");
+    let Ok(asked) = state_asks::apply::apply_asked(area, f, 0, LogIndex(1), command) else {
         return false;
     };
     let next = asked.next;
@@ -44,8 +42,7 @@ fn first_applied(area: &mut [u8], f: Capacity) -> bool
         NodeId(1),
         LogIndex(1),
         expected,
-        1,
-        b"abc",
+        command,
         asked,
     );
     next & (expected == 1) & accepted(area)
@@ -53,34 +50,27 @@ fn first_applied(area: &mut [u8], f: Capacity) -> bool
 
 // It can be read, with its bytes.
 fn applied_read(area: &[u8]) -> bool {
-    let g = state_gate::gate(area);
-    let f = g.capacity;
-    let limits = f.limits;
-    if 0 < g.refusal {
+    let Ok(f) = state_gate::gate(area) else {
         return false;
-    }
+    };
+    let limits = f.limits;
     if 256 < limits.payload {
         return false;
     }
     let mut buffer = [0u8; 256];
     let there = match state_records::read_applied(area, f, LogIndex(1), &mut buffer) {
-        None => false,
-        Some(kind) => match kind {
-            Kind::Noop => false,
-            Kind::Command(n) => n == 3,
-        },
+        Some(PayloadShape::Command { length }) => length == 3,
+        _ => false,
     };
     there & (buffer[2] == 99)
 }
 
 // Another payload at the same index, too late: two violations, and nothing more to keep.
 fn applied_otherwise(area: &mut [u8]) -> bool {
-    let g = state_gate::gate(area);
-    let f = g.capacity;
-    let limits = f.limits;
-    if 0 < g.refusal {
+    let Ok(f) = state_gate::gate(area) else {
         return false;
-    }
+    };
+    let limits = f.limits;
     if f.servers < 2 {
         return false;
     }
@@ -96,7 +86,8 @@ fn other_applied(area: &mut [u8], f: Capacity) -> bool
     requires le_servers { 2 ≤ f.servers }
     requires le_payload { 3 ≤ f.limits.payload }
 {
-    let Ok(asked) = state_asks::apply::apply_asked(area, f, 1, LogIndex(1), 1, b"xyz") else {
+    let command = PayloadRef::Command(b"xyz");
+    let Ok(asked) = state_asks::apply::apply_asked(area, f, 1, LogIndex(1), command) else {
         return false;
     };
     let both = asked.late & asked.other & !asked.next;
@@ -108,8 +99,7 @@ fn other_applied(area: &mut [u8], f: Capacity) -> bool
         NodeId(2),
         LogIndex(1),
         expected,
-        1,
-        b"xyz",
+        command,
         asked,
     );
     both & accepted(area)
@@ -117,11 +107,9 @@ fn other_applied(area: &mut [u8], f: Capacity) -> bool
 
 // The second of them is kept at its place.
 fn violation_read(area: &[u8]) -> bool {
-    let g = state_gate::gate(area);
-    let f = g.capacity;
-    if 0 < g.refusal {
+    let Ok(f) = state_gate::gate(area) else {
         return false;
-    }
+    };
     match state_records::violation_of(area, f, 1) {
         None => false,
         Some(v) => v.time.0 == 8,
@@ -130,11 +118,9 @@ fn violation_read(area: &[u8]) -> bool {
 
 // A leader of a new term, which lacks the applied entry.
 fn status_checked(area: &mut [u8]) -> bool {
-    let g = state_gate::gate(area);
-    let f = g.capacity;
-    if 0 < g.refusal {
+    let Ok(f) = state_gate::gate(area) else {
         return false;
-    }
+    };
     if f.servers < 2 {
         return false;
     }
@@ -144,20 +130,21 @@ fn status_checked(area: &mut [u8]) -> bool {
         leader: None,
         commit_index: LogIndex(0),
     };
-    let asked = state_asks::status::status_asked(area, f, 1, status);
-    let fresh = asked.fresh & asked.lacks & (asked.missing == 1);
+    let Ok(asked) = state_asks::status::status_asked(area, f, 1, status) else {
+        return false;
+    };
+    let fresh =
+        asked.is_some_and(|asked| asked.seen.is_new() & (asked.missing == Some(LogIndex(1))));
     state_checks::acts::on_status_act(area, f, SimTime(9), NodeId(2), status, asked);
     fresh & accepted(area)
 }
 
 // A put of the first server, asked with all writes and then seen by itself.
 fn write_checked(area: &mut [u8]) -> bool {
-    let g = state_gate::gate(area);
-    let f = g.capacity;
-    let limits = f.limits;
-    if 0 < g.refusal {
+    let Ok(f) = state_gate::gate(area) else {
         return false;
-    }
+    };
+    let limits = f.limits;
     if f.servers < 1 {
         return false;
     }
@@ -178,16 +165,15 @@ fn put_seen(area: &mut [u8], f: Capacity) -> bool
     let index = state_asks::writes::written_index(area, f, 0, 0);
     let asked = state_asks::writes::write_asked(area, f, 0, index);
     state_checks::acts::on_write_act(area, f, 0, SimTime(9), index, asked);
-    (put == 0) & (all.code == 0) & (all.added == 1) & (index.0 == 1) & accepted(area)
+    let one = all.is_ok_and(|all| all.added == 1);
+    put.is_ok() & one & (index.0 == 1) & accepted(area)
 }
 
 // The two logs: an entry each, at other indexes.
 fn matching_asked(area: &mut [u8]) -> bool {
-    let g = state_gate::gate(area);
-    let f = g.capacity;
-    if 0 < g.refusal {
+    let Ok(f) = state_gate::gate(area) else {
         return false;
-    }
+    };
     if f.servers < 2 {
         return false;
     }

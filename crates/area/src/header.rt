@@ -8,11 +8,9 @@ use units::SimTime;
 
 // The time.
 fn now_set(area: &mut [u8]) -> bool {
-    let g = state_gate::gate(area);
-    let f = g.capacity;
-    if 0 < g.refusal {
+    let Ok(f) = state_gate::gate(area) else {
         return false;
-    }
+    };
     state_header::set_now(area, f, SimTime(7));
     let run = state_header::run_of(area, f);
     (run.now.0 == 7) & accepted(area)
@@ -20,11 +18,9 @@ fn now_set(area: &mut [u8]) -> bool {
 
 // The generator of clients' choices.
 fn workload_set(area: &mut [u8]) -> bool {
-    let g = state_gate::gate(area);
-    let f = g.capacity;
-    if 0 < g.refusal {
+    let Ok(f) = state_gate::gate(area) else {
         return false;
-    }
+    };
     state_header::set_workload(area, f, Rng { state: 99 });
     let run = state_header::run_of(area, f);
     (run.workload.state == 99) & accepted(area)
@@ -32,11 +28,9 @@ fn workload_set(area: &mut [u8]) -> bool {
 
 // The greatest gaps of a log.
 fn gaps_set(area: &mut [u8]) -> bool {
-    let g = state_gate::gate(area);
-    let f = g.capacity;
-    if 0 < g.refusal {
+    let Ok(f) = state_gate::gate(area) else {
         return false;
-    }
+    };
     state_header::set_max_log_gaps(area, f, 3);
     let run = state_header::run_of(area, f);
     (run.max_log_gaps == 3) & accepted(area)
@@ -44,11 +38,9 @@ fn gaps_set(area: &mut [u8]) -> bool {
 
 // The number of the next direct proposal.
 fn proposal_set(area: &mut [u8]) -> bool {
-    let g = state_gate::gate(area);
-    let f = g.capacity;
-    if 0 < g.refusal {
+    let Ok(f) = state_gate::gate(area) else {
         return false;
-    }
+    };
     state_header::set_direct_seq(area, f, 4);
     let run = state_header::run_of(area, f);
     (run.direct_seq == 4) & accepted(area)
@@ -56,11 +48,9 @@ fn proposal_set(area: &mut [u8]) -> bool {
 
 // The events taken.
 fn events_set(area: &mut [u8]) -> bool {
-    let g = state_gate::gate(area);
-    let f = g.capacity;
-    if 0 < g.refusal {
+    let Ok(f) = state_gate::gate(area) else {
         return false;
-    }
+    };
     state_header::set_events(area, f, 5);
     let run = state_header::run_of(area, f);
     (run.events == 5) & accepted(area)
@@ -68,11 +58,9 @@ fn events_set(area: &mut [u8]) -> bool {
 
 // The network.
 fn network_set(area: &mut [u8]) -> bool {
-    let g = state_gate::gate(area);
-    let f = g.capacity;
-    if 0 < g.refusal {
+    let Ok(f) = state_gate::gate(area) else {
         return false;
-    }
+    };
     let n = state_header::network_of(area, f);
     state_header::set_network(area, f, n.set_loss(50_000));
     let after = state_header::network_of(area, f);
@@ -81,11 +69,9 @@ fn network_set(area: &mut [u8]) -> bool {
 
 // The metrics.
 fn metrics_set(area: &mut [u8]) -> bool {
-    let g = state_gate::gate(area);
-    let f = g.capacity;
-    if 0 < g.refusal {
+    let Ok(f) = state_gate::gate(area) else {
         return false;
-    }
+    };
     let m = state_header::metrics_of(area, f);
     state_header::set_metrics(area, f, m.record_sync(21).unwrap_or(m));
     let after = state_header::metrics_of(area, f);
@@ -94,11 +80,9 @@ fn metrics_set(area: &mut [u8]) -> bool {
 
 // The open input: the start of the first server.
 fn open_set(area: &mut [u8]) -> bool {
-    let g = state_gate::gate(area);
-    let f = g.capacity;
-    if 0 < g.refusal {
+    let Ok(f) = state_gate::gate(area) else {
         return false;
-    }
+    };
     let input = OpenInput {
         phase: 1,
         slot: 0,
@@ -118,11 +102,9 @@ fn open_set(area: &mut [u8]) -> bool {
 
 // The settings and the counts of rows, which are only read.
 fn settings_read(area: &[u8]) -> bool {
-    let g = state_gate::gate(area);
-    let f = g.capacity;
-    if 0 < g.refusal {
+    let Ok(f) = state_gate::gate(area) else {
         return false;
-    }
+    };
     let settings = state_header::settings_of(area, f);
     let counts = state_header::counts_of(area, f);
     (settings.servers == 2) & (settings.command_bytes == 12) & (counts.queue == 0)

@@ -19,8 +19,7 @@ fn report(rt: &impl Print, name: &str, holds: bool) -> io::Result<()> {
 
 // Whether the gate accepts an area.
 fn accepted(area: &[u8]) -> bool {
-    let g = state_gate::gate(area);
-    g.refusal == 0
+    state_gate::gate(area).is_ok()
 }
 
 // Two servers, one client, two log indexes, commands of 12 bytes, messages of 8, four events, two waiting writes, two rows of history.

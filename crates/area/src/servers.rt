@@ -9,15 +9,14 @@ use protocol::{Role, Status};
 use state::{Capacity, ServerState};
 use std::io;
 use storage::HardState;
+use units::refusal::Refusal;
 use units::{LogIndex, NodeId, PayloadRef, Term};
 
 // The state of the second server: it leads term 3.
 fn server_set(area: &mut [u8]) -> bool {
-    let g = state_gate::gate(area);
-    let f = g.capacity;
-    if 0 < g.refusal {
+    let Ok(f) = state_gate::gate(area) else {
         return false;
-    }
+    };
     if f.servers < 2 {
         return false;
     }
@@ -44,11 +43,9 @@ fn server_set(area: &mut [u8]) -> bool {
 
 // The leader of the cluster is the second server.
 fn leader_read(area: &[u8]) -> bool {
-    let g = state_gate::gate(area);
-    let f = g.capacity;
-    if 0 < g.refusal {
+    let Ok(f) = state_gate::gate(area) else {
         return false;
-    }
+    };
     let leader = state_server::leader_of(area, f);
     match leader {
         None => false,
@@ -58,11 +55,9 @@ fn leader_read(area: &[u8]) -> bool {
 
 // Keys registered until the table is full, a known one once more, and all taken out.
 fn keys_set(area: &mut [u8]) -> bool {
-    let g = state_gate::gate(area);
-    let f = g.capacity;
-    if 0 < g.refusal {
+    let Ok(f) = state_gate::gate(area) else {
         return false;
-    }
+    };
     if f.servers < 2 {
         return false;
     }
@@ -86,11 +81,9 @@ fn keys_registered(area: &mut [u8], f: Capacity) -> bool
 
 // One key taken out, then all.
 fn keys_cleared(area: &mut [u8]) -> bool {
-    let g = state_gate::gate(area);
-    let f = g.capacity;
-    if 0 < g.refusal {
+    let Ok(f) = state_gate::gate(area) else {
         return false;
-    }
+    };
     if f.servers < 2 {
         return false;
     }
@@ -104,12 +97,10 @@ fn keys_cleared(area: &mut [u8]) -> bool {
 
 // A hard state and a put fill the waiting writes: a third write is refused and changes nothing.
 fn writes_set(area: &mut [u8]) -> bool {
-    let g = state_gate::gate(area);
-    let f = g.capacity;
-    let limits = f.limits;
-    if 0 < g.refusal {
+    let Ok(f) = state_gate::gate(area) else {
         return false;
-    }
+    };
+    let limits = f.limits;
     if f.servers < 2 {
         return false;
     }
@@ -137,17 +128,15 @@ fn writes_made(area: &mut [u8], f: Capacity) -> bool
     let command = PayloadRef::Command(b"abc");
     let second = state_disk::write_put(area, f, 1, LogIndex(2), Term(3), command);
     let third = state_disk::write_truncate(area, f, 1, LogIndex(1));
-    (first == 0) & (second == 0) & (third == 10) & accepted(area)
+    first.is_ok() & second.is_ok() & matches!(third, Err(Refusal::Room)) & accepted(area)
 }
 
 // What was written can be read before the sync, with the command's bytes.
 fn entry_read(area: &[u8]) -> bool {
-    let g = state_gate::gate(area);
-    let f = g.capacity;
-    let limits = f.limits;
-    if 0 < g.refusal {
+    let Ok(f) = state_gate::gate(area) else {
         return false;
-    }
+    };
+    let limits = f.limits;
     if f.servers < 2 {
         return false;
     }
@@ -163,27 +152,23 @@ fn entry_read(area: &[u8]) -> bool {
 
 // The writes made durable: they tell their bytes, and none waits after it.
 fn synced(area: &mut [u8]) -> bool {
-    let g = state_gate::gate(area);
-    let f = g.capacity;
-    if 0 < g.refusal {
+    let Ok(f) = state_gate::gate(area) else {
         return false;
-    }
+    };
     if f.servers < 2 {
         return false;
     }
     let before = state_disk::unsynced_of(area, f, 1);
     let told = state_disk::sync(area, f, 1);
     let after = state_disk::storage_of(area, f, 1);
-    before.wrote & told.wrote & (before.bytes == told.bytes) & (after.waiting == 0) & accepted(area)
+    before.is_some() & (before == told) & (after.waiting == 0) & accepted(area)
 }
 
 // A truncation, and a crash before its sync: the entry is back.
 fn crashed(area: &mut [u8]) -> bool {
-    let g = state_gate::gate(area);
-    let f = g.capacity;
-    if 0 < g.refusal {
+    let Ok(f) = state_gate::gate(area) else {
         return false;
-    }
+    };
     if f.servers < 2 {
         return false;
     }
@@ -195,11 +180,11 @@ fn entry_back(area: &mut [u8], f: Capacity) -> bool
     requires inside { Inside area.old f }
     requires le_servers { 2 ≤ f.servers }
 {
-    let code = state_disk::write_truncate(area, f, 1, LogIndex(0));
+    let cut = state_disk::write_truncate(area, f, 1, LogIndex(0));
     let empty = state_disk::log_numbers(area, f, 1);
     state_disk::crash(area, f, 1);
     let back = state_disk::log_numbers(area, f, 1);
-    (code == 0) & (empty.count == 0) & (back.count == 1) & accepted(area)
+    cut.is_ok() & (empty.count == 0) & (back.count == 1) & accepted(area)
 }
 
 // The state and the keys.

@@ -15,12 +15,10 @@ use units::{LogIndex, NodeId, SimTime};
 
 // A message at 9 and one at 8: the second leaves first, with its bytes.
 fn events_pushed(area: &mut [u8]) -> bool {
-    let g = state_gate::gate(area);
-    let f = g.capacity;
-    let limits = f.limits;
-    if 0 < g.refusal {
+    let Ok(f) = state_gate::gate(area) else {
         return false;
-    }
+    };
+    let limits = f.limits;
     if limits.message < 2 {
         return false;
     }
@@ -54,12 +52,10 @@ fn first_is(next: Option<Earliest>, time: u64, length: u64) -> bool {
 
 // The first is taken out; the message is then the first, and its bytes are copied.
 fn event_taken(area: &mut [u8]) -> bool {
-    let g = state_gate::gate(area);
-    let f = g.capacity;
-    let limits = f.limits;
-    if 0 < g.refusal {
+    let Ok(f) = state_gate::gate(area) else {
         return false;
-    }
+    };
+    let limits = f.limits;
     if limits.message < 2 {
         return false;
     }
@@ -74,22 +70,18 @@ fn event_taken(area: &mut [u8]) -> bool {
 
 // The clients' first events.
 fn sends_pushed(area: &mut [u8]) -> bool {
-    let g = state_gate::gate(area);
-    let f = g.capacity;
-    if 0 < g.refusal {
+    let Ok(f) = state_gate::gate(area) else {
         return false;
-    }
+    };
     state_queue::push_first_sends(area, f);
     (state_queue::queue_count(area, f) == 2) & accepted(area)
 }
 
 // A client that waits for its command.
 fn client_set(area: &mut [u8]) -> bool {
-    let g = state_gate::gate(area);
-    let f = g.capacity;
-    if 0 < g.refusal {
+    let Ok(f) = state_gate::gate(area) else {
         return false;
-    }
+    };
     if f.clients < 1 {
         return false;
     }
@@ -110,11 +102,9 @@ fn client_set(area: &mut [u8]) -> bool {
 
 // A reply, and none behind it.
 fn reply_appended(area: &mut [u8]) -> bool {
-    let g = state_gate::gate(area);
-    let f = g.capacity;
-    if 0 < g.refusal {
+    let Ok(f) = state_gate::gate(area) else {
         return false;
-    }
+    };
     let reply = Reply {
         sent: SimTime(7),
         received: SimTime(8),
@@ -136,11 +126,9 @@ fn reply_appended(area: &mut [u8]) -> bool {
 
 // A request that was confirmed.
 fn confirmation_appended(area: &mut [u8]) -> bool {
-    let g = state_gate::gate(area);
-    let f = g.capacity;
-    if 0 < g.refusal {
+    let Ok(f) = state_gate::gate(area) else {
         return false;
-    }
+    };
     let confirmed = Confirmation {
         request: RequestId(11),
         read_index: Some(LogIndex(2)),
@@ -155,11 +143,9 @@ fn confirmation_appended(area: &mut [u8]) -> bool {
 
 // The discarded entries of all servers: one, by the truncation before the crash.
 fn discarded_read(area: &[u8]) -> bool {
-    let g = state_gate::gate(area);
-    let f = g.capacity;
-    if 0 < g.refusal {
+    let Ok(f) = state_gate::gate(area) else {
         return false;
-    }
+    };
     let sum = state_records::discarded_of(area, f);
     sum.fits & (sum.value == 1)
 }

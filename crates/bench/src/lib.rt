@@ -69,5 +69,8 @@ pub extern "C" fn bench_truncate(s: &mut [u8], n: usize, p: usize, from: u64) ->
 pub extern "C" fn bench_gate(area: &[u8]) -> u64
     ensures { result ≡ gate area.now }
 {
-    state_gate::gate(area).refusal
+    match state_gate::gate(area) {
+        Ok(_) => 0,
+        Err(refusal) => u64::from(refusal),
+    }
 }

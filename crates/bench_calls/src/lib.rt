@@ -24,7 +24,8 @@ use config::Limits;
 use sim_checks::{durability, matching};
 use sim_direct::asked;
 use sim_outputs::{confirmations, timers};
-use state::{Capacity, Gate};
+use state::Capacity;
+use units::refusal::Refusal;
 
 // The counts of an area that the gate let through.
 #[repr(C)]
@@ -41,7 +42,7 @@ pub struct CountsNumbers {
 }
 
 // What the gate answered of it.
-fn gate_given(n: CountsNumbers) -> Gate
+fn gate_given(n: CountsNumbers) -> Result<Capacity, Refusal>
     ensures { result ≡ gate_given n }
 {
     let limits = Limits {
@@ -52,14 +53,11 @@ fn gate_given(n: CountsNumbers) -> Gate
         writes: n.writes,
         history: n.history,
     };
-    Gate {
-        refusal: 0,
-        capacity: Capacity {
-            servers: n.servers,
-            clients: n.clients,
-            limits,
-        },
-    }
+    Ok(Capacity {
+        servers: n.servers,
+        clients: n.clients,
+        limits,
+    })
 }
 
 // A simulation begins: a start has no gate.

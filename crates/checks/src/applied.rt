@@ -18,7 +18,7 @@ pub enum AppliedSeen {
 }
 
 impl AppliedSeen {
-    // Whether another payload was applied there.
+    // Whether another payload was applied there. As `is_next`, the enum's own test, which its definition names and the laws of on_apply cite.
     pub fn is_other(self) -> bool
         ensures { result ≡ is_other self }
     {

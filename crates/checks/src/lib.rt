@@ -62,7 +62,8 @@ pub enum Compared<T> {
 }
 
 impl<T: Copy> Compared<T> {
-    // Whether another was seen first.
+    // Whether another was seen first. As `is_new`, the enum's own test, which its definition names and the laws of every check cite; it turns
+    // nothing into a number.
     pub fn is_other(self) -> bool
         ensures { result ≡ is_other self }
     {

@@ -1,9 +1,7 @@
 -- What the proof of check_durability cites. Assumes nothing.
-use Rattle.std.specs.Prelude.{◌≡◌, refl, Bool, not, List, [], ◌∷◌, ℕ, suc, ◌+◌, ◌-◌, ◌^◌, ◌≤◌, ◌<◌, ltb}
+use Rattle.std.specs.Prelude.{◌≡◌, refl, Bool, not, List, [], ◌∷◌, ℕ, suc, ◌+◌, ◌-◌, ltb}
 use Rattle.std.proofs.Math.Path.{sym}
-use Rattle.std.proofs.Common.{ap, ◌∙◌, arith, Fits, lt-ltb, le-ltb}
-use Rattle.std.specs.Int.{w64}
-use Rattle.laws.specs.Bools.{pick}
+use Rattle.std.proofs.Common.{ap, ◌∙◌, arith, le-ltb}
 use Rattle.laws.specs.Lists.{at}
 use Rattle.units.specs.declared.SimTime.{SimTime}
 use Rattle.checks.specs.declared.Check.TheVariants.{Durability}
@@ -11,7 +9,11 @@ use Rattle.checks.specs.Checks.{Checker, Acknowledged, is_payload, report_if, ch
 use Rattle.checks.specs.Reports.{total_if, applied_if_lem}
 use Rattle.checks_durability.specs.Acknowledged.{acknowledged_from, place_of, missing, CountsMissing, Highest}
 use Rattle.checks_durability.specs.Servers.{servers_from, below, CountsBelow}
-use Rattle.checks_durability.specs.Durability.{total_code, AsksDurability}
+use Rattle.checks_durability.specs.Durability.{AsksDurability}
+use Rattle.checks_durability.specs.declared.DurabilityAsked.{DurabilityAsked}
+use Rattle.checks.specs.Asked.{where_fits}
+use Rattle.std.specs.declared.result.Result.{Result}
+use Rattle.units.specs.declared.refusal.Refusal.{Refusal}
 
 -- ---- totals
 
@@ -40,23 +42,13 @@ total_servers c time highest id (k ∷ x) =
 
 -- ---- check_durability: what is missing, the highest index and the servers below it
 
-module _ (total more : ℕ) where
-  pub total_past : 18446744073709551615 - more < total → 10 ≡ total_code (total + more)
-  unfolding total_code
-  total_past h = sym (ap (λ (b : Bool). pick b 0 10) (le-ltb (total + more) (2 ^ 64) (omega arith)))
-
-  pub total_fits : Fits w64 more → total ≤ 18446744073709551615 - more → 0 ≡ total_code (total + more)
-  unfolding total_code
-  total_fits f h = sym (ap (λ (b : Bool). pick b 0 10) (lt-ltb (total + more) (2 ^ 64) (omega arith)))
-
-pub ruleset total_codes = (total_past, total_fits)
-
-pub durability_asked : (p size n m : ℕ) (up_to : List ℕ) (total : ℕ) (s a : List ℕ) (lost top few code : ℕ)
+pub durability_asked : (p size n m : ℕ) (up_to : List ℕ) (total : ℕ) (s a : List ℕ) (lost top few : ℕ) (r : Result DurabilityAsked Refusal)
     → CountsMissing p size n m lost s a → Highest n top s → CountsBelow top up_to few
-    → code ≡ total_code (total + (lost + few))
-    → AsksDurability p size n m up_to total (record { code = code; reports = lost + few; highest = top }) s a
+    → r ≡ where_fits 0 0 (total + (lost + few)) (record { reports = lost + few; highest = top })
+    → AsksDurability p size n m up_to total r s a
 unfolding check_durability
-durability_asked p size n m up_to total s a lost top few code cm ht cb e = record {
+durability_asked p size n m up_to total s a lost top few r cm ht cb e = record {
+  asked = record { reports = lost + few; highest = top };
   to = λ N x c time h g t.
       let acks : List Acknowledged = acknowledged_from size x in
       let few-is : few ≡ below (highest_of acks) up_to = cb.is ∙ ap (λ (k : ℕ). below k up_to) (ht.to size x h) in
@@ -67,7 +59,8 @@ durability_asked p size n m up_to total s a lost top few code cm ht cb e = recor
         total_acknowledged c time acks,
         cm.to N x c.applied h g,
       ) in
-      record { code = e ∙ ap total_code (sym sum); counted = omega (arith, sum); highest = ht.to size x h };
+      let asked : DurabilityAsked = record { reports = lost + few; highest = top } in
+      record { is = e ∙ ap (λ (k : ℕ). where_fits 0 0 k asked) (sym sum); counted = omega (arith, sum); highest = ht.to size x h };
 }
 
 -- ---- the replies, and then the servers

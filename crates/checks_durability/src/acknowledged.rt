@@ -36,7 +36,8 @@ fn rebuild(reply: Reply, size: usize, content: &mut [u8])
     words::fill_zero(content, 8 + n, end);
 }
 
-// Whether a payload's row is that of a reply's command, which is rebuilt in `content`.
+// Whether a payload's row is that of a reply's command, which is rebuilt in `content`: rows are compared as bytes, and no value is made whose
+// `==` could be derived.
 #[tactic(auto, using(crate::specs::AcknowledgedLaws::command_compared))]
 fn is_command(row: &[u8], reply: Reply, p: usize, size: usize, content: &mut [u8]) -> bool
     requires le_p { 12 ≤ p }

@@ -4,31 +4,23 @@
 
 ghost use Rattle.std.specs.Prelude.{◌≡◌, ◌+◌, ◌*◌, ◌≤◌, length, take};
 ghost use Rattle.layout.specs.Marked.{words_for};
-ghost use Rattle.checks_durability.specs.Durability.{total_code, AsksDurability};
+ghost use Rattle.checks_durability.specs.Durability.{AsksDurability};
+
+use units::refusal::Refusal;
 
 pub mod replies; // the commands whose replies reached their clients: a table in order of arrival
 pub mod acknowledged; // the acknowledged commands against the applied payloads
 pub mod servers; // the servers against the highest acknowledged index
 
-// The answer to the question: document 01's number, 0, or 10 where the total of violations would not fit 64 bits; how many violations are
-// to be reported; and the highest acknowledged index, or 0.
+// The answer to the question: how many violations are to be reported, and the highest acknowledged index, or 0.
 #[derive(Clone, Copy)]
 pub struct DurabilityAsked {
-    pub code: u64,
     pub reports: u64,
     pub highest: u64,
 }
 
-// Document 01's number where so many more violations are reported: 10 where the total would not fit 64 bits.
-#[tactic(auto, using(crate::specs::DurabilityLaws::total_codes))]
-fn total_code(total: u64, more: u64) -> u64
-    ensures { result ≡ total_code (total + more) }
-{
-    if u64::MAX - more < total { 10 } else { 0 }
-}
-
 // Asks whether every server has applied every acknowledged command, before anything is reported: n replies in s, m payloads in a, and how
-// far each of the servers has applied.
+// far each of the servers has applied. Question 10 where the total of violations would have no 64 bits.
 #[tactic(auto, using(crate::specs::DurabilityLaws::durability_asked))]
 pub fn check_durability(
     s: &[u8],
@@ -40,7 +32,7 @@ pub fn check_durability(
     up_to: [u64; 8],
     servers: usize,
     total: u64,
-) -> DurabilityAsked
+) -> Result<DurabilityAsked, Refusal>
     requires le_p { 12 ≤ p }
     requires p_bound { p ≤ 256 }
     requires size_le_p { size ≤ p }
@@ -52,10 +44,6 @@ pub fn check_durability(
     let missing = acknowledged::count_missing(s, n, a, m, p, size);
     let highest = acknowledged::highest(s, n);
     let reports = missing + servers::count_below(&up_to[..servers], highest);
-    let code = total_code(total, reports);
-    DurabilityAsked {
-        code,
-        reports,
-        highest,
-    }
+    let asked = DurabilityAsked { reports, highest };
+    checks::where_fits(0, 0, total, reports, asked)
 }

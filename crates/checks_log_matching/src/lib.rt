@@ -15,7 +15,7 @@ pub mod pairs; // every pair of logs, and mismatches reported
 
 // ---- one index
 
-// The one term of two, if they are the same.
+// The one term of two, if they are the same: the comparison is the derived one, and the definition `same_term` is what the pair gives.
 #[tactic(auto, unfolding(crate::specs::Matching::same_term))]
 fn same_term(x: Option<Term>, y: Option<Term>) -> Option<Term>
     ensures { result ≡ same_term x y }
@@ -33,7 +33,8 @@ fn shared_term(a: &[u8], b: &[u8], n: usize, p: usize, index: LogIndex) -> Optio
     same_term(x, y)
 }
 
-// Whether both logs hold the same entry at an index, or neither holds one. Each value has one content, so two rows are compared as bytes.
+// Whether both logs hold the same entry at an index, or neither holds one. Each value has one content, so two rows are compared as bytes:
+// no value is made, whose `==` could be derived.
 fn same_entry(a: &[u8], b: &[u8], n: usize, p: usize, index: LogIndex) -> bool
     requires { (1 ≤ index.0) × (index.0 ≤ n) × (p ≤ 256) × (8 * (n * (2 + words_for p)) ≤ length a.now) × (8 * (n * (2 + words_for p)) ≤ length b.now) }
     ensures { Compares p n a.now b.now result (same_entry_at index.0) }

@@ -1,7 +1,12 @@
 -- A server's status after an input (on_status): what the question answers, over the regions of leaders, of a log and of applied payloads.
 -- Assumes nothing.
 use Rattle.std.specs.Prelude.{◌≡◌, Bool, true, List, [], ◌∷◌, ℕ, suc, length, get_or, Option, None, Some}
+use Rattle.std.proofs.Common.{Fits}
+use Rattle.std.specs.Int.{w64}
+use Rattle.std.specs.declared.result.Result.{Result}
+use Rattle.units.specs.declared.refusal.Refusal.{Refusal}
 use Rattle.laws.specs.Bools.{pick}
+use Rattle.laws.specs.Lists.{is_some}
 use Rattle.laws.specs.Order.{numbers, lookup}
 use Rattle.units.specs.Types.{Payload, noop}
 use Rattle.units.specs.declared.LogIndex.{LogIndex}
@@ -15,7 +20,8 @@ use Rattle.raft_log.specs.Log.{Log, entry_at}
 use Rattle.raft_log.specs.Places.{places as logPlaces}
 use Rattle.checks.specs.declared.Check.TheVariants.{ElectionSafety, LeaderCompleteness}
 use Rattle.checks.specs.Checks.{Checker, Led, report_if, leader_key, compare_leader, holds, first_missing, report_missing, on_status}
-use Rattle.checks.specs.Asked.{counts_code, insert_leader_if}
+use Rattle.checks.specs.Asked.{where_fits, insert_leader_if}
+use Rattle.checks.specs.Compared.{is_other, is_new, first_of}
 use Rattle.checks.specs.Leaders.{leaders as leaderTable}
 use Rattle.checks_on_status.specs.declared.StatusAsked.{StatusAsked}
 
@@ -43,33 +49,42 @@ pub record AsksMissing (asked : Bool) (p l m : ℕ) (r : Option LogIndex) (b a :
 
 -- ---- a leader
 
--- The flags of an answer, acted on in the order of the definition.
-abbrev pub status_acts : StatusAsked → Checker → SimTime → NodeId → Term → Checker
-status_acts r c time server term =
-    report_if r.lacks
-    (insert_leader_if r.fresh (record { term = term; server = server })
-    (report_if r.other c time ElectionSafety (r.first ∷ server.0 ∷ term.0 ∷ [])))
-    time LeaderCompleteness (server.0 ∷ term.0 ∷ r.missing ∷ [])
+-- An answer about a leader, acted on in the order of the definition.
+abbrev pub leader_acts : StatusAsked → Checker → SimTime → NodeId → Term → Checker
+leader_acts r c time server term =
+    report_if (is_some r.missing)
+    (insert_leader_if (is_new r.seen) (record { term = term; server = server })
+    (report_if (is_other r.seen) c time ElectionSafety (first_of r.seen ∷ server.0 ∷ term.0 ∷ [])))
+    time LeaderCompleteness (server.0 ∷ term.0 ∷ number_of r.missing ∷ [])
+
+-- The same where the server may not lead: then nothing is done.
+abbrev pub status_acts : Option StatusAsked → Checker → SimTime → NodeId → Term → Checker
+status_acts None c time server term = c
+status_acts (Some r) c time server term = leader_acts r c time server term
 
 -- The checks where a server leads a term and an index may be missing in its log: the first leader of the term, and then the index.
 abbrev pub leader_checked : Option LogIndex → Checker → SimTime → NodeId → Term → Checker
 leader_checked missing c time server term = report_missing missing
     (compare_leader (lookup numbers leader_key term.0 c.leaders) c time server term) time server term
 
--- The answer about a leader for given checks: its code, what its flags do, and that a leader to be kept is the first of its term.
-pub record LeadingAnswered (room : ℕ) (server : NodeId) (term : Term) (missing : Option LogIndex) (r : StatusAsked) (c : Checker)
-    (time : SimTime) : Type 0 where
-  pub code : r.code
-      ≡ counts_code (length (leader_checked missing c time server term).leaders) room
-      (leader_checked missing c time server term).total
-  pub does : leader_checked missing c time server term ≡ status_acts r c time server term
-  pub absent : r.fresh ≡ true → lookup numbers leader_key term.0 c.leaders ≡ None
-  pub leads : r.leads ≡ true
+-- The answer about a leader for given checks: where what the definition gives has room, it says what that does, also where it has none; and a
+-- leader to be kept is the first of its term.
+pub record LeadingAnswered (room : ℕ) (server : NodeId) (term : Term) (missing : Option LogIndex) (r : Result (Option StatusAsked) Refusal)
+    (asked : StatusAsked) (c : Checker) (time : SimTime) : Type 0 where
+  pub is : r
+      ≡ where_fits (length (leader_checked missing c time server term).leaders) room
+      (leader_checked missing c time server term).total (Some asked)
+  pub does : leader_checked missing c time server term ≡ leader_acts asked c time server term
+  pub absent : is_new asked.seen ≡ true → lookup numbers leader_key term.0 c.leaders ≡ None
 
--- The same whatever the checks are whose n leaders b holds, and whose total is given.
-pub record AsksLeading (b : List ℕ) (n room total : ℕ) (server : NodeId) (term : Term) (missing : Option LogIndex) (r : StatusAsked) : Type 0 where
+-- The same whatever the checks are whose n leaders b holds, and whose total is given. The numbers of its text fit 64 bits.
+pub record AsksLeading (b : List ℕ) (n room total : ℕ) (server : NodeId) (term : Term) (missing : Option LogIndex)
+    (r : Result (Option StatusAsked) Refusal) : Type 0 where
+  pub asked : StatusAsked
+  pub first_fits : Fits w64 (first_of asked.seen)
+  pub missing_fits : Fits w64 (number_of asked.missing)
   pub to : (S N : ℕ) (c : Checker) (time : SimTime) → Held (leaderTable S) N n b c.leaders → c.total ≡ total
-      → LeadingAnswered room server term missing r c time
+      → LeadingAnswered room server term missing r asked c time
 
 -- ---- status
 
@@ -95,21 +110,24 @@ pub record StatusGiven : Type 0 where
 abbrev pub status_of : StatusGiven → Checker → SimTime → Log → Led
 status_of g c time log = on_status g.raft_checks c time g.server g.status log g.leading
 
--- The answer for given checks: its code is that of what the unlimited definition gives; its flags say what that does, and whether the
--- server
--- leads its term; and a leader to be kept is the first of its term.
-pub record StatusAnswered (g : StatusGiven) (r : StatusAsked) (c : Checker) (time : SimTime) (log : Log) : Type 0 where
-  pub code : r.code ≡ counts_code (length (status_of g c time log).checker.leaders) g.room (status_of g c time log).checker.total
-  pub does : (status_of g c time log).checker ≡ status_acts r c time g.server g.status.term
-  pub led : (status_of g c time log).leading ≡ pick r.leads (Some g.status.term) None
-  pub absent : r.fresh ≡ true → lookup numbers leader_key g.status.term.0 c.leaders ≡ None
+-- The answer for given checks: where what the unlimited definition gives has room, it says what that does, also where it has none, and whether
+-- the server leads its term; and a leader to be kept is the first of its term.
+pub record StatusAnswered (g : StatusGiven) (r : Result (Option StatusAsked) Refusal) (asked : Option StatusAsked) (c : Checker)
+    (time : SimTime) (log : Log) : Type 0 where
+  pub is : r ≡ where_fits (length (status_of g c time log).checker.leaders) g.room (status_of g c time log).checker.total asked
+  pub does : (status_of g c time log).checker ≡ status_acts asked c time g.server g.status.term
+  pub led : (status_of g c time log).leading ≡ pick (is_some asked) (Some g.status.term) None
+  pub absent : (x : StatusAsked) → asked ≡ Some x → is_new x.seen ≡ true → lookup numbers leader_key g.status.term.0 c.leaders ≡ None
 
--- The same whatever the checks are whose leaders, payloads and total are given, and whatever log.
-pub record AsksStatus (g : StatusGiven) (r : StatusAsked) : Type 0 where
+-- The same whatever the checks are whose leaders, payloads and total are given, and whatever log. The numbers of its text fit 64 bits.
+pub record AsksStatus (g : StatusGiven) (r : Result (Option StatusAsked) Refusal) : Type 0 where
+  pub asked : Option StatusAsked
+  pub first_fits : (x : StatusAsked) → asked ≡ Some x → Fits w64 (first_of x.seen)
+  pub missing_fits : (x : StatusAsked) → asked ≡ Some x → Fits w64 (number_of x.missing)
   pub to : (S N L A : ℕ) (c : Checker) (time : SimTime) (log : Log) → Held (leaderTable S) N g.count g.leaders c.leaders
       → c.total ≡ g.total
       → Held (logPlaces g.longest) L g.places g.log log
-      → Held (payloads g.longest) A g.applied_count g.applied c.applied → StatusAnswered g r c time log
+      → Held (payloads g.longest) A g.applied_count g.applied c.applied → StatusAnswered g r asked c time log
 
 -- A server that stops leads no term (on_stop).
 abbrev pub on_stop : Option Term

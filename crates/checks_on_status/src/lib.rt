@@ -8,22 +8,18 @@ ghost use Rattle.layout.specs.Marked.{words_for};
 ghost use Rattle.checks.specs.Checks.{already_leads};
 ghost use Rattle.checks_on_status.specs.OnStatus.{HoldsApplied, FindsMissing, AsksMissing, AsksLeading, AsksStatus, number_of, on_stop};
 
-use checks::{leaders, violations};
+use checks::{Compared, leaders, violations};
 use layout::rows;
 use protocol::Status;
+use units::refusal::Refusal;
 use units::{LogIndex, NodeId, Term};
 
-// 0, or 10 where the leaders have no room or the total no 64 bits; whether the server leads; whether another led its term first, and which,
-// or 0; whether it is the term's first leader; whether its log lacks an applied payload, and the first index at which it does, or 0.
+// What the status of a server that leads gives: the server against the first seen to lead its term, and the first index at which its log
+// lacks the applied payload, if it does.
 #[derive(Clone, Copy)]
 pub struct StatusAsked {
-    pub code: u64,
-    pub leads: bool,
-    pub other: bool,
-    pub first: u64,
-    pub fresh: bool,
-    pub lacks: bool,
-    pub missing: u64,
+    pub seen: Compared<NodeId>,
+    pub missing: Option<LogIndex>,
 }
 
 // ---- leader completeness
@@ -98,7 +94,7 @@ fn already_leads(leading: Option<Term>, term: Term) -> bool
 }
 
 // The number of an index that may be missing, or 0.
-fn number_of(missing: Option<LogIndex>) -> u64
+pub fn number_of(missing: Option<LogIndex>) -> u64
     ensures { result ≡ number_of missing }
 {
     missing.map_or(0, |index| index.0)
@@ -113,30 +109,21 @@ fn leader_asked(
     server: NodeId,
     term: Term,
     missing: Option<LogIndex>,
-) -> StatusAsked
+) -> Result<Option<StatusAsked>, Refusal>
     requires { 8 * (n * 2) ≤ length leaders.now }
     ensures { AsksLeading leaders.now n room total server term missing result }
 {
     let seen = leaders::ask(leaders, n, server, term);
     let other = seen.is_other();
-    let first = seen.first();
     let fresh = seen.is_new();
     let lacks = missing.is_some();
     let rows = n as u64 + violations::one_if(fresh);
     let reports = violations::one_if(other) + violations::one_if(lacks);
-    let code = checks::counts_code(rows, room, total, reports);
-    StatusAsked {
-        code,
-        leads: true,
-        other,
-        first,
-        fresh,
-        lacks,
-        missing: number_of(missing),
-    }
+    let asked = StatusAsked { seen, missing };
+    checks::where_fits(rows, room, total, reports, Some(asked))
 }
 
-// What a server's status gives to report and to keep.
+// What a server's status gives to report and to keep, where it leads; question 10 where the leaders have no room or the total no 64 bits.
 // (d) The regions and their counts come one by one: each is used once, and a struct of them would be made for this call alone.
 pub fn on_status(
     raft_checks: bool,
@@ -152,7 +139,7 @@ pub fn on_status(
     applied: &[u8],
     m: usize,
     leading: Option<Term>,
-) -> StatusAsked
+) -> Result<Option<StatusAsked>, Refusal>
     requires p_bound { p ≤ 256 }
     requires n_in_bounds { 8 * (n * 2) ≤ length leaders.now }
     requires p_in_bounds { 8 * (l * (2 + words_for p)) ≤ length log.now }
@@ -175,15 +162,7 @@ pub fn on_status(
         }) result }
 {
     if !status.role.leads() {
-        return StatusAsked {
-            code: checks::counts_code(n as u64, room, total, 0),
-            leads: false,
-            other: false,
-            first: 0,
-            fresh: false,
-            lacks: false,
-            missing: 0,
-        };
+        return checks::where_fits(n as u64, room, total, 0, None);
     }
     let term = status.term;
     let asked = raft_checks & !already_leads(leading, term);

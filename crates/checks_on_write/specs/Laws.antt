@@ -1,8 +1,7 @@
 -- What the proofs of one index cite. Assumes nothing.
-use Rattle.std.proofs.Math.Path.{◌≡◌, refl, ap, ap₂}
+use Rattle.std.proofs.Math.Path.{◌≡◌, refl, ap}
 use Rattle.std.proofs.Common.{sym, inl, inr, ◌∙◌, arith}
-use Rattle.std.specs.Prelude.{◌⊎◌, Bool, true, ℕ, ◌+◌, ◌-◌, ◌*◌, ◌≤◌, ◌<◌, Option, None, Some}
-use Rattle.std.proofs.Math.Bool.{false}
+use Rattle.std.specs.Prelude.{◌⊎◌, true, ℕ, ◌+◌, ◌-◌, ◌*◌, ◌≤◌, ◌<◌, Option, None, Some}
 use mathlib.Core.List.{List, [], ◌∷◌}
 use Rattle.laws.specs.Decides.{false_true}
 use Rattle.laws.specs.Order.{pairs, lookup}
@@ -22,6 +21,7 @@ use Rattle.raft_log.specs.Laws.{at_zero, at_past}
 use Rattle.raft_log.specs.Payloads.{entry_place, place_start, entry_held, place_term}
 use Rattle.checks.specs.declared.Check.TheVariants.{UniqueEntries}
 use Rattle.checks.specs.declared.Compared.{Compared}
+use Rattle.checks.specs.declared.Compared.TheVariants.{Same}
 use Rattle.checks.specs.Compared.{is_other, is_new}
 use Rattle.checks.specs.Checks.{Checker, Seen, seen_key, report_if, written_entry, on_write, on_writes}
 use Rattle.checks.specs.Asked.{insert_seen_if}
@@ -54,12 +54,12 @@ pub ruleset term_reads = (term_none, term_read)
 
 module _ {p l : ℕ} {index : LogIndex} {b : List ℕ} {r : Option Term} (q : ReadsTerm p l index.0 r b) where
   pub write_none : {n : ℕ} {s : List ℕ} → r ≡ None
-      → AsksWrite p n l index (record { term = record { 0 = 0 }; other = false; fresh = false }) s b
+      → AsksWrite p n l index (record { term = record { 0 = 0 }; seen = Same }) s b
   unfolding write_asked
   write_none e = record { to = λ N L xs log h k. by xs (entry_at log index.0) (sym e ∙ q.to L log k) }
     where
       by : (xs : List Seen) (o : Option Entry) → None ≡ entry_term o
-          → record { term = record { 0 = 0 }; other = false; fresh = false } ≡ write_asked o index xs
+          → record { term = record { 0 = 0 }; seen = Same } ≡ write_asked o index xs
       by xs None e = refl
       by xs (Some d) e = absurd cc
 
@@ -70,24 +70,24 @@ module _ {p l : ℕ} {index : LogIndex} {b : List ℕ} {r : Option Term} (q : Re
     pub term_high : index.0 - 1 < l
     term_high = omega (arith, q.low term e, q.high term e)
 
-    pub write_some : {n at : ℕ} {s : List ℕ} {answer : Compared (Unit {0})} {other fresh : Bool} → at ≡ (index.0 - 1) * (1 + words_for p + 1)
+    pub write_some : {n at : ℕ} {s : List ℕ} {answer : Compared (Unit {0})} → at ≡ (index.0 - 1) * (1 + words_for p + 1)
         → AsksSeen p index term (lent_row at (1 + words_for p) b) n answer s
-        → other ≡ is_other answer → fresh ≡ is_new answer → AsksWrite p n l index (record { term = term; other = other; fresh = fresh }) s b
+        → AsksWrite p n l index (record { term = term; seen = answer }) s b
     unfolding write_asked
-    write_some {n} {at} {s} {answer} {other} {fresh} ea w eo ef = record {
+    write_some {n} {at} {s} {answer} ea w = record {
       to = λ N L xs log h k. by N L xs log h k (entry_at log index.0) refl (sym e ∙ q.to L log k);
     }
       where
         by : (N L : ℕ) (xs : List Seen) (log : Log) → Held (seen p) N n s xs → Held (places p) L l b log → (o : Option Entry)
             → entry_at log index.0 ≡ o → Some term ≡ entry_term o
-            → record { term = term; other = other; fresh = fresh } ≡ write_asked o index xs
+            → record { term = term; seen = answer } ≡ write_asked o index xs
         by N L xs log h k None en et = absurd cc
         by N L xs log h k (Some d) en et =
             let same : term ≡ d.term = cc in
             let x : Holds (payload p) (lent_row at (1 + words_for p) b) d.payload =
             entry_held p l k (index.0 - 1) at term_high (place_start p (index.0 - 1) at ea) d (sym (entry_place log index.0 term_low)
             ∙ en) in
-            ap₂ (λ (i j : Bool). record { term = term; other = i; fresh = j }) eo ef ∙ ap (asked_by term) (w.to N xs d.payload x h)
+            ap (asked_by term) (w.to N xs d.payload x h)
             ∙ ap (λ (t : Term). asked_by t (entry_seen (lookup pairs seen_key (index.0, t.0) xs) d.payload)) same
 
 -- ---- what the answer does
@@ -99,8 +99,8 @@ module _ (time : SimTime) (server : NodeId) (log : Log) (index : LogIndex) where
   write_does c = by (entry_at log index.0)
     where
       by : (o : Option Entry) → (let r = write_asked o index c.entries in
-          written_entry o c time server index ≡ insert_seen_if r.fresh (record { index = index; term = r.term; payload = payload_of o })
-          (report_if r.other c time UniqueEntries (server.0 ∷ index.0 ∷ r.term.0 ∷ [])))
+          written_entry o c time server index ≡ insert_seen_if (is_new r.seen) (record { index = index; term = r.term; payload = payload_of o })
+          (report_if (is_other r.seen) c time UniqueEntries (server.0 ∷ index.0 ∷ r.term.0 ∷ [])))
       by None = refl
       by (Some e) = entry_after_lem (lookup pairs seen_key (index.0, e.term.0) c.entries) c time server index e
 
@@ -113,10 +113,10 @@ module _ (time : SimTime) (server : NodeId) (log : Log) (index : LogIndex) where
       ∙ ap (λ (a : WriteAsked). write_acts a c time server log index) (sym e))
 
 -- an entry that is new was not there
-pub write_absent : (o : Option Entry) (index : LogIndex) (xs : List Seen) (r : WriteAsked) → r ≡ write_asked o index xs → r.fresh ≡ true
+pub write_absent : (o : Option Entry) (index : LogIndex) (xs : List Seen) (r : WriteAsked) → r ≡ write_asked o index xs → is_new r.seen ≡ true
     → lookup pairs seen_key (index.0, r.term.0) xs ≡ None
 unfolding write_asked
-write_absent None index xs r e t = absurd (false_true (sym (ap (λ (a : WriteAsked). a.fresh) e) ∙ t))
+write_absent None index xs r e t = absurd (false_true (sym (ap (λ (a : WriteAsked). is_new a.seen) e) ∙ t))
 write_absent (Some d) index xs r e t =
     ap (λ (a : WriteAsked). lookup pairs seen_key (index.0, a.term.0) xs) e
-    ∙ entry_absent (lookup pairs seen_key (index.0, d.term.0) xs) d.payload (sym (ap (λ (a : WriteAsked). a.fresh) e) ∙ t)
+    ∙ entry_absent (lookup pairs seen_key (index.0, d.term.0) xs) d.payload (sym (ap (λ (a : WriteAsked). is_new a.seen) e) ∙ t)

@@ -1,5 +1,5 @@
 -- A server has written at an index (on_write): what the question answers, over the regions of entries seen and of a log. Assumes nothing.
-use Rattle.std.specs.Prelude.{◌≡◌, false, List, [], ◌∷◌, ℕ, ◌≤◌, Option, None, Some}
+use Rattle.std.specs.Prelude.{◌≡◌, List, [], ◌∷◌, ℕ, ◌≤◌, Option, None, Some}
 use Rattle.laws.specs.Order.{pairs, lookup}
 use Rattle.units.specs.Types.{Payload, noop, Entry}
 use Rattle.units.specs.declared.NodeId.{NodeId}
@@ -11,6 +11,7 @@ use Rattle.raft_log.specs.Log.{Log, entry_at}
 use Rattle.raft_log.specs.Places.{places, entry_term}
 use Rattle.checks.specs.declared.Check.TheVariants.{UniqueEntries}
 use Rattle.checks.specs.declared.Compared.{Compared}
+use Rattle.checks.specs.declared.Compared.TheVariants.{Same}
 use Rattle.checks.specs.Compared.{is_other, is_new}
 use Rattle.checks.specs.Checks.{Checker, Seen, seen_key, report_if}
 use Rattle.checks.specs.Asked.{insert_seen_if}
@@ -25,11 +26,11 @@ pub record ReadsTerm (p l i : ℕ) (r : Option Term) (b : List ℕ) : Type 0 whe
 
 -- The answer about an entry by what it is against the first seen.
 abbrev pub asked_by : Term → Compared (Unit {0}) → WriteAsked
-asked_by term r = record { term = term; other = is_other r; fresh = is_new r }
+asked_by term r = record { term = term; seen = r }
 
 -- The answer about what stands at an index, against the entries seen.
 unfoldable pub write_asked : Option Entry → LogIndex → List Seen → WriteAsked
-write_asked None index xs = record { term = record { 0 = 0 }; other = false; fresh = false }
+write_asked None index xs = asked_by (record { 0 = 0 }) Same
 write_asked (Some e) index xs = asked_by e.term (entry_seen (lookup pairs seen_key (index.0, e.term.0) xs) e.payload)
 
 -- The payload of an entry, or a noop where there is none.
@@ -37,11 +38,11 @@ abbrev pub payload_of : Option Entry → Payload
 payload_of None = noop
 payload_of (Some e) = e.payload
 
--- The flags of an answer, acted on in the order of the definition.
+-- An answer, acted on in the order of the definition.
 abbrev pub write_acts : WriteAsked → Checker → SimTime → NodeId → Log → LogIndex → Checker
 write_acts r c time server log index =
-    insert_seen_if r.fresh (record { index = index; term = r.term; payload = payload_of (entry_at log index.0) })
-    (report_if r.other c time UniqueEntries (server.0 ∷ index.0 ∷ r.term.0 ∷ []))
+    insert_seen_if (is_new r.seen) (record { index = index; term = r.term; payload = payload_of (entry_at log index.0) })
+    (report_if (is_other r.seen) c time UniqueEntries (server.0 ∷ index.0 ∷ r.term.0 ∷ []))
 
 -- A written index was asked: the answer, whatever n entries s holds, and whatever log of l places b holds.
 pub record AsksWrite (p n l : ℕ) (index : LogIndex) (r : WriteAsked) (s b : List ℕ) : Type 0 where

@@ -1,6 +1,8 @@
 -- A server has written at several indexes (onWrites): what the question before a sync answers, over the waiting writes, a log and the
 -- entries seen. Assumes nothing.
 use Rattle.std.specs.Prelude.{◌≡◌, List, ℕ, ◌+◌, ◌-◌, ◌≤◌, ◌<◌, length, get_or}
+use Rattle.std.specs.declared.result.Result.{Result}
+use Rattle.units.specs.declared.refusal.Refusal.{Refusal}
 use Rattle.units.specs.declared.NodeId.{NodeId}
 use Rattle.units.specs.declared.LogIndex.{LogIndex}
 use Rattle.units.specs.declared.SimTime.{SimTime}
@@ -10,7 +12,7 @@ use Rattle.raft_log.specs.Places.{places as logPlaces}
 use Rattle.storage.specs.Storage.{Write, write_hard_state, write_put, write_truncate, written}
 use Rattle.storage.specs.Waiting.{waiting as waitingTable, nothing}
 use Rattle.checks.specs.Checks.{Checker, Seen, on_writes}
-use Rattle.checks.specs.Asked.{counts_code}
+use Rattle.checks.specs.Asked.{where_fits}
 use Rattle.checks.specs.Entries.{seen as seenTable}
 use Rattle.checks_on_write.specs.declared.PutAsked.{PutAsked}
 use Rattle.checks_on_write.specs.declared.WritesAsked.{WritesAsked}
@@ -35,12 +37,9 @@ pub record Placed (i l r : ℕ) : Type 0 where
 pub record AsksPut (p count k l n : ℕ) (r : PutAsked) (w b s : List ℕ) : Type 0 where
   pub below : r.place < 1024
   pub place : (M : ℕ) (ws : List Write) → Held (waitingTable p) M count w ws → Placed (index_of k ws).0 l r.place
-  pub other : (M N L : ℕ) (ws : List Write) (xs : List Seen) (log : Log) → Held (waitingTable p) M count w ws → Held (seenTable p) N n s xs
+  pub seen : (M N L : ℕ) (ws : List Write) (xs : List Seen) (log : Log) → Held (waitingTable p) M count w ws → Held (seenTable p) N n s xs
       → Held (logPlaces p) L l b log
-      → r.other ≡ (write_asked (entry_at log (index_of k ws).0) (index_of k ws) xs).other
-  pub fresh : (M N L : ℕ) (ws : List Write) (xs : List Seen) (log : Log) → Held (waitingTable p) M count w ws → Held (seenTable p) N n s xs
-      → Held (logPlaces p) L l b log
-      → r.fresh ≡ (write_asked (entry_at log (index_of k ws).0) (index_of k ws) xs).fresh
+      → r.seen ≡ (write_asked (entry_at log (index_of k ws).0) (index_of k ws) xs).seen
 
 -- What is asked: the region of waiting writes with their count; that of a log of so many places, with payloads of up to `longest` bytes;
 -- that of entries seen with their count and how many have room; the total of violations.
@@ -55,17 +54,18 @@ pub record WritesGiven : Type 0 where
   pub room : ℕ
   pub total : ℕ
 
--- The answer for given checks d after all writes, and c before: its code is that of what the unlimited definition gives, and its numbers
--- are the differences.
-pub record WritesAnswered (room : ℕ) (r : WritesAsked) (c d : Checker) : Type 0 where
-  pub code : r.code ≡ counts_code (length d.entries) room d.total
-  pub added : length d.entries ≡ length c.entries + r.added
-  pub reports : d.total ≡ c.total + r.reports
+-- The answer for given checks d after all writes, and c before: the differences in number, where what the unlimited definition gives has
+-- room.
+pub record WritesAnswered (room : ℕ) (r : Result WritesAsked Refusal) (asked : WritesAsked) (c d : Checker) : Type 0 where
+  pub is : r ≡ where_fits (length d.entries) room d.total asked
+  pub added : length d.entries ≡ length c.entries + asked.added
+  pub reports : d.total ≡ c.total + asked.reports
 
 -- The same whatever the checks are whose entries and total are given, and whatever log and writes.
-pub record AsksWrites (g : WritesGiven) (r : WritesAsked) : Type 0 where
+pub record AsksWrites (g : WritesGiven) (r : Result WritesAsked Refusal) : Type 0 where
+  pub asked : WritesAsked
   pub to : (M N L : ℕ) (c : Checker) (time : SimTime) (server : NodeId) (log : Log) (ws : List Write)
       → Held (waitingTable g.longest) M g.writes g.waiting ws
       → Held (seenTable g.longest) N g.count g.seen c.entries → Held (logPlaces g.longest) L g.places g.log log
       → c.total ≡ g.total
-      → WritesAnswered g.room r c (on_writes c time server log (written ws))
+      → WritesAnswered g.room r asked c (on_writes c time server log (written ws))

@@ -12,6 +12,8 @@ use Rattle.laws.specs.Decides.{false_true}
 use Rattle.laws.specs.Order.{pairs, lookup, insert_by}
 use Rattle.units.specs.Types.{noop, Entry, same_payload}
 use Rattle.units.specs.PayloadLaws.{payload_itself}
+use Rattle.std.specs.declared.result.Result.{Result}
+use Rattle.units.specs.declared.refusal.Refusal.{Refusal}
 use Rattle.units.specs.declared.NodeId.{NodeId}
 use Rattle.units.specs.declared.LogIndex.{LogIndex}
 use Rattle.units.specs.declared.SimTime.{SimTime}
@@ -30,11 +32,12 @@ use Rattle.checks.specs.Compared.{is_other, is_new}
 use Rattle.checks.specs.Checks.{Checker, Seen, new_checker, seen_key, report_if, written_entry, on_write, on_writes}
 use Rattle.checks.specs.Reports.{total_if, entries_if}
 use Rattle.checks.specs.Outcomes.{one_if}
-use Rattle.checks.specs.Asked.{counts_code, insert_seen_if, seen_of}
+use Rattle.checks.specs.Asked.{counts_code, where_fits, insert_seen_if, seen_of}
 use Rattle.checks.specs.Entries.{seen as seenTable, entry_seen}
 use Rattle.checks.specs.EntryLaws.{entry_after_lem, entry_absent, entry_rows}
 use Rattle.checks_on_write.specs.declared.WriteAsked.{WriteAsked}
 use Rattle.checks_on_write.specs.declared.PutAsked.{PutAsked}
+use Rattle.checks_on_write.specs.declared.WritesAsked.{WritesAsked}
 use Rattle.checks_on_write.specs.OnWrite.{write_asked, AsksWrite}
 use Rattle.checks_on_write.specs.OnWrites.{write_index, index_of, Placed, AsksPut, WritesGiven, WritesAnswered, AsksWrites}
 
@@ -51,13 +54,12 @@ shape_index_lem (write_truncate from) = refl
 pub put_asked : {p count k l n : ℕ} {shape : Shape} {index : LogIndex} {asked : WriteAsked} {place : ℕ} {w b s : List ℕ}
     → Shows p count k shape w → index ≡ shape_index shape
     → AsksWrite p n l index asked s b → Placed index.0 l place
-    → AsksPut p count k l n (record { place = place; other = asked.other; fresh = asked.fresh }) w b s
+    → AsksPut p count k l n (record { place = place; seen = asked.seen }) w b s
 unfolding index_of shape_at
 put_asked {p} {count} {k} {l} {n} {shape} {index} {asked} {place} {w} {b} {s} q ei a y = record {
   below = y.below;
   place = λ M ws h. subst (λ (i : LogIndex). Placed i.0 l place) (is M ws h) y;
-  other = λ M N L ws xs log h g u. ap (λ (r : WriteAsked). r.other) (told M N L ws xs log h g u);
-  fresh = λ M N L ws xs log h g u. ap (λ (r : WriteAsked). r.fresh) (told M N L ws xs log h g u);
+  seen = λ M N L ws xs log h g u. ap (λ (r : WriteAsked). r.seen) (told M N L ws xs log h g u);
 }
   where
     is : (M : ℕ) (ws : List Write) → Held (waitingTable p) M count w ws → index ≡ index_of k ws
@@ -332,8 +334,8 @@ module _ {k added reports l : ℕ} {marks : List Bool} {c : Checker} {time : Sim
         marked = step_marked (fresh && not mark) refl;
       }
 
-  pub step : (other fresh : Bool) → other ≡ (write_asked (entry_at log index.0) index c.entries).other
-      → fresh ≡ (write_asked (entry_at log index.0) index c.entries).fresh
+  pub step : (other fresh : Bool) → other ≡ is_other (write_asked (entry_at log index.0) index c.entries).seen
+      → fresh ≡ is_new (write_asked (entry_at log index.0) index c.entries).seen
       → Standing (suc k) (added + pick (fresh && not mark) 1 0) (reports + pick other 1 0)
       (set marks place (mark || fresh)) c time server log ws
   unfolding write_asked
@@ -342,11 +344,11 @@ module _ {k added reports l : ℕ} {marks : List Bool} {c : Checker} {time : Sim
       by : (o : Option Entry) → entry_at log index.0 ≡ o
           → Standing (suc k) (added + pick (fresh && not mark) 1 0) (reports + pick other 1 0)
           (set marks place (mark || fresh)) c time server log ws
-      by None h = step_none other fresh h (eo ∙ ap (λ (o : Option Entry). (write_asked o index c.entries).other) h) (ef
-          ∙ ap (λ (o : Option Entry). (write_asked o index c.entries).fresh) h)
+      by None h = step_none other fresh h (eo ∙ ap (λ (o : Option Entry). is_other (write_asked o index c.entries).seen) h) (ef
+          ∙ ap (λ (o : Option Entry). is_new (write_asked o index c.entries).seen) h)
       by (Some e) h =
-          step_some e h other fresh (eo ∙ ap (λ (o : Option Entry). (write_asked o index c.entries).other) h) (ef
-          ∙ ap (λ (o : Option Entry). (write_asked o index c.entries).fresh) h)
+          step_some e h other fresh (eo ∙ ap (λ (o : Option Entry). is_other (write_asked o index c.entries).seen) h) (ef
+          ∙ ap (λ (o : Option Entry). is_new (write_asked o index c.entries).seen) h)
 
 -- ---- on_writes: after k writes
 
@@ -385,35 +387,39 @@ asking_start g = record {
 }
 
 module _ {g : WritesGiven} {k added reports : ℕ} {marks : List Bool} (a : Asking g k added reports marks) where
-  pub asking_turn : {r : PutAsked} {one two : ℕ} → k < g.writes
+  pub asking_turn : {r : PutAsked} {fresh other : Bool} {one two : ℕ} → k < g.writes
       → AsksPut g.longest g.writes k g.places g.count r g.waiting g.log g.seen
-      → one ≡ pick (r.fresh && not (get_or marks r.place false)) 1 0 → one ≤ 1 → two ≡ pick r.other 1 0 → two ≤ 1
-      → Asking g (k + 1) (added + one) (reports + two) (set marks r.place (get_or marks r.place false || r.fresh))
-  asking_turn {r} {one} {two} l q e₁ b₁ e₂ b₂ = record {
+      → fresh ≡ is_new r.seen → other ≡ is_other r.seen
+      → one ≡ pick (fresh && not (get_or marks r.place false)) 1 0 → one ≤ 1 → two ≡ pick other 1 0 → two ≤ 1
+      → Asking g (k + 1) (added + one) (reports + two) (set marks r.place (get_or marks r.place false || fresh))
+  asking_turn {r} {fresh} {other} {one} {two} l q ef eo e₁ b₁ e₂ b₂ = record {
     upto = omega arith;
-    long = length-set marks r.place (get_or marks r.place false || r.fresh) ∙ a.long;
+    long = length-set marks r.place (get_or marks r.place false || fresh) ∙ a.long;
     few = omega (arith, a.few);
     less = omega (arith, a.less);
     to = λ M N L c time server log ws h u v.
         let lk : k < length ws = omega (arith, (held_rows h).count) in
+        let es = q.seen M N L ws c.entries log h u v in
         rw (add-one k, e₁, e₂)
-        (step (a.to M N L c time server log ws h u v) lk a.long (held_rows v).count r.place (q.place M ws h) r.other r.fresh
-        (q.other M N L ws c.entries log h u v) (q.fresh M N L ws c.entries log h u v));
+        (step (a.to M N L c time server log ws h u v) lk a.long (held_rows v).count r.place (q.place M ws h) other fresh
+        (eo ∙ ap is_other es) (ef ∙ ap is_new es));
   }
 
-  pub asking_done : {code : ℕ} → g.writes ≤ k → code ≡ counts_code (g.count + added) g.room (g.total + reports)
-      → AsksWrites g (record { code = code; added = added; reports = reports })
+  pub asking_done : {r : Result WritesAsked Refusal} → g.writes ≤ k
+      → r ≡ where_fits (g.count + added) g.room (g.total + reports) (record { added = added; reports = reports }) → AsksWrites g r
   unfolding written on_writes
-  asking_done {code} l ec = record {
+  asking_done {r} l er = record {
+    asked = record { added = added; reports = reports };
     to = λ M N L c time server log ws h u v t.
         let s = a.to M N L c time server log ws h u v in
+        let asked : WritesAsked = record { added = added; reports = reports } in
         let e : s.now ≡ on_writes c time server log (written ws) =
         ap (λ (x : List Write). on_writes s.now time server log (written x))
         (sym (drop_of_length-le ws {i = k} (omega (arith, (held_rows h).count)))) ∙ s.rest in
         let rows : g.count + added ≡ length s.now.entries = omega (arith, s.rows, (held_rows u).count) in
         let sum : g.total + reports ≡ s.now.total = omega (arith, s.total, t) in
-        subst (WritesAnswered g.room (record { code = code; added = added; reports = reports }) c) e (record {
-          code = ec ∙ ap₂ (λ (x y : ℕ). counts_code x g.room y) rows sum;
+        subst (WritesAnswered g.room r asked c) e (record {
+          is = er ∙ ap₂ (λ (x y : ℕ). where_fits x g.room y asked) rows sum;
           added = s.rows;
           reports = s.total;
         });

@@ -7,17 +7,18 @@ ghost use Rattle.layout.specs.Marked.{words_for};
 ghost use Rattle.checks_on_write.specs.OnWrite.{ReadsTerm, AsksWrite};
 ghost use Rattle.checks_on_write.specs.OnWrites.{Placed, AsksPut, AsksWrites};
 
-use checks::{entries, violations};
+use checks::{Compared, entries, violations};
 use layout::rows;
 use storage::waiting;
+use units::refusal::Refusal;
 use units::{LogIndex, Term};
 
-// The term of the entry at an index, or 0; whether another payload was seen under both, and whether none was.
+// The term of the entry at an index, and the entry against the first seen under both. An index without one has term 0 and tells nothing, as
+// an entry that was seen.
 #[derive(Clone, Copy)]
 pub struct WriteAsked {
     pub term: Term,
-    pub other: bool,
-    pub fresh: bool,
+    pub seen: Compared<()>,
 }
 
 // ---- one index
@@ -54,8 +55,7 @@ pub fn on_write(
     match term_at(log, l, p, index) {
         None => WriteAsked {
             term: Term(0),
-            other: false,
-            fresh: false,
+            seen: Compared::Same,
         },
         Some(term) => {
             let w = 1 + (p + 7) / 8;
@@ -63,31 +63,25 @@ pub fn on_write(
             let a = 8 * at;
             let e = 8 * (at + w);
             let answer = entries::ask(seen, n, p, index, term, &log[a..e]);
-            WriteAsked {
-                term,
-                other: answer.is_other(),
-                fresh: answer.is_new(),
-            }
+            WriteAsked { term, seen: answer }
         }
     }
 }
 
 // ---- every put of the waiting writes
 
-// 0, or 10 where the entries have no room or the total no 64 bits; how many entries are new, and how many reports are due.
+// How many entries are new, and how many reports are due.
 #[derive(Clone, Copy)]
 pub struct WritesAsked {
-    pub code: u64,
     pub added: u64,
     pub reports: u64,
 }
 
-// A write asked: the place of its index among the marks, whether it gives a report, and whether its entry was not seen before all writes.
+// A write asked: the place of its index among the marks, and its entry against what was seen before all writes.
 #[derive(Clone, Copy)]
 struct PutAsked {
     place: usize,
-    other: bool,
-    fresh: bool,
+    seen: Compared<()>,
 }
 
 // The place of an index in a log of l places, or 0.
@@ -125,12 +119,12 @@ fn ask_put(
     let asked = on_write(seen, n, p, log, l, index);
     PutAsked {
         place: place_of(index, l),
-        other: asked.other,
-        fresh: asked.fresh,
+        seen: asked.seen,
     }
 }
 
-// What all waiting writes give, in order: an entry that is new twice is added once.
+// What all waiting writes give, in order: an entry that is new twice is added once; question 10 where the entries have no room or the total
+// no 64 bits.
 // (d) The regions and their counts come one by one: each is used once, and a struct of them would be made for this call alone.
 pub fn on_writes(
     waiting: &[u8],
@@ -142,7 +136,7 @@ pub fn on_writes(
     n: usize,
     room: u64,
     total: u64,
-) -> WritesAsked
+) -> Result<WritesAsked, Refusal>
     requires p_bound { p ≤ 256 }
     requires l_bound { l ≤ 1024 }
     requires p_in_bounds { 8 * (count * (3 + words_for p)) ≤ length waiting.now }
@@ -167,14 +161,12 @@ pub fn on_writes(
     for k in 0..count {
         let asked = ask_put(waiting, count, k, log, l, p, seen, n);
         let place = asked.place;
-        added += violations::one_if(asked.fresh & !marks[place]);
-        reports += violations::one_if(asked.other);
-        marks[place] |= asked.fresh;
+        let fresh = asked.seen.is_new();
+        let other = asked.seen.is_other();
+        added += violations::one_if(fresh & !marks[place]);
+        reports += violations::one_if(other);
+        marks[place] |= fresh;
     }
-    let code = checks::counts_code(n as u64 + added, room, total, reports);
-    WritesAsked {
-        code,
-        added,
-        reports,
-    }
+    let asked = WritesAsked { added, reports };
+    checks::where_fits(n as u64 + added, room, total, reports, asked)
 }

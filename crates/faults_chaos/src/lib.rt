@@ -57,7 +57,7 @@ impl<T: Copy> Draws<T> {
     }
 }
 
-// The entries of one fault: at its time, and, where it does not end by itself, at the time it is undone.
+// The entries of one fault: at its time, and, where it does not end by itself, at the time it is undone. No Result: two are no refusal.
 #[derive(Clone, Copy)]
 pub enum Entries {
     One(Timed),
@@ -287,6 +287,7 @@ pub fn plan(servers: Servers, config: ChaosConfig, room: u64, g: Rng) -> Result<
     let mut count: u64 = 0;
     let mut draws: u64 = 0;
     let mut next = g;
+    // It draws until the time is up, and counts no index: there is nothing for a `for` to go over.
     loop {
         let gap = uniform(next, Duration(0), gaps);
         let start = SimTime(time.0 + gap.result.0);

@@ -97,6 +97,7 @@ fn write(servers: Servers, config: ChaosConfig, list: &mut [u8], g: Rng)
     let mut time = config.start;
     let mut count: usize = 0;
     let mut next = g;
+    // It draws until the time is up, and counts no index: there is nothing for a `for` to go over.
     loop {
         let gap = faults_chaos::uniform(next, Duration(0), gaps);
         let start = SimTime(time.0 + gap.result.0);

@@ -1,6 +1,6 @@
 -- Rows that are tested one after the other by an iterator's `all`, and a row that is lent to its test. Assumes nothing.
 use Rattle.std.specs.Prelude.{◌≡◌, refl, Bool, true, false, List, ℕ, zero, suc, ◌+◌, ◌*◌, ◌≤◌, ◌<◌, length, drop, Option}
-use Rattle.std.proofs.Common.{sym, ap, ap₂, ◌∙◌, add-one, zero-mul, suc-mul, drop-drop, arith}
+use Rattle.std.proofs.Common.{sym, ap, ◌∙◌, add-one, zero-mul, suc-mul, drop-drop, arith}
 use Rattle.std.specs.Fn.{Called}
 use Rattle.std.specs.Iterator.{YieldsThen}
 use Rattle.std.specs.List.{range_with_len, list_all, FoldsTo}

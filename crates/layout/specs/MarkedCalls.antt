@@ -3,9 +3,8 @@ use Rattle.std.specs.Prelude.{◌≡◌, Bool, true, List, ◌++◌, ℕ, ◌+�
 use Rattle.std.proofs.lemmas.List.Edits.{sets}
 use Rattle.laws.specs.Bools.{◌and◌}
 use Rattle.words.specs.Words.{bytes_of, W, allz}
-use Rattle.units.specs.Types.{Payload, noop, command}
-use Rattle.layout.specs.declared.marked.Kind.{Kind}
-use Rattle.layout.specs.declared.marked.Kind.TheVariants.{Noop, Command}
+use Rattle.units.specs.declared.PayloadShape.{PayloadShape}
+use Rattle.units.specs.Types.{Payload, shape_of}
 use Rattle.layout.specs.Code.{zeros}
 use Rattle.layout.specs.Tables.{Holds}
 use Rattle.layout.specs.Marked.{words_for, Marking, marked, body_in}
@@ -23,14 +22,9 @@ rest_ok p n s = leb n p and allz (drop n (body_in p (W s)))
 pub record Puts {X : Type 0} (M : Marking X) (x : X) (b b' : List ℕ) : Type 0 where
   pub to : (p : ℕ) → length b ≡ 8 * (1 + words_for p) → (marked M p).good x ≡ true → Holds (marked M p) b' x
 
--- A payload's kind, and the length of a command.
-abbrev pub kind_of : Payload → Kind
-kind_of noop = Noop
-kind_of (command bs) = Command (length bs)
-
--- Where s holds a payload, r is its kind, and its bytes are at the front of the buffer.
-pub record Reads (r : Kind) (s b b' : List ℕ) : Type 0 where
-  pub kind : (p : ℕ) (x : Payload) → Holds (payload p) s x → r ≡ kind_of x
+-- Where s holds a payload, r is its shape, and its bytes are at the front of the buffer.
+pub record Reads (r : PayloadShape) (s b b' : List ℕ) : Type 0 where
+  pub shape : (p : ℕ) (x : Payload) → Holds (payload p) s x → r ≡ shape_of x
   pub copied : (p : ℕ) (x : Payload) → Holds (payload p) s x → b' ≡ sets b 0 (body_of x)
 
 -- Where s holds a message, r is its length, and its bytes are at the front of the buffer.

@@ -1,9 +1,9 @@
 -- What the proofs of marked.rt cite. Assumes nothing.
 use Rattle.std.specs.Prelude.{◌≡◌, Bool, false, leb, drop, get_or}
 use Rattle.std.proofs.Math.Path.{refl, ap, ap₂}
-use Rattle.std.proofs.Common.{sym, ◌∙◌, length-append, length-drop, take-append-drop, take_all, drop-drop, drop_at, length-take-le, le-leb}
-use mathlib.Core.List.{List, [], ◌∷◌, ◌++◌, append_assoc}
-use Prim.Native.Nat.{ℕ, zero, suc, ◌+◌, ◌*◌, ◌-◌, ◌≤◌, ◌<◌}
+use Rattle.std.proofs.Common.{sym, ◌∙◌, subst, length-append, length-drop, take-append-drop, take_all, drop-drop, drop_at, length-take-le, le-leb}
+use mathlib.Core.List.{List, [], ◌++◌, append_assoc}
+use Prim.Native.Nat.{ℕ, zero, ◌+◌, ◌*◌, ◌-◌, ◌≤◌, ◌<◌}
 use native.Mathlib.Omega.{arith}
 use Rattle.std.proofs.Math.ListN.{length, take}
 use Rattle.std.proofs.lemmas.List.{length-replicate}
@@ -17,15 +17,15 @@ use Rattle.words.specs.Words.{bytes, bytes_of, W, Bytes, allz}
 use Rattle.words.specs.Sets.{sets_append, sets_all}
 use Rattle.words.specs.Numbers.{length_bytes_of}
 use Rattle.words.specs.Lift.{length_bytes, length_w, bytes_append, W-whole}
-use Rattle.units.specs.Types.{Payload, noop, command, payload_of, same_payload}
+use Rattle.units.specs.declared.PayloadShape.TheVariants as shape
+use Rattle.units.specs.Types.{Payload, noop, command, shape_of, same_payload}
 use Rattle.units.specs.PayloadLaws.{payload_itself, payload_equal}
-use Rattle.layout.specs.declared.marked.Kind.TheVariants.{Noop, Command}
 use Rattle.layout.specs.Code.{zeros}
 use Rattle.layout.specs.Tables.{Holds}
 use Rattle.layout.specs.Contents.{holds_w, decides_same}
 use Rattle.layout.specs.Marked.{words_for, Marking, marked, Sound, sound, padded_to, padded_back, body_in}
-use Rattle.layout.specs.Payload.{mark_of, body_of, payload, payload_marking, message, message_marking}
-use Rattle.layout.specs.MarkedCalls.{laid, rest_ok, Puts, Reads, Copies, kind_of}
+use Rattle.layout.specs.Payload.{mark_of, body_of, count_mark, payload, payload_marking, message, message_marking}
+use Rattle.layout.specs.MarkedCalls.{laid, rest_ok, Puts, Reads, Copies}
 
 -- ---- writing
 
@@ -56,32 +56,15 @@ puts M x b b' e = record {
       record { good = g; is = e ∙ ap (λ (n : ℕ). bytes_of 8 (M.mark x) ++ (M.body x ++ zeros n)) k ∙ sym (bytes_enc M p x (sound M p x g)) };
 }
 
--- a payload of a kind and bytes, of which a noop has none
-module _ (kind : ℕ) (d : List ℕ) (h : kind ≤ 1) (k : length d ≤ 256 * kind) where
-  pub kind_mark : mark_of (payload_of kind d) ≡ 1 + kind + length d
-  unfolding payload_of
-  kind_mark = by kind d h k
-    where
-      by : (i : ℕ) (b : List ℕ) → i ≤ 1 → length b ≤ 256 * i → mark_of (payload_of i b) ≡ 1 + i + length b
-      by zero b h k = omega arith
-      by (suc zero) b h k = omega arith
-      by (suc (suc i)) b h k = absurd (omega arith)
+-- a payload, by its number and its bytes
+pub payload_puts : (y : Payload) (m : ℕ) (d b b' : List ℕ) → m ≡ mark_of y → d ≡ body_of y → b' ≡ laid m d (length b) → Puts payload_marking y b b'
+payload_puts y m d b b' e f h = puts payload_marking y b b' (h ∙ ap₂ (λ (k : ℕ) (l : List ℕ). laid k l (length b)) e f)
 
-  pub kind_body : body_of (payload_of kind d) ≡ d
-  unfolding payload_of
-  kind_body = by kind d h k
-    where
-      by : (i : ℕ) (b : List ℕ) → i ≤ 1 → length b ≤ 256 * i → body_of (payload_of i b) ≡ b
-      by zero [] h k = refl
-      by zero (x ∷ b) h k = absurd (omega arith)
-      by (suc zero) b h k = refl
-      by (suc (suc i)) b h k = absurd (omega arith)
+pub each_body : (y : Payload) (d : List ℕ) → d ≡ body_of y → Bytes d → Bytes (body_of y)
+each_body y d e B = subst Bytes e B
 
-  pub kind_puts : (b b' : List ℕ) → b' ≡ laid (1 + kind + length d) d (length b) → Puts payload_marking (payload_of kind d) b b'
-  kind_puts b b' e = puts payload_marking (payload_of kind d) b b' (e ∙ ap₂ (λ (m : ℕ) (l : List ℕ). laid m l (length b)) (sym kind_mark) (sym kind_body))
-
-  pub kind_sound : (p : ℕ) → length d ≤ p → p ≤ 256 → Bytes d → Sound payload_marking p (payload_of kind d)
-  kind_sound p l q B = record { marked = omega (arith, kind_mark); short = rw kind_body l; each = λ j. rw kind_body (B j) }
+pub payload_sound : (p : ℕ) (y : Payload) → length (body_of y) ≤ p → p ≤ 256 → Bytes (body_of y) → Sound payload_marking p y
+payload_sound p y l q B = record { marked = omega (arith, count_mark y); short = l; each = B }
 
 -- ---- reading
 
@@ -98,25 +81,25 @@ module _ {X : Type 0} (M : Marking X) (p : ℕ) {s : List ℕ} {x : X} (h : Hold
       ap₂ (λ (j : ℕ) (l : List ℕ). take j (drop 8 l)) k (h.is ∙ bytes_enc M p x t)
       ∙ ap (take (length (M.body x))) (drop_at (bytes_of 8 (M.mark x)) (M.body x ++ z) 8 (length_bytes_of 8 (M.mark x))) ∙ take_at (M.body x) z (length (M.body x)) refl
 
-noop_is : (x : Payload) → mark_of x < 2 → (Noop ≡ kind_of x) × (body_of x ≡ [])
+noop_is : (x : Payload) → mark_of x < 2 → (shape.Noop ≡ shape_of x) × (body_of x ≡ [])
 noop_is noop h = (refl, refl)
 noop_is (command bs) h = absurd (omega arith)
 
-command_is : (x : Payload) → 2 ≤ mark_of x → (Command (mark_of x - 2) ≡ kind_of x) × (mark_of x - 2 ≡ length (body_of x))
+command_is : (x : Payload) → 2 ≤ mark_of x → (shape.Command (mark_of x - 2) ≡ shape_of x) × (mark_of x - 2 ≡ length (body_of x))
 command_is noop h = absurd (omega arith)
-command_is (command bs) h = (ap Command (omega arith), omega arith)
+command_is (command bs) h = (ap shape.Command (omega arith), omega arith)
 
-pub reads_noop : (s b : List ℕ) (m : ℕ) → m ≡ get_or (W s) 0 0 → m < 2 → Reads Noop s b b
+pub reads_noop : (s b : List ℕ) (m : ℕ) → m ≡ get_or (W s) 0 0 → m < 2 → Reads shape.Noop s b b
 reads_noop s b m e h = record {
-  kind = λ p x k. (noop_is x (omega (arith, mark_read payload_marking p k))).0;
+  shape = λ p x k. (noop_is x (omega (arith, mark_read payload_marking p k))).0;
   copied = λ p x k. ap (sets b 0) (sym (noop_is x (omega (arith, mark_read payload_marking p k))).1);
 }
 
-pub reads_command : (s b b' : List ℕ) (m n : ℕ) → m ≡ get_or (W s) 0 0 → n ≡ m - 2 → 2 ≤ m → b' ≡ sets b 0 (take (8 + n - 8) (drop 8 s)) → Reads (Command n) s b b'
+pub reads_command : (s b b' : List ℕ) (m n : ℕ) → m ≡ get_or (W s) 0 0 → n ≡ m - 2 → 2 ≤ m → b' ≡ sets b 0 (take (8 + n - 8) (drop 8 s)) → Reads (shape.Command n) s b b'
 reads_command s b b' m n e f h c = record {
-  kind = λ p x k.
+  shape = λ p x k.
       let i : m ≡ mark_of x = e ∙ mark_read payload_marking p k in
-      ap Command (f ∙ ap (λ (j : ℕ). j - 2) i) ∙ (command_is x (omega arith)).0;
+      ap shape.Command (f ∙ ap (λ (j : ℕ). j - 2) i) ∙ (command_is x (omega arith)).0;
   copied = λ p x k.
       let i : m ≡ mark_of x = e ∙ mark_read payload_marking p k in
       c ∙ ap (sets b 0) (body_read payload_marking p k n (f ∙ ap (λ (j : ℕ). j - 2) i ∙ (command_is x (omega arith)).1));

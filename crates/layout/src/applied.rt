@@ -2,25 +2,26 @@
 // the greatest length of a command. The caller keeps the count n.
 ghost use Rattle.std.specs.Prelude.{◌≡◌, ◌+◌, ◌*◌, ◌≤◌, ◌<◌, length};
 ghost use Rattle.laws.specs.Decides.{Decides};
-ghost use Rattle.units.specs.Types.{payload_of};
+ghost use Rattle.units.specs.Types.{payload_behind};
 ghost use Rattle.words.specs.Words.{W};
 ghost use Rattle.layout.specs.Code.{ok_n};
 ghost use Rattle.layout.specs.Tables.{Becomes, Tabled, append};
 ghost use Rattle.layout.specs.Marked.{words_for};
-ghost use Rattle.layout.specs.Payload.{payload};
+ghost use Rattle.layout.specs.Payload.{body_of, payload};
 ghost use Rattle.layout.specs.Applied.{applied};
 
 use crate::{marked, rows};
+use units::PayloadRef;
 
-// One payload more, of a kind and the bytes of src; a noop has none.
-pub fn push(s: &mut [u8], n: usize, p: usize, kind: u64, src: &[u8])
+// One payload more.
+pub fn push(s: &mut [u8], n: usize, p: usize, payload: PayloadRef<'_>)
     requires p_bound { (p ≤ 256) × (8 * (n * (1 + words_for p) + (1 + words_for p)) ≤ length s.old) }
-    requires kind_bound { (kind ≤ 1) × (length src.now ≤ 256 * kind) × (length src.now ≤ p) }
-    ensures { Becomes (applied p) n (n + 1) s.old s.new (append (payload_of kind src.now)) }
+    requires payload_bound { length (body_of (payload_behind payload)) ≤ p }
+    ensures { Becomes (applied p) n (n + 1) s.old s.new (append (payload_behind payload.entry)) }
 {
     let w = 1 + (p + 7) / 8;
     let at = n * w;
-    marked::put_payload(&mut s[8 * at..8 * (at + w)], kind, src);
+    marked::put_payload(&mut s[8 * at..8 * (at + w)], payload);
 }
 
 // Whether each row is a payload of up to p bytes.

@@ -2,11 +2,13 @@
 // payload's number (types.rs) is 1 for a noop and 2 and the length for a command; a message's is its length. Two such regions are equal
 // where the values are, so `words::equal` compares payloads (`payloads_same` of specs/MarkedLaws.antt).
 ghost use Rattle.std.specs.Prelude.{◌≡◌, ◌+◌, ◌-◌, ◌*◌, ◌≤◌, length, get_or};
-ghost use Rattle.units.specs.Types.{payload_of};
-ghost use Rattle.words.specs.Words.{W};
+ghost use Rattle.units.specs.Types.{payload_behind};
+ghost use Rattle.words.specs.Words.{W, Bytes};
 ghost use Rattle.layout.specs.Marked.{words_for};
-ghost use Rattle.layout.specs.Payload.{payload, message, payload_marking, message_marking};
+ghost use Rattle.layout.specs.Payload.{mark_of, body_of, payload, message, payload_marking, message_marking};
 ghost use Rattle.layout.specs.MarkedCalls.{laid, rest_ok, Puts, Reads, Copies};
+
+use units::{PayloadRef, PayloadShape};
 
 // Writes the number, the bytes of src, and zeros up to the end.
 pub fn put(s: &mut [u8], mark: u64, src: &[u8])
@@ -34,41 +36,49 @@ pub fn rest_ok(s: &[u8], n: usize, p: usize) -> bool
 
 // ---- payloads
 
-// A payload's kind, and the length of a command.
-#[derive(Clone, Copy)]
-pub enum Kind {
-    Noop,
-    Command(usize),
-}
-
-// Writes the payload of a kind and the bytes of src; a noop has none.
-pub fn put_payload(s: &mut [u8], kind: u64, src: &[u8])
-    requires { (kind ≤ 1) × (length src.now ≤ 256 * kind) × (8 + length src.now ≤ length s.old) }
-    ensures { Puts payload_marking (payload_of kind src.now) s.old s.new }
+// The number of a payload.
+pub fn mark_of(payload: PayloadRef<'_>) -> u64
+    ensures { result ≡ mark_of (payload_behind payload.entry) }
 {
-    put(s, 1 + kind + src.len() as u64, src);
+    match payload {
+        PayloadRef::Noop => 1,
+        PayloadRef::Command(bytes) => 2 + bytes.len() as u64,
+    }
 }
 
-// How many bytes a payload's number says: none where it is 2 or less.
-fn used(mark: u64) -> usize
-    ensures { result ≡ mark - 2 }
+// The bytes of a command; a noop has none.
+pub fn bytes_of(payload: PayloadRef<'_>) -> &[u8]
+    ensures { result.now ≡ body_of (payload_behind payload.entry) }
 {
-    mark.saturating_sub(2) as usize
+    match payload {
+        PayloadRef::Noop => &[],
+        PayloadRef::Command(bytes) => bytes,
+    }
 }
 
-// Reads a payload's kind; the bytes of a command go to the front of buf.
-pub fn read_payload(s: &[u8], buf: &mut [u8]) -> Kind
+// Writes a payload.
+pub fn put_payload(s: &mut [u8], payload: PayloadRef<'_>)
+    requires { 8 + length (body_of (payload_behind payload)) ≤ length s.old }
+    ensures written { Puts payload_marking (payload_behind payload.entry) s.old s.new }
+    ensures each { Bytes (body_of (payload_behind payload.entry)) }
+{
+    let bytes = bytes_of(payload);
+    put(s, mark_of(payload), bytes);
+}
+
+// Reads a payload's shape; the bytes of a command go to the front of buf.
+pub fn read_payload(s: &[u8], buf: &mut [u8]) -> PayloadShape
     requires { (8 ≤ length s.now) × (6 + get_or (W s.now) 0 0 ≤ length s.now) × (get_or (W s.now) 0 0 ≤ 2 + length buf.old) }
     ensures { Reads result s.now buf.old buf.new }
 {
     let mark = words::load(s, 0);
-    let n = used(mark);
     if mark < 2 {
-        return Kind::Noop;
+        return PayloadShape::Noop;
     }
-    let end = 8 + n;
+    let length = (mark - 2) as usize;
+    let end = 8 + length;
     words::copy_from(buf, 0, &s[8..end]);
-    Kind::Command(n)
+    PayloadShape::Command { length }
 }
 
 // Whether the region is the content of a payload of up to p bytes.
@@ -80,7 +90,7 @@ pub fn check_payload(s: &[u8], p: usize) -> bool
     if mark < 1 {
         return false;
     }
-    rest_ok(s, used(mark), p)
+    rest_ok(s, mark.saturating_sub(2) as usize, p)
 }
 
 // ---- messages

@@ -22,7 +22,7 @@ pub struct Network {
     pub rng: Rng,
 }
 
-// What happens to a message.
+// What happens to a message. No `Option<..>`: a drop is drawn and counted like a delivery, and a delivery has two values by name.
 #[derive(Clone, Copy)]
 pub enum Route {
     Dropped,

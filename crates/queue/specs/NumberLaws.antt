@@ -126,7 +126,8 @@ unfolding candidate
 candidate_last w h = sym (get_or-eq_default (candidates w) _ h)
 
 -- the code's comparison of two times five numbers
-same_words_is : (x y : EventWords) → (eqb x.kind y.kind && (eqb x.a y.a && (eqb x.b y.b && (eqb x.c y.c && eqb x.d y.d)))) ≡ same_words x y
+pub same_words_is : (x y : EventWords)
+    → (eqb x.kind y.kind && (eqb x.a y.a && (eqb x.b y.b && (eqb x.c y.c && eqb x.d y.d)))) ≡ same_words x y
 unfolding same_words
 same_words_is x y = simp (code_and, and_true)
 

@@ -9,7 +9,7 @@ use native.Mathlib.Omega.{arith}
 use Rattle.std.proofs.Math.ListN.{length, set, get_or-eq_default}
 use Rattle.std.proofs.lemmas.List.{length-replicate, get_or_at}
 use Rattle.std.proofs.Math.Seq.{sets}
-use Rattle.std.specs.Int.{w8, w64}
+use Rattle.std.specs.Int.{w64}
 use Rattle.std.proofs.lemmas.Bool.{not-false}
 use Rattle.laws.specs.Bools.{pick, cases, and_left, and_true}
 use Rattle.laws.proofs.BoolLaws.{and_right, and_both}
@@ -32,8 +32,8 @@ use Rattle.layout.specs.Rows.{row_end}
 use Rattle.layout.specs.TableLaws.{row_word, row_held, row_parsed, length_rows_in, fill_held, blank_held, puts, rowed_start, rowed_done, held_rows}
 use Rattle.layout.specs.Marked.{words_for, Sound, sound, sounds}
 use Rattle.layout.specs.Payload.{payload, payload_marking, mark_of, body_of, count_mark, valid_mark}
-use Rattle.layout.specs.MarkedCalls.{laid, Puts}
-use Rattle.layout.specs.MarkedLaws.{puts as written, body_read}
+use Rattle.layout.specs.MarkedCalls.{Puts}
+use Rattle.layout.specs.MarkedLaws.{payload_sound, body_read}
 use Rattle.layout.specs.Parts.{lent_row, back_row, length_lent_row, row_back, part_ok, lent_fine, lent_fails}
 use Rattle.raft_log.specs.declared.EntryShape.{EntryShape}
 use Rattle.raft_log.specs.Log.{Log, entry_at, put_at, truncate_at, count, last_index, gaps, removed_by}
@@ -46,13 +46,13 @@ said_as : (m : ℕ) (t : Term) (b c : Bool) → eqb m 0 ≡ b → eqb m 1 ≡ c 
 unfolding said
 said_as m t b c e f = ap₂ (λ (u v : Bool). pick u None (Some (record { term = t; payload = pick v Noop (Command (m - 2)) }))) e f
 
-said_none : (m : ℕ) (t : Term) → m ≡ 0 → None ≡ said m t
+pub said_none : (m : ℕ) (t : Term) → m ≡ 0 → None ≡ said m t
 said_none m t h = sym (said_as m t true false (eq-eqb m 0 h) (ne_eqb m 1 (omega arith)))
 
-said_noop : (m : ℕ) (t : Term) → m ≡ 1 → Some (record { term = t; payload = Noop }) ≡ said m t
+pub said_noop : (m : ℕ) (t : Term) → m ≡ 1 → Some (record { term = t; payload = Noop }) ≡ said m t
 said_noop m t h = sym (said_as m t false true (ne_eqb m 0 (omega arith)) (eq-eqb m 1 h))
 
-said_command : (m : ℕ) (t : Term) → 2 ≤ m → Some (record { term = t; payload = Command (m - 2) }) ≡ said m t
+pub said_command : (m : ℕ) (t : Term) → 2 ≤ m → Some (record { term = t; payload = Command (m - 2) }) ≡ said m t
 said_command m t h = sym (said_as m t false false (ne_eqb m 0 (omega arith)) (ne_eqb m 1 (omega arith)))
 
 -- the first word of a place and its last
@@ -334,13 +334,11 @@ module _ (p n i at : ℕ) (term : Term) (b ys b' : List ℕ) (lo : 1 ≤ i) (hi 
         puts (places p) n b (i - 1) (Some d) b' (omega arith) (and_both _ _ k.good (lt-ltb term.0 (2 ^ 64) f.fits)) (λ x r. refl) q in
         record { to = λ N x g. subst (Held (places p) N n b') (put_place x i d lo) (z.to N x g) }
 
-    pub put_made : (y : Payload) (m : ℕ) (src : List ℕ) → p ≤ 256 → length (body_of y) ≤ p
+    pub put_made : (y : Payload) → p ≤ 256 → length (body_of y) ≤ p
         → b' ≡ sets (back_row at (1 + words_for p) b ys) (8 * (at + (1 + words_for p))) (bytes_of 8 term.0)
-        → ys ≡ laid m src (length (lent_row at (1 + words_for p) b)) → m ≡ mark_of y → src ≡ body_of y → Bytes src
+        → Puts payload_marking y (lent_row at (1 + words_for p) b) ys → Bytes (body_of y)
         → Becomes (places p) n n b b' (put_entry i (record { term = term; payload = y }))
-    put_made y m src q l e h em es B =
-        put_row y (record { marked = omega (arith, count_mark y); short = l; each = λ j. subst (λ (v : List ℕ). Fits w8 (get_or v j 0)) es (B j) })
-        (written payload_marking y (lent_row at (1 + words_for p) b) ys (h ∙ ap₂ (λ (k : ℕ) (v : List ℕ). laid k v (length (lent_row at (1 + words_for p) b))) em es)) e
+    put_made y q l e h B = put_row y (payload_sound p y l q B) h e
 
 -- ---- truncate: i is the first place that is removed, or the count of places
 

@@ -10,7 +10,7 @@ ghost use Rattle.words.specs.Words.{W};
 ghost use Rattle.layout.specs.Code.{ok_n};
 ghost use Rattle.layout.specs.Tables.{Tabled, Becomes, Gives, rows_in};
 ghost use Rattle.layout.specs.Marked.{words_for};
-ghost use Rattle.layout.specs.Payload.{mark_of, body_of};
+ghost use Rattle.layout.specs.Payload.{body_of};
 ghost use Rattle.raft_log.specs.Log.{count, last_index, gaps, removed_by};
 ghost use Rattle.raft_log.specs.Places.{place, places, place_at, said, length_of, term_in, presence, ReadsEntry, put_entry, Truncates, Clears, Compares, holds_at};
 
@@ -24,7 +24,7 @@ pub struct EntryShape {
     pub payload: PayloadShape,
 }
 
-// What a row says whose first word is `mark`.
+// What a row says whose first word is `mark`; the word tells kind and length at once, so it is no enum's number.
 #[tactic(auto, unfolding(crate::specs::Places::said))]
 fn said(mark: u64, term: Term) -> Option<EntryShape>
     ensures { result ≡ said mark term }
@@ -51,28 +51,6 @@ pub fn term_of(entry: Option<EntryShape>) -> Option<Term>
     ensures { result ≡ term_in entry }
 {
     entry.map(|e| e.term)
-}
-
-// ---- payloads
-
-// The first word of a payload's row.
-pub fn mark_of(payload: PayloadRef<'_>) -> u64
-    ensures { result ≡ mark_of (payload_behind payload.entry) }
-{
-    match payload {
-        PayloadRef::Noop => 1,
-        PayloadRef::Command(bytes) => 2 + bytes.len() as u64,
-    }
-}
-
-// The bytes of a command; a noop has none.
-pub fn bytes_of(payload: PayloadRef<'_>) -> &[u8]
-    ensures { result.now ≡ body_of (payload_behind payload.entry) }
-{
-    match payload {
-        PayloadRef::Noop => &[],
-        PayloadRef::Command(bytes) => bytes,
-    }
 }
 
 // ---- reading
@@ -195,8 +173,7 @@ pub fn put(s: &mut [u8], n: usize, p: usize, index: LogIndex, term: Term, payloa
     let at = rows::start_of(index.0 as usize - 1, n, w + 1);
     let a = 8 * at;
     let e = 8 * (at + w);
-    let bytes = bytes_of(payload);
-    marked::put(&mut s[a..e], mark_of(payload), bytes);
+    marked::put_payload(&mut s[a..e], payload);
     words::store(s, at + w, term.0);
 }
 
@@ -256,16 +233,17 @@ pub fn holds(s: &[u8], n: usize, p: usize, index: LogIndex, payload: PayloadRef<
         return false;
     }
     let at = rows::start_of(i - 1, n, w);
-    if words::load(s, at) != mark_of(payload) {
+    if words::load(s, at) != marked::mark_of(payload) {
         return false;
     }
-    let bytes = bytes_of(payload);
+    let bytes = marked::bytes_of(payload);
     let from = 8 * (at + 1);
     let to = from + bytes.len();
     words::equal(&s[from..to], bytes)
 }
 
-// Whether the payloads at index i of one log and at index j of another are the same, or both absent.
+// Whether the payloads at index i of one log and at index j of another are the same, or both absent: rows are compared as bytes, and no
+// value is made whose `==` could be derived.
 pub fn same_payload(s: &[u8], t: &[u8], n: usize, p: usize, i: LogIndex, j: LogIndex) -> bool
     requires { (1 ≤ i.0) × (i.0 ≤ n) × (1 ≤ j.0) × (j.0 ≤ n) × (p ≤ 256) × (8 * (n * (2 + words_for p)) ≤ length s.now) × (8 * (n * (2 + words_for p)) ≤ length t.now) }
     ensures { Compares p n i.0 j.0 result s.now t.now }

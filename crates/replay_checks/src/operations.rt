@@ -1,13 +1,16 @@
 // One operation of checks.bin on an area, by the functions that the calls use: what is asked, and where nothing is refused what is done.
 // Behind the area's gate, which every operation asks. A refusal is its number, as the functions of the area answer it; 99 is none.
 ghost use Rattle.std.specs.Prelude.{◌*◌, ◌≤◌, ◌<◌, length};
+ghost use Rattle.units.specs.Types.{payload_behind};
+ghost use Rattle.layout.specs.Payload.{body_of};
 ghost use Rattle.state.specs.Changes.{Inside, Gated};
 
 use checks::violations::Violation;
 use checks_durability::replies::Reply;
 use protocol::{Role, Status};
-use state::{Capacity, Gate, ServerState};
+use state::{Capacity, ServerState};
 use storage::HardState;
+use units::refusal::{Refusal, answer_number};
 use units::{LogIndex, NodeId, PayloadRef, SimTime, Term};
 
 // ---- the numbers of a row
@@ -29,11 +32,16 @@ fn index_of(number: u64) -> u64
     number.min(3)
 }
 
-// The length of a command by its payload's mark, 2 and the length; at most 12.
-fn command_length(mark: u64) -> usize
-    ensures { result ≤ 12 }
+// The payload of a row: its mark in word 4, 2 and the length for a command, and behind it the command's bytes, of which 12 are read.
+fn payload_in(row: &[u8; 488]) -> PayloadRef<'_>
+    ensures { length (body_of (payload_behind result)) ≤ 12 }
 {
-    mark.saturating_sub(2).min(12) as usize
+    let mark = words::load(row, 4);
+    if mark < 2 {
+        return PayloadRef::Noop;
+    }
+    let length = (mark - 2).min(12) as usize;
+    PayloadRef::Command(&row[40..40 + length])
 }
 
 // ---- writes
@@ -48,16 +56,11 @@ fn put(area: &mut [u8], f: Capacity, row: &[u8; 488]) -> u64
     let k = slot_of(words::load(row, 1));
     let index = index_of(words::load(row, 2));
     let term = words::load(row, 3);
-    let mark = words::load(row, 4);
     if index < 1 {
         return 99;
     }
-    if mark < 2 {
-        return state_disk::write_put(area, f, k, LogIndex(index), Term(term), PayloadRef::Noop);
-    }
-    let end = 40 + command_length(mark);
-    let command = PayloadRef::Command(&row[40..end]);
-    state_disk::write_put(area, f, k, LogIndex(index), Term(term), command)
+    let put = state_disk::write_put(area, f, k, LogIndex(index), Term(term), payload_in(row));
+    answer_number(put)
 }
 
 // Checks the index of waiting write i.
@@ -86,10 +89,8 @@ fn writes(area: &mut [u8], f: Capacity, k: usize, time: SimTime) -> u64
     requires inside { Inside area.old f }
     requires k_lt_servers { k < f.servers }
 {
-    let asked = state_asks::writes::writes_asked(area, f, k);
-    let code = asked.code;
-    if code != 0 {
-        return code;
+    if let Err(refusal) = state_asks::writes::writes_asked(area, f, k) {
+        return u64::from(refusal);
     }
     check_each(area, f, k, time);
     state_disk::sync(area, f, k);
@@ -122,28 +123,27 @@ fn set_leading(area: &mut [u8], f: Capacity, k: usize, leading: Option<Term>)
 
 // ---- apply
 
-// A server applied a payload, of a kind and bytes as state_asks takes it, at an index.
+// A server applied a payload at an index.
 fn apply(
     area: &mut [u8],
     f: Capacity,
     k: usize,
     time: SimTime,
     index: LogIndex,
-    kind: u64,
-    src: &[u8],
+    payload: PayloadRef<'_>,
 ) -> u64
     requires inside { Inside area.old f }
     requires k_lt_servers { k < f.servers }
     requires index_bound { index.0 ≤ 3 }
-    requires kind_bound { (kind ≤ 1) × (length src.now ≤ 256 * kind) × (length src.now ≤ f.limits.payload) }
+    requires payload_bound { length (body_of (payload_behind payload)) ≤ f.limits.payload }
 {
-    let asked = match state_asks::apply::apply_asked(area, f, k, index, kind, src) {
+    let asked = match state_asks::apply::apply_asked(area, f, k, index, payload) {
         Ok(asked) => asked,
         Err(refusal) => return u64::from(refusal),
     };
     let expected = state_asks::apply::next_apply_of(area, f, k);
     let server = NodeId(k as u64 + 1);
-    state_checks::acts::on_apply_act(area, f, time, server, index, expected, kind, src, asked);
+    state_checks::acts::on_apply_act(area, f, time, server, index, expected, payload, asked);
     set_next_apply(area, f, k, index.0 + 1);
     0
 }
@@ -157,12 +157,7 @@ fn apply_row(area: &mut [u8], f: Capacity, row: &[u8; 488]) -> u64
     let time = SimTime(words::load(row, 1));
     let k = slot_of(words::load(row, 2));
     let index = LogIndex(index_of(words::load(row, 3)));
-    let mark = words::load(row, 4);
-    if mark < 2 {
-        return apply(area, f, k, time, index, 0, b"");
-    }
-    let end = 40 + command_length(mark);
-    apply(area, f, k, time, index, 1, &row[40..end])
+    apply(area, f, k, time, index, payload_in(row))
 }
 
 // ---- status
@@ -172,14 +167,13 @@ fn status(area: &mut [u8], f: Capacity, k: usize, time: SimTime, status: Status)
     requires inside { Inside area.old f }
     requires k_lt_servers { k < f.servers }
 {
-    let asked = state_asks::status::status_asked(area, f, k, status);
-    let code = asked.code;
-    if code != 0 {
-        return code;
-    }
+    let asked = match state_asks::status::status_asked(area, f, k, status) {
+        Ok(asked) => asked,
+        Err(refusal) => return u64::from(refusal),
+    };
     let server = NodeId(k as u64 + 1);
     state_checks::acts::on_status_act(area, f, time, server, status, asked);
-    set_leading(area, f, k, asked.leads.then_some(status.term));
+    set_leading(area, f, k, asked.map(|_| status.term));
     0
 }
 
@@ -220,7 +214,7 @@ fn reply(area: &mut [u8], f: Capacity, index: u64, client: u64, seq: u64) -> u64
 }
 
 // The time set; gives what the gate then answers.
-fn gate_at(area: &mut [u8], f: Capacity, time: u64) -> Gate
+fn gate_at(area: &mut [u8], f: Capacity, time: u64) -> Result<Capacity, Refusal>
     requires { Inside area.old f }
     ensures { Gated area.new result }
 {
@@ -286,8 +280,13 @@ fn operate(area: &mut [u8], f: Capacity, row: &[u8; 488]) -> u64
         4 => status_row(area, f, row),
         6 => reply(area, f, first, second, words::load(row, 3)),
         7 => durability(area, f, first),
-        11 => state_disk::write_truncate(area, f, k, LogIndex(second)),
-        12 => state_disk::write_hard_state(area, f, k, state_of(second)),
+        11 => answer_number(state_disk::write_truncate(area, f, k, LogIndex(second))),
+        12 => answer_number(state_disk::write_hard_state(
+            area,
+            f,
+            k,
+            state_of(second),
+        )),
         13 => matching(area, f, first),
         _ => {
             plain(area, f, row);
@@ -298,12 +297,10 @@ fn operate(area: &mut [u8], f: Capacity, row: &[u8; 488]) -> u64
 
 // A row's operation where the gate accepts the area; gives the refusal, or 99.
 pub fn made(area: &mut [u8], row: &[u8; 488]) -> u64 {
-    let g = state_gate::gate(area);
-    let f = g.capacity;
-    let limits = f.limits;
-    if 0 < g.refusal {
+    let Ok(f) = state_gate::gate(area) else {
         return 99;
-    }
+    };
+    let limits = f.limits;
     if f.servers < 3 || limits.log_indexes < 3 || limits.payload < 12 {
         return 99;
     }
@@ -346,10 +343,8 @@ fn counts_told(area: &[u8], f: Capacity, row: &[u8; 488]) -> bool
 
 // Whether the gate accepts the area, and a row tells its counts and the violation at the row's place.
 pub fn told(area: &[u8], row: &[u8; 488]) -> bool {
-    let g = state_gate::gate(area);
-    let f = g.capacity;
-    if 0 < g.refusal {
+    let Ok(f) = state_gate::gate(area) else {
         return false;
-    }
+    };
     counts_told(area, f, row) & place_told(area, f, row)
 }

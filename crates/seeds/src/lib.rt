@@ -7,7 +7,7 @@ ghost use Rattle.seeds.specs.Seeds.{tag, stream_seed, stream_rng};
 use rng::Rng;
 use units::NodeId;
 
-// A part of the simulation that draws random numbers.
+// A part of the simulation that draws random numbers. Six kinds, of which one has numbers; it is no Option.
 #[derive(Clone, Copy)]
 pub enum Stream {
     // Fault schedules.

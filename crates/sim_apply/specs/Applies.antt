@@ -1,8 +1,10 @@
 -- What applying an entry asks and does (lib.rt): what its contracts cite. Assumes nothing.
-use Rattle.std.specs.Prelude.{◌≡◌, Bool, true, false, List, ℕ, ◌*◌, ◌≤◌, ◌<◌, leb, eqb, Option, None, Some}
+use Rattle.std.specs.Prelude.{◌≡◌, Bool, true, false, List, ℕ, ◌≤◌, ◌<◌, leb, eqb, Option, None, Some, Result, Ok}
 use Rattle.laws.specs.Bools.{pick, ◌and◌}
-use Rattle.units.specs.Types.{Payload, noop, command, payload_of}
+use Rattle.units.specs.Types.{Payload, noop, command}
 use Rattle.units.specs.declared.LogIndex.{LogIndex}
+use Rattle.units.specs.declared.refusal.Refusal.{Refusal}
+use Rattle.units.specs.Refusals.{answer_number}
 use Rattle.client.specs.Key.{decode}
 use Rattle.model.specs.State.{State}
 use Rattle.model.specs.Fields.{with_next_apply, with_checker}
@@ -11,13 +13,11 @@ use Rattle.model.specs.Calls.{is_flag}
 use Rattle.model.specs.Fits.{state_fits}
 use Rattle.state.specs.declared.Capacity.{Capacity}
 use Rattle.state.specs.declared.ServerState.{ServerState}
-use Rattle.state.specs.Parts.{phase_slot}
 use Rattle.state.specs.Changes.{Reads, Changes}
 use Rattle.state_server.specs.Servers.{pending_has}
 use Rattle.state_asks.specs.Asks.{after_apply}
 use Rattle.sim_outputs.specs.Outputs.{sends, asks_code}
 use Rattle.sim_replies.specs.Replies.{tell_test}
-use Rattle.sim_apply.specs.declared.Asked.{Asked}
 use Rattle.state_header.specs.Header.{open_slot}
 use Rattle.client.specs.declared.ClientKey.{ClientKey}
 
@@ -32,15 +32,17 @@ is_payload_of kind size limit = is_flag kind and leb size (pick (eqb kind 0) 0 l
 unfoldable pub apply_code : ℕ → ℕ → ℕ → State → ℕ
 apply_code index kind size s = asks_code 8 9 (sends s.phase) (leb index s.limits.log_indexes) (is_payload_of kind size s.limits.payload)
 
--- What was asked: the refusal, the server, and where nothing is refused the ranges of the arguments.
-pub record AsksApply (b : List ℕ) (F : Capacity) (index kind size : ℕ) (r : Asked) : Type 0 where
-  pub code : Reads b F r.code (apply_code index kind size)
-  pub slot : Reads b F r.slot open_slot
-  pub below : r.slot < F.servers
-  pub within : r.code ≡ 0 → index ≤ F.limits.log_indexes
-  pub kind_most : r.code ≡ 0 → kind ≤ 1
-  pub noop_most : r.code ≡ 0 → size ≤ 256 * kind
-  pub size_most : r.code ≡ 0 → size ≤ F.limits.payload
+-- Who applies, and the ranges of the arguments.
+pub record Applying (b : List ℕ) (F : Capacity) (index kind size slot : ℕ) : Type 0 where
+  pub slot : Reads b F slot open_slot
+  pub below : slot < F.servers
+  pub within : index ≤ F.limits.log_indexes
+  pub size_most : size ≤ F.limits.payload
+
+-- What was asked: the refusal, or the place of the server.
+pub record AsksApply (b : List ℕ) (F : Capacity) (index kind size : ℕ) (r : Result ℕ Refusal) : Type 0 where
+  pub code : Reads b F (answer_number r) (apply_code index kind size)
+  pub applying : (slot : ℕ) → r ≡ Ok slot → Applying b F index kind size slot
 
 -- ---- the reply
 
@@ -48,10 +50,6 @@ pub record AsksApply (b : List ℕ) (F : Capacity) (index kind size : ℕ) (r : 
 abbrev pub key_for : Payload → Option ClientKey
 key_for noop = None
 key_for (command bytes) = decode bytes
-
--- The key of a payload by its kind and bytes.
-unfoldable pub key_given : ℕ → List ℕ → Option ClientKey
-key_given kind bytes = key_for (payload_of kind bytes)
 
 -- Whether the server at a place had accepted the command of a key.
 unfoldable pub reply_due : ℕ → Option ClientKey → State → Bool
@@ -90,15 +88,15 @@ unfoldable pub checked_at : ℕ → LogIndex → Payload → State → State
 checked_at slot index x s = with_checker s (after_apply slot index x s)
 
 -- The state with a payload applied by the server at a place.
-unfoldable pub applied : ℕ → ℕ → ℕ → List ℕ → State → State
-applied slot index kind bytes s = apply s slot (record { 0 = index }) (payload_of kind bytes)
+unfoldable pub applied : ℕ → ℕ → Payload → State → State
+applied slot index x s = apply s slot (record { 0 = index }) x
 
 -- Question 10 of a payload applied: 0, or 10.
-unfoldable pub apply_ten : ℕ → ℕ → ℕ → List ℕ → State → ℕ
-apply_ten slot index kind bytes s = pick (state_fits (applied slot index kind bytes s)) 0 10
+unfoldable pub apply_ten : ℕ → ℕ → Payload → State → ℕ
+apply_ten slot index x s = pick (state_fits (applied slot index x s)) 0 10
 
--- r is that number; where it is 0 the payload is applied, else nothing has changed.
-pub record AppliesAt (b b' : List ℕ) (F : Capacity) (slot index kind : ℕ) (bytes : List ℕ) (r : ℕ) : Type 0 where
-  pub code : Reads b F r (apply_ten slot index kind bytes)
-  pub changes : r ≡ 0 → Changes b b' F (applied slot index kind bytes)
-  pub kept : 0 < r → b' ≡ b
+-- r has that number: the payload is applied, or it is refused, and nothing has changed.
+pub record AppliesAt (b b' : List ℕ) (F : Capacity) (slot index : ℕ) (x : Payload) (r : Result (Unit {0}) Refusal) : Type 0 where
+  pub code : Reads b F (answer_number r) (apply_ten slot index x)
+  pub changes : (u : Unit {0}) → r ≡ Ok u → Changes b b' F (applied slot index x)
+  pub kept : 0 < answer_number r → b' ≡ b

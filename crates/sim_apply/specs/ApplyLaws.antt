@@ -1,5 +1,5 @@
 -- What the proofs of the act and of the call cite, and question 10 of a payload applied. Assumes nothing.
-use Rattle.std.specs.Prelude.{◌≡◌, false, List, ℕ, zero, suc, ◌+◌, ◌*◌, ◌≤◌, ◌<◌, leb, eqb, length, set, Option, None, Some}
+use Rattle.std.specs.Prelude.{◌≡◌, false, List, ℕ, zero, suc, ◌+◌, ◌≤◌, ◌<◌, leb, eqb, length, set, Option, None, Some}
 use Rattle.std.proofs.Math.Path.{refl, sym, ap, ap₂, subst}
 use Rattle.std.proofs.Common.{◌∙◌, le-leb, eqb-true, eq-eqb}
 use Rattle.std.proofs.Math.Bool.{Bool, true}
@@ -15,31 +15,31 @@ use Rattle.laws.specs.Order.{pairs, lookup}
 use Rattle.units.specs.Types.{Payload, noop, command, payload_of}
 use Rattle.units.specs.declared.LogIndex.{LogIndex}
 use Rattle.units.specs.declared.SimTime.{SimTime}
+use Rattle.layout.specs.Payload.{body_of}
 use Rattle.client.specs.Key.{key_of}
 use Rattle.client.specs.declared.ClientKey.{ClientKey}
 use Rattle.units.specs.declared.refusal.Refusal.{Refusal}
+use Rattle.units.specs.declared.refusal.Refusal.TheVariants.{Room}
+use Rattle.units.specs.Refusals.{refusal_number, answer_number}
 use Rattle.checks.specs.AskedLaws.{picked_ok, picked_err}
 use Rattle.checks_on_apply.specs.declared.ApplyAsked.{ApplyAsked}
-use Rattle.model.specs.State.{State, Server, server_at, id_of, Phase, closed, writing, sending, accepted, not_leader}
+use Rattle.model.specs.State.{State, Server, server_at, id_of}
 use Rattle.model.specs.Fields.{with_next_apply}
 use Rattle.model.specs.Simulation.{apply, reply_for, reply_to}
-use Rattle.model.specs.Calls.{done, output, ask, is_payload, output_apply}
+use Rattle.model.specs.Calls.{done, is_payload, output_apply}
 use Rattle.model.specs.Fits.{state_fits, server_fits, server_tests, checker_fits}
 use Rattle.state.specs.declared.Capacity.{Capacity}
-use Rattle.state.specs.declared.Gate.{Gate}
 use Rattle.state.specs.declared.Run.{Run}
 use Rattle.state.specs.declared.ServerState.{ServerState}
-use Rattle.state.specs.Parts.{phase_slot}
 use Rattle.state.specs.Server.{state_of_server}
 use Rattle.state.specs.Area.{Area, capacity_of, run_of}
 use Rattle.state.specs.Fitting.{area_fits, laid_limits}
 use Rattle.state.specs.FitsBy.{fits_test}
 use Rattle.state.specs.Lens.{ServersFit, servers_fit_lem, server_fine, server_after, fits_on_server, servers_kept}
 use Rattle.state.specs.Call.{call}
-use Rattle.state.specs.Changes.{AreaOf, Gated, Changes, Reads, Planned, judged}
-use Rattle.state.specs.Exits.{call_refused, call_done}
-use Rattle.answers.specs.declared.DoneAnswer.{DoneAnswer}
-use Rattle.answers.specs.Answers.{done_no, done_yes}
+use Rattle.state.specs.Changes.{AreaOf, Gated, Changes, Reads, judged}
+use Rattle.state.specs.Exits.{refusal_above, code_refused, code_done}
+use Rattle.answers.specs.Answers.{done_no, done_yes, done_answer}
 use Rattle.state_server.specs.Servers.{server_state_at, server_state_set, pending_has}
 use Rattle.state_server.specs.ServerLaws.{server_state_set_lem}
 use Rattle.state_checks.specs.Acts.{ChangesWhere, ApplyFlags, apply_checked}
@@ -49,8 +49,7 @@ use Rattle.sim_outputs.specs.Laws.{refused_two, done_two}
 use Rattle.state_queue.specs.Events.{queue_room}
 use Rattle.sim_replies.specs.Replies.{arrival_time, network_fits, tell_test}
 use Rattle.sim_replies.specs.Laws.{network_fits_lem}
-use Rattle.sim_apply.specs.declared.Asked.{Asked}
-use Rattle.sim_apply.specs.Applies.{is_payload_of, apply_code, AsksApply, key_for, key_given, reply_due, reply_test, replied, next_apply_put, next_apply_set, checked_at, applied, apply_ten, AppliesAt}
+use Rattle.sim_apply.specs.Applies.{is_payload_of, apply_code, AsksApply, key_for, reply_due, reply_test, replied, next_apply_put, next_apply_set, checked_at, applied, apply_ten, AppliesAt}
 use Rattle.sim_apply.specs.ReplyLaws.{fits_reply, before_reply}
 use Rattle.state_header.specs.Header.{open_slot}
 
@@ -120,16 +119,16 @@ reply_for_lem : (s : State) (k : ℕ) (index : LogIndex) (x : Payload) → reply
 reply_for_lem s k index noop = refl
 reply_for_lem s k index (command bytes) = refl
 
-module _ (s : State) (k index kind : ℕ) (bytes : List ℕ) where
+module _ (s : State) (k index : ℕ) (x : Payload) where
   abbrev first : State
-  first = checked_at k (record { 0 = index }) (payload_of kind bytes) s
+  first = checked_at k (record { 0 = index }) x s
 
   abbrev second : State
   second = next_apply_set k (index + 1) first
 
-  applied_is : applied k index kind bytes s ≡ replied k (key_given kind bytes) (record { 0 = index }) second
-  unfolding applied apply checked_at after_apply next_apply_set replied key_given
-  applied_is = reply_for_lem second k (record { 0 = index }) (payload_of kind bytes)
+  applied_is : applied k index x s ≡ replied k (key_for x) (record { 0 = index }) second
+  unfolding applied apply checked_at after_apply next_apply_set replied
+  applied_is = reply_for_lem second k (record { 0 = index }) x
 
   same_tell : tell_test second ≡ tell_test s
   unfolding tell_test arrival_time queue_room checked_at next_apply_set
@@ -163,10 +162,10 @@ module _ (s : State) (k index kind : ℕ) (bytes : List ℕ) where
 
   module _ (h : ServersFit s) (i : k < s.config.servers) (n : network_fits s ≡ true) (l : index ≤ s.limits.log_indexes) where
     servers_first : ServersFit first
-    servers_first = servers_checked s k (record { 0 = index }) (payload_of kind bytes) h
+    servers_first = servers_checked s k (record { 0 = index }) x h
 
     below_first : k < first.config.servers
-    below_first = below_checked s k (record { 0 = index }) (payload_of kind bytes) i
+    below_first = below_checked s k (record { 0 = index }) x i
 
     low : 1 ≤ index + 1
     low = omega arith
@@ -178,54 +177,54 @@ module _ (s : State) (k index kind : ℕ) (bytes : List ℕ) where
     servers_second = kept_next first k (index + 1) servers_first below_first low most
 
     -- where the state after fits, so do those on the way
-    fits_second : state_fits (applied k index kind bytes s) ≡ true → state_fits second ≡ true
-    fits_second t = before_reply second k (record { 0 = index }) servers_second (below_second i) (same_network ∙ n) (key_given kind bytes) (ap state_fits (sym applied_is) ∙ t)
+    fits_second : state_fits (applied k index x s) ≡ true → state_fits second ≡ true
+    fits_second t = before_reply second k (record { 0 = index }) servers_second (below_second i) (same_network ∙ n) (key_for x) (ap state_fits (sym applied_is) ∙ t)
 
-    fits_first : state_fits (applied k index kind bytes s) ≡ true → state_fits first ≡ true
+    fits_first : state_fits (applied k index x s) ≡ true → state_fits first ≡ true
     fits_first t = sym (fits_next first k (index + 1) servers_first below_first low most) ∙ fits_second t
 
     -- question 10: the checks, and the reply
     pub fits_applied : checker_fits s.config s.limits s.checker ≡ true → s.limits.log_indexes ≤ 1024
-        → state_fits (applied k index kind bytes s)
-        ≡ (reply_test k (key_given kind bytes) s and (checker_fits s.config s.limits (after_apply k (record { 0 = index }) (payload_of kind bytes) s) and state_fits s))
+        → state_fits (applied k index x s)
+        ≡ (reply_test k (key_for x) s and (checker_fits s.config s.limits (after_apply k (record { 0 = index }) x s) and state_fits s))
     fits_applied c few =
         ap state_fits applied_is
-        ∙ fits_reply second k (record { 0 = index }) servers_second (below_second i) (same_network ∙ n) (key_given kind bytes)
+        ∙ fits_reply second k (record { 0 = index }) servers_second (below_second i) (same_network ∙ n) (key_for x)
         (subst (λ (m : ℕ). index ≤ m) (sym same_limit) l) (subst (λ (m : ℕ). m ≤ 1024) (sym same_limit) few)
-        ∙ ap₂ (λ (t u : Bool). t and u) (same_test (subst (λ (m : ℕ). k < m) (sym h.count) i) (key_given kind bytes))
-        (fits_next first k (index + 1) servers_first below_first low most ∙ fits_checked s k (record { 0 = index }) (payload_of kind bytes) c)
+        ∙ ap₂ (λ (t u : Bool). t and u) (same_test (subst (λ (m : ℕ). k < m) (sym h.count) i) (key_for x))
+        (fits_next first k (index + 1) servers_first below_first low most ∙ fits_checked s k (record { 0 = index }) x c)
 
-pub apply_acts_lem : (b b₁ b₂ b₃ : List ℕ) (F : Capacity) (k index kind : ℕ) (bytes : List ℕ) (key : Option ClientKey) → k < F.servers → index ≤ F.limits.log_indexes → key ≡ key_given kind bytes
-    → Changes b b₁ F (checked_at k (record { 0 = index }) (payload_of kind bytes)) → Changes b₁ b₂ F (next_apply_set k (index + 1)) → Changes b₂ b₃ F (replied k key (record { 0 = index }))
-    → Changes b b₃ F (applied k index kind bytes)
-apply_acts_lem b b₁ b₂ b₃ F k index kind bytes key i m ek p q r = record {
+pub apply_acts_lem : (b b₁ b₂ b₃ : List ℕ) (F : Capacity) (k index : ℕ) (x : Payload) (key : Option ClientKey) → k < F.servers → index ≤ F.limits.log_indexes → key ≡ key_for x
+    → Changes b b₁ F (checked_at k (record { 0 = index }) x) → Changes b₁ b₂ F (next_apply_set k (index + 1)) → Changes b₂ b₃ F (replied k key (record { 0 = index }))
+    → Changes b b₃ F (applied k index x)
+apply_acts_lem b b₁ b₂ b₃ F k index x key i m ek p q r = record {
   to = λ s l h fit.
       let f : state_fits s ≡ true = area_fits h.area in
       let j : k < s.config.servers = subst (λ (G : Capacity). k < G.servers) h.capacity i in
       let o : index ≤ s.limits.log_indexes = subst (λ (G : Capacity). index ≤ G.limits.log_indexes) h.capacity m in
       let vs : ServersFit s = servers_fit_lem s f in
-      let s₁ : State = checked_at k (record { 0 = index }) (payload_of kind bytes) s in
+      let s₁ : State = checked_at k (record { 0 = index }) x s in
       let s₂ : State = next_apply_set k (index + 1) s₁ in
-      let h₁ : AreaOf b₁ l F s₁ = p.to s l h (fits_first s k index kind bytes vs j (network_fits_lem s f) o fit) in
-      let h₂ : AreaOf b₂ l F s₂ = q.to s₁ l h₁ (fits_second s k index kind bytes vs j (network_fits_lem s f) o fit) in
-      let is : replied k key (record { 0 = index }) s₂ ≡ applied k index kind bytes s = ap (λ (x : Option ClientKey). replied k x (record { 0 = index }) s₂) ek ∙ sym (applied_is s k index kind bytes) in
+      let h₁ : AreaOf b₁ l F s₁ = p.to s l h (fits_first s k index x vs j (network_fits_lem s f) o fit) in
+      let h₂ : AreaOf b₂ l F s₂ = q.to s₁ l h₁ (fits_second s k index x vs j (network_fits_lem s f) o fit) in
+      let is : replied k key (record { 0 = index }) s₂ ≡ applied k index x s = ap (λ (o : Option ClientKey). replied k o (record { 0 = index }) s₂) ek ∙ sym (applied_is s k index x) in
       subst (λ (u : State). AreaOf b₃ l F u) is (r.to s₂ l h₂ (ap state_fits is ∙ fit));
 }
 
 -- ---- question 10 asked, and the act
 
 -- whether what the checks remember of a payload applied fits
-abbrev fits : (k index kind : ℕ) (bytes : List ℕ) → State → Bool
-fits k index kind bytes s = checker_fits s.config s.limits (after_apply k (record { 0 = index }) (payload_of kind bytes) s)
+abbrev fits : (k index : ℕ) (x : Payload) → State → Bool
+fits k index x s = checker_fits s.config s.limits (after_apply k (record { 0 = index }) x s)
 
 -- what was read about the reply, of the payload's key
-room_is : {b : List ℕ} {F : Capacity} (k kind : ℕ) (bytes : List ℕ) {key : Option ClientKey} {room : Bool} → key ≡ key_given kind bytes
-    → Reads b F room (reply_test k key) → (s : State) → Area b s → F ≡ capacity_of s → reply_test k (key_given kind bytes) s ≡ room
-room_is k kind bytes ek pr s h ef = sym (pr.to s h ef ∙ ap (λ (x : Option ClientKey). reply_test k x s) ek)
+room_is : {b : List ℕ} {F : Capacity} (k : ℕ) (x : Payload) {key : Option ClientKey} {room : Bool} → key ≡ key_for x
+    → Reads b F room (reply_test k key) → (s : State) → Area b s → F ≡ capacity_of s → reply_test k (key_for x) s ≡ room
+room_is k x ek pr s h ef = sym (pr.to s h ef ∙ ap (λ (o : Option ClientKey). reply_test k o s) ek)
 
-module _ {b : List ℕ} {F : Capacity} (k index kind : ℕ) (bytes : List ℕ) (i : k < F.servers) (m : index ≤ F.limits.log_indexes) where
-  ten_read : (t : Bool) → ((s : State) → Area b s → F ≡ capacity_of s → (reply_test k (key_given kind bytes) s and fits k index kind bytes s) ≡ t)
-      → Reads b F (pick t 0 10) (apply_ten k index kind bytes)
+module _ {b : List ℕ} {F : Capacity} (k index : ℕ) (x : Payload) (i : k < F.servers) (m : index ≤ F.limits.log_indexes) where
+  ten_read : (t : Bool) → ((s : State) → Area b s → F ≡ capacity_of s → (reply_test k (key_for x) s and fits k index x s) ≡ t)
+      → Reads b F (pick t 0 10) (apply_ten k index x)
   unfolding apply_ten
   ten_read t e = record {
     to = λ s h ef.
@@ -233,88 +232,104 @@ module _ {b : List ℕ} {F : Capacity} (k index kind : ℕ) (bytes : List ℕ) (
         let j : k < s.config.servers = subst (λ (G : Capacity). k < G.servers) ef i in
         let o : index ≤ s.limits.log_indexes = subst (λ (G : Capacity). index ≤ G.limits.log_indexes) ef m in
         ap (λ (u : Bool). pick u 0 10)
-        (sym (e s h ef) ∙ ap (λ (u : Bool). reply_test k (key_given kind bytes) s and u) (sym (ap (λ (u : Bool). fits k index kind bytes s and u) f ∙ and_true (fits k index kind bytes s)))
-        ∙ sym (fits_applied s k index kind bytes (servers_fit_lem s f) j (network_fits_lem s f) o (fits_test s f 13) (laid_limits h.laid).log_indexes));
+        (sym (e s h ef) ∙ ap (λ (u : Bool). reply_test k (key_for x) s and u) (sym (ap (λ (u : Bool). fits k index x s and u) f ∙ and_true (fits k index x s)))
+        ∙ sym (fits_applied s k index x (servers_fit_lem s f) j (network_fits_lem s f) o (fits_test s f 13) (laid_limits h.laid).log_indexes));
   }
 
-module _ {b : List ℕ} {F : Capacity} {k index kind : ℕ} {bytes : List ℕ} {r : Result ApplyAsked Refusal} (i : k < F.servers) (m : index ≤ F.limits.log_indexes)
-    (a : Asks b F (ApplyTold k (record { 0 = index }) (payload_of kind bytes) r)) where
-  pub at_refused : (refusal : Refusal) → r ≡ Err refusal → AppliesAt b b F k index kind bytes 10
+module _ {b : List ℕ} {F : Capacity} {k index : ℕ} {x : Payload} {r : Result ApplyAsked Refusal} (i : k < F.servers) (m : index ≤ F.limits.log_indexes)
+    (a : Asks b F (ApplyTold k (record { 0 = index }) x r)) where
+  pub at_refused : (refusal : Refusal) → r ≡ Err refusal → AppliesAt b b F k index x (Err refusal)
   at_refused refusal e = record {
-    code = ten_read k index kind bytes i m false (λ s h ef. and_no (reply_test k (key_given kind bytes) s) _ (picked_err _ _ refusal (sym e ∙ (a.to s h ef).is)));
-    changes = λ z. absurd (omega arith);
+    code = record {
+      to = λ s h ef.
+          let is = sym e ∙ (a.to s h ef).is in
+          ap refusal_number (only_room _ _ refusal is)
+          ∙ (ten_read k index x i m false (λ s h ef. and_no (reply_test k (key_for x) s) _ (picked_err _ _ refusal (sym e ∙ (a.to s h ef).is)))).to s h ef;
+    };
+    changes = λ u z. absurd cc;
     kept = λ o. refl;
   }
+    where
+      only_room : (t : Bool) (v : ApplyAsked) (refusal : Refusal) → Err refusal ≡ pick t (Ok v) (Err Room) → refusal ≡ Room
+      only_room true v refusal e = absurd cc
+      only_room false v refusal e = cc
 
-  module _ {key : Option ClientKey} {room : Bool} (ek : key ≡ key_given kind bytes) (pr : Reads b F room (reply_test k key)) where
-    pub at_full : not room ≡ true → AppliesAt b b F k index kind bytes 10
+  module _ {key : Option ClientKey} {room : Bool} (ek : key ≡ key_for x) (pr : Reads b F room (reply_test k key)) where
+    pub at_full : not room ≡ true → AppliesAt b b F k index x (Err Room)
     at_full t = record {
-      code = ten_read k index kind bytes i m false (λ s h ef. no_and _ (fits k index kind bytes s) (room_is k kind bytes ek pr s h ef ∙ not-true room t));
-      changes = λ z. absurd (omega arith);
+      code = ten_read k index x i m false (λ s h ef. no_and _ (fits k index x s) (room_is k x ek pr s h ef ∙ not-true room t));
+      changes = λ u z. absurd cc;
       kept = λ o. refl;
     }
 
-    pub at_done : (asked : ApplyAsked) (b' : List ℕ) → r ≡ Ok asked → not room ≡ false → Changes b b' F (applied k index kind bytes)
-        → AppliesAt b b' F k index kind bytes 0
+    pub at_done : (asked : ApplyAsked) (b' : List ℕ) → r ≡ Ok asked → not room ≡ false → Changes b b' F (applied k index x)
+        → AppliesAt b b' F k index x (Ok tt)
     at_done asked b' e t p = record {
-      code = ten_read k index kind bytes i m true (λ s h ef. ap₂ (λ (x y : Bool). x and y) (room_is k kind bytes ek pr s h ef ∙ not-false room t) (picked_ok _ _ asked (sym e ∙ (a.to s h ef).is)).0 ∙ true_and true);
-      changes = λ z. p;
+      code = ten_read k index x i m true (λ s h ef. ap₂ (λ (u v : Bool). u and v) (room_is k x ek pr s h ef ∙ not-false room t) (picked_ok _ _ asked (sym e ∙ (a.to s h ef).is)).0 ∙ true_and true);
+      changes = λ u z. p;
       kept = λ o. absurd (omega arith);
     }
 
 -- ---- the call
 
 -- the ranges that the act asks for
-module _ (b : List ℕ) (F : Capacity) (index kind size : ℕ) (a : Asked) (q : AsksApply b F index kind size a) where
-  pub slot_asked : a.slot < F.servers
-  slot_asked = q.below
+module _ (b : List ℕ) (F : Capacity) (index kind size : ℕ) (a : Result ℕ Refusal) (q : AsksApply b F index kind size a) (slot : ℕ) (z : a ≡ Ok slot) where
+  pub slot_asked : slot < F.servers
+  slot_asked = (q.applying slot z).below
 
-  module _ (z : a.code ≤ 0) where
-    pub index_asked : index ≤ F.limits.log_indexes
-    index_asked = q.within (let e : a.code ≡ 0 = omega arith in e)
+  pub index_asked : index ≤ F.limits.log_indexes
+  index_asked = (q.applying slot z).within
 
-    pub payload_asked : (kind ≤ 1) × (size ≤ 256 * kind) × (size ≤ F.limits.payload)
-    payload_asked = let e : a.code ≡ 0 = omega arith in (q.kind_most e, q.noop_most e, q.size_most e)
+  pub payload_asked : (x : Payload) (bytes : List ℕ) → size ≡ length bytes → x ≡ payload_of kind bytes → length (body_of x) ≤ F.limits.payload
+  unfolding payload_of
+  payload_asked x bytes l e =
+      let most : size ≤ F.limits.payload = (q.applying slot z).size_most in
+      subst (λ (v : Payload). length (body_of v) ≤ F.limits.payload) (sym e) (by (eqb kind 0) (omega arith))
+    where
+      by : (t : Bool) → length bytes ≤ F.limits.payload → length (body_of (pick t noop (command bytes))) ≤ F.limits.payload
+      by true m = omega arith
+      by false m = m
 
-module _ (b : List ℕ) (F : Capacity) (index kind : ℕ) (bytes : List ℕ) (a : Asked) (q : AsksApply b F index kind (length bytes) a) where
-  asked_planned : 0 < a.code → Planned b F a.code (output_apply (record { 0 = index }) kind bytes) tt (λ s. s)
+module _ (b : List ℕ) (F : Capacity) (index kind : ℕ) (bytes : List ℕ) (a : Result ℕ Refusal) (q : AsksApply b F index kind (length bytes) a) where
+  asked_told : (refusal : Refusal) → a ≡ Err refusal → (s : State) → Area b s → F ≡ capacity_of s → refusal_number refusal ≡ judged (output_apply (record { 0 = index }) kind bytes s)
   unfolding output_apply apply_code is_payload_of
-  asked_planned l = record {
-    code = λ s h ef. refused_two tt s.phase 8 9 (leb index s.limits.log_indexes) (is_payload s kind bytes) (λ k. apply s k (record { 0 = index }) (payload_of kind bytes)) a.code (q.code.to s h ef) l;
-    gives = λ s h ef z. absurd (omega arith);
-  }
+  asked_told refusal e s h ef =
+      refused_two tt s.phase 8 9 (leb index s.limits.log_indexes) (is_payload s kind bytes) (λ k. apply s k (record { 0 = index }) (payload_of kind bytes))
+      (refusal_number refusal) (sym (ap answer_number e) ∙ q.code.to s h ef) (refusal_above refusal)
 
-  module _ (z : a.code ≤ 0) where
-    gives_applied : (s : State) → Area b s → F ≡ capacity_of s → output_apply (record { 0 = index }) kind bytes s ≡ done tt (applied a.slot index kind bytes s)
+  module _ (slot : ℕ) (z : a ≡ Ok slot) where
+    gives_applied : (s : State) → Area b s → F ≡ capacity_of s → output_apply (record { 0 = index }) kind bytes s ≡ done tt (applied slot index (payload_of kind bytes) s)
     unfolding output_apply apply_code open_slot applied is_payload_of
     gives_applied s h ef =
         done_two tt s.phase 8 9 (leb index s.limits.log_indexes) (is_payload s kind bytes) (λ k. apply s k (record { 0 = index }) (payload_of kind bytes))
-        (sym (q.code.to s h ef) ∙ (let e : a.code ≡ 0 = omega arith in e)) (omega arith) (omega arith)
-        ∙ ap (λ (k : ℕ). done tt (apply s k (record { 0 = index }) (payload_of kind bytes))) (sym (q.slot.to s h ef))
+        (sym (q.code.to s h ef) ∙ ap answer_number z) (omega arith) (omega arith)
+        ∙ ap (λ (k : ℕ). done tt (apply s k (record { 0 = index }) (payload_of kind bytes))) (sym ((q.applying slot z).slot.to s h ef))
 
-    at_planned : (b' : List ℕ) (n : ℕ) → AppliesAt b b' F a.slot index kind bytes n → Planned b F n (output_apply (record { 0 = index }) kind bytes) tt (applied a.slot index kind bytes)
+    told : (b' : List ℕ) (n : Result (Unit {0}) Refusal) → AppliesAt b b' F slot index (payload_of kind bytes) n → (s : State) → Area b s → F ≡ capacity_of s
+        → answer_number n ≡ judged (output_apply (record { 0 = index }) kind bytes s)
     unfolding judged apply_ten
-    at_planned b' n p = record {
-      code = λ s h ef. p.code.to s h ef ∙ sym (ap judged (gives_applied s h ef));
-      gives = λ s h ef e. gives_applied s h ef;
-    }
+    told b' n p s h ef = p.code.to s h ef ∙ sym (ap judged (gives_applied s h ef))
 
-module _ (b : List ℕ) (g : Gate) (index kind : ℕ) (bytes : List ℕ) (a : Asked) (o : Gated b g) (y : g.refusal ≤ 0) (q : AsksApply b g.capacity index kind (length bytes) a) where
-  pub apply_no : (r : DoneAnswer) → 0 < a.code → r ≡ done_no a.code → (r, b) ≡ call done_no done_yes b (output_apply (record { 0 = index }) kind bytes)
-  apply_no r n e = call_refused done_no done_yes b _ g o y a.code tt (λ s. s) (asked_planned b g.capacity index kind bytes a q n) r n e
+module _ (b : List ℕ) (g : Result Capacity Refusal) (index kind : ℕ) (bytes : List ℕ) (o : Gated b g) (F : Capacity) (y : g ≡ Ok F) (a : Result ℕ Refusal)
+    (q : AsksApply b F index kind (length bytes) a) where
+  pub apply_no : (refusal : Refusal) → a ≡ Err refusal → (done_no (refusal_number refusal), b) ≡ call done_no done_yes b (output_apply (record { 0 = index }) kind bytes)
+  apply_no refusal e =
+      code_refused done_no done_yes b (output_apply (record { 0 = index }) kind bytes) g o F y refusal (asked_told b F index kind bytes a q refusal e) (done_no (refusal_number refusal)) refl
 
-  pub apply_yes : (b' : List ℕ) (n : ℕ) (r : DoneAnswer) → a.code ≤ 0 → AppliesAt b b' g.capacity a.slot index kind bytes n → r ≡ done_no n
-      → (r, b') ≡ call done_no done_yes b (output_apply (record { 0 = index }) kind bytes)
-  apply_yes b' n r z p e =
-      let plan = at_planned b g.capacity index kind bytes a q z b' n p in
-      cases (eqb n 0)
-      (λ t.
-      let none : n ≡ 0 = eqb-true n 0 t in
-      call_done done_no done_yes b _ g o y n tt _ plan b' r (omega (arith, none)) (p.changes none) (e ∙ ap done_no none))
-      (λ t.
-      let l : 0 < n = positive n (λ w. false_true (sym t ∙ eq-eqb n 0 w)) in
-      subst (λ (x : List ℕ). (r, x) ≡ call done_no done_yes b (output_apply (record { 0 = index }) kind bytes)) (sym (p.kept l)) (call_refused done_no done_yes b _ g o y n tt _ plan r l e))
+  pub apply_yes : (slot : ℕ) (b' : List ℕ) (x : Payload) (n : Result (Unit {0}) Refusal) → a ≡ Ok slot → x ≡ payload_of kind bytes → AppliesAt b b' F slot index x n
+      → (done_answer n, b') ≡ call done_no done_yes b (output_apply (record { 0 = index }) kind bytes)
+  apply_yes slot b' x n z ex given = by n refl
     where
-      positive : (m : ℕ) → (m ≡ 0 → ⊥) → 0 < m
-      positive zero h = absurd (h refl)
-      positive (suc m) h = omega arith
+      p : AppliesAt b b' F slot index (payload_of kind bytes) n
+      p = subst (λ (v : Payload). AppliesAt b b' F slot index v n) ex given
+
+      by : (v : Result (Unit {0}) Refusal) → n ≡ v → (done_answer v, b') ≡ call done_no done_yes b (output_apply (record { 0 = index }) kind bytes)
+      by (Ok u) e =
+          code_done done_no done_yes b (output_apply (record { 0 = index }) kind bytes) g o F y tt (applied slot index (payload_of kind bytes))
+          (λ s h ef. sym (ap answer_number e) ∙ told b F index kind bytes a q slot z b' n p s h ef) (gives_applied b F index kind bytes a q slot z) b' (done_no 0) (p.changes u e) refl
+      by (Err refusal) e =
+          let m : refusal_number refusal ≡ answer_number n = sym (ap answer_number e) in
+          subst (λ (l : List ℕ). (done_no (refusal_number refusal), l) ≡ call done_no done_yes b (output_apply (record { 0 = index }) kind bytes))
+          (sym (p.kept (omega (arith, m, refusal_above refusal))))
+          (code_refused done_no done_yes b (output_apply (record { 0 = index }) kind bytes) g o F y refusal (λ s h ef. m ∙ told b F index kind bytes a q slot z b' n p s h ef)
+          (done_no (refusal_number refusal)) refl)

@@ -1,16 +1,15 @@
 -- What the proofs of the reply cite, and question 10 of it. Assumes nothing.
 use Rattle.std.specs.Prelude.{◌≡◌, refl, Bool, false, List, [], ◌∷◌, ℕ, ◌^◌, ◌≤◌, ◌<◌, Option, None, Some}
 use Rattle.std.proofs.Math.Path.{sym, ap, subst}
-use Rattle.std.proofs.Common.{◌∙◌, arith, eq-eqb, ne_eqb, lt-ltb, le-leb}
+use Rattle.std.proofs.Common.{◌∙◌, arith, lt-ltb, le-leb}
 use Rattle.std.proofs.Math.Bool.{true}
 use Rattle.laws.specs.Bools.{pick, cases, ◌and◌, every, and_left}
 use Rattle.laws.proofs.BoolLaws.{allb_in, and_right, and_both, true_and}
 use Rattle.laws.specs.Decides.{false_true}
 use Rattle.laws.specs.Lists.{is_some}
 use Rattle.laws.specs.Order.{pairs, lookup}
-use Rattle.units.specs.Types.{payload_of}
 use Rattle.units.specs.declared.LogIndex.{LogIndex}
-use Rattle.client.specs.Key.{decode, key_of}
+use Rattle.client.specs.Key.{key_of}
 use Rattle.client.specs.declared.ClientKey.{ClientKey}
 use Rattle.layout.specs.Keys.{keys}
 use Rattle.queue.specs.declared.Event.{Event}
@@ -23,17 +22,7 @@ use Rattle.state.specs.Changes.{AreaOf, Changes, Reads}
 use Rattle.state_server.specs.Servers.{pending_has}
 use Rattle.sim_replies.specs.Replies.{network_fits, client_told, tell_test}
 use Rattle.sim_replies.specs.TellLaws.{event_fits_in, fits_told, before_told}
-use Rattle.sim_apply.specs.Applies.{key_given, reply_due, reply_test, replied}
-
--- ---- the key
-
-pub key_noop : (kind : ℕ) (bytes : List ℕ) → kind ≡ 0 → None ≡ key_given kind bytes
-unfolding key_given payload_of
-key_noop kind bytes e = sym (rw (eq-eqb kind 0 e) refl)
-
-pub key_command : (kind : ℕ) (bytes : List ℕ) (r : Option ClientKey) → (kind ≡ 0 → ⊥) → r ≡ decode bytes → r ≡ key_given kind bytes
-unfolding key_given payload_of
-key_command kind bytes r n e = e ∙ sym (rw (ne_eqb kind 0 n) refl)
+use Rattle.sim_apply.specs.Applies.{reply_due, reply_test, replied}
 
 -- ---- whether it is due
 

@@ -3,17 +3,18 @@
 #![tactic(auto)]
 
 ghost use Rattle.std.specs.Prelude.{◌≡◌, ◌*◌, ◌≤◌, ◌<◌, length, Ok};
-ghost use Rattle.units.specs.Types.{payload_of};
+ghost use Rattle.units.specs.Types.{payload_behind};
+ghost use Rattle.layout.specs.Payload.{body_of};
 ghost use Rattle.model.specs.Calls.{output_apply};
 ghost use Rattle.state.specs.Changes.{Inside, Gated, Reads, Changes};
 ghost use Rattle.state.specs.Call.{call};
-ghost use Rattle.answers.specs.Answers.{done_no, done_yes};
+ghost use Rattle.answers.specs.Answers.{done_no, done_yes, done_answer};
 ghost use Rattle.state_asks.specs.Asks.{Asks, ApplyTold};
 ghost use Rattle.sim_outputs.specs.Outputs.{Passed};
 ghost use Rattle.sim_apply.specs.Applies.{
   is_payload_of,
   AsksApply,
-  key_given,
+  key_for,
   reply_due,
   reply_test,
   replied,
@@ -28,15 +29,9 @@ use answers::DoneAnswer;
 use checks_on_apply::ApplyAsked;
 use client::ClientKey;
 use queue::Event;
-use state::{Capacity, Gate, ServerState};
-use units::{LogIndex, NodeId};
-
-// What applying asks before question 10: 0, or the refusal; the place of the server.
-#[derive(Clone, Copy)]
-pub struct Asked {
-    pub code: u64,
-    pub slot: u64,
-}
+use state::{Capacity, ServerState};
+use units::refusal::Refusal;
+use units::{LogIndex, NodeId, PayloadRef};
 
 // ---- what is asked
 
@@ -50,31 +45,41 @@ fn is_payload(kind: u64, size: u64, limit: u64) -> bool
     (kind <= 1) & (size <= limit)
 }
 
-// The questions before question 10, and who applies.
-fn asked_of(area: &[u8], f: Capacity, index: u64, kind: u64, size: u64) -> Asked
+// The questions before question 10, and the place of the server that applies.
+fn asked_of(
+    area: &[u8],
+    f: Capacity,
+    index: u64,
+    kind: u64,
+    size: u64,
+) -> Result<u64, Refusal>
     requires { Passed area.now f }
     ensures { AsksApply area.now f index kind size result }
 {
     let limits = f.limits;
     let sender = sim_outputs::sender_of(area, f);
     let args = is_payload(kind, size, limits.payload);
-    let code = sim_outputs::asks_code(8, 9, sender.ready, index <= limits.log_indexes, args);
-    Asked {
-        code,
-        slot: sender.slot,
-    }
+    let within = index <= limits.log_indexes;
+    sim_outputs::first_no(
+        Refusal::LogIndex,
+        Refusal::Argument,
+        sender.ready,
+        within,
+        args,
+    )?;
+    Ok(sender.slot)
 }
 
 // ---- the reply
 
 // The key of a payload, if it has one: only a command has.
-fn key_given(kind: u64, payload: &[u8]) -> Option<ClientKey>
-    ensures { result ≡ key_given kind payload.now }
+fn key_for(payload: PayloadRef<'_>) -> Option<ClientKey>
+    ensures { result ≡ key_for (payload_behind payload.entry) }
 {
-    if kind == 0 {
-        return None;
+    match payload {
+        PayloadRef::Noop => None,
+        PayloadRef::Command(bytes) => client::decode(bytes),
     }
-    client::decode(payload)
 }
 
 // Whether the server at a place had accepted the command of a key.
@@ -159,15 +164,14 @@ fn check_apply(
     f: Capacity,
     slot: u64,
     index: LogIndex,
-    kind: u64,
-    payload: &[u8],
+    payload: PayloadRef<'_>,
     asked: ApplyAsked,
 )
     requires inside { Inside area.old f }
     requires slot_lt_servers { slot < f.servers }
-    requires kind_bound { (kind ≤ 1) × (length payload.now ≤ 256 * kind) × (length payload.now ≤ f.limits.payload) }
-    requires asks { Asks area.old f (ApplyTold slot index (payload_of kind payload.now) (Ok asked)) }
-    ensures { Changes area.old area.new f (checked_at slot index (payload_of kind payload.now)) }
+    requires payload_bound { length (body_of (payload_behind payload)) ≤ f.limits.payload }
+    requires asks { Asks area.old f (ApplyTold slot index (payload_behind payload) (Ok asked)) }
+    ensures { Changes area.old area.new f (checked_at slot index (payload_behind payload.entry)) }
 {
     let run = state_header::run_of(area, f);
     let expected = state_asks::apply::next_apply_of(area, f, slot as usize);
@@ -178,7 +182,6 @@ fn check_apply(
         NodeId(slot + 1),
         index,
         expected,
-        kind,
         payload,
         asked,
     );
@@ -190,50 +193,67 @@ fn apply_act(
     f: Capacity,
     slot: u64,
     index: u64,
-    kind: u64,
-    payload: &[u8],
+    payload: PayloadRef<'_>,
     asked: ApplyAsked,
 )
     requires inside { Inside area.old f }
     requires slot_lt_servers { slot < f.servers }
     requires index_bound { index ≤ f.limits.log_indexes }
-    requires kind_bound { (kind ≤ 1) × (length payload.now ≤ 256 * kind) × (length payload.now ≤ f.limits.payload) }
-    requires asks { Asks area.old f (ApplyTold slot (record { 0 = index }) (payload_of kind payload.now) (Ok asked)) }
-    ensures { Changes area.old area.new f (applied slot index kind payload.now) }
+    requires payload_bound { length (body_of (payload_behind payload)) ≤ f.limits.payload }
+    requires asks { Asks area.old f (ApplyTold slot (record { 0 = index }) (payload_behind payload) (Ok asked)) }
+    ensures { Changes area.old area.new f (applied slot index (payload_behind payload.entry)) }
 {
-    let key = key_given(kind, payload);
-    check_apply(area, f, slot, LogIndex(index), kind, payload, asked);
+    let key = key_for(payload);
+    check_apply(area, f, slot, LogIndex(index), payload, asked);
     set_next_apply(area, f, slot, index + 1);
     reply(area, f, slot, key, LogIndex(index));
 }
 
 // Question 10 of an entry that the server at a place applies, and where it is answered yes, all that is done.
-fn apply_at(area: &mut [u8], f: Capacity, slot: u64, index: u64, kind: u64, payload: &[u8]) -> u64
+fn apply_at(
+    area: &mut [u8],
+    f: Capacity,
+    slot: u64,
+    index: u64,
+    payload: PayloadRef<'_>,
+) -> Result<(), Refusal>
     requires inside { Inside area.old f }
     requires slot_lt_servers { slot < f.servers }
     requires index_bound { index ≤ f.limits.log_indexes }
-    requires kind_bound { (kind ≤ 1) × (length payload.now ≤ 256 * kind) × (length payload.now ≤ f.limits.payload) }
-    ensures { AppliesAt area.old area.new f slot index kind payload.now result }
+    requires payload_bound { length (body_of (payload_behind payload)) ≤ f.limits.payload }
+    ensures { AppliesAt area.old area.new f slot index (payload_behind payload.entry) result }
 {
     let at = slot as usize;
-    match state_asks::apply::apply_asked(area, f, at, LogIndex(index), kind, payload) {
-        Err(_) => 10,
-        Ok(asked) => {
-            let key = key_given(kind, payload);
-            let room = reply_room(area, f, slot, key);
-            if !room {
-                return 10;
-            }
-            apply_act(area, f, slot, index, kind, payload, asked);
-            0
-        }
+    let asked = state_asks::apply::apply_asked(area, f, at, LogIndex(index), payload)?;
+    let key = key_for(payload);
+    if !reply_room(area, f, slot, key) {
+        return Err(Refusal::Room);
     }
+    apply_act(area, f, slot, index, payload, asked);
+    Ok(())
+}
+
+// An entry applied, or the refusal.
+fn output_applied(
+    area: &mut [u8],
+    g: Result<Capacity, Refusal>,
+    index: u64,
+    kind: u64,
+    payload: &[u8],
+) -> Result<(), Refusal>
+    requires { Gated area.old g }
+    ensures { (done_answer result, area.new) ≡ call done_no done_yes area.old (output_apply (record { 0 = index }) kind payload.now) }
+{
+    let f = g?;
+    let slot = asked_of(area, f, index, kind, payload.len() as u64)?;
+    let given = units::payload_of(kind, payload);
+    apply_at(area, f, slot, index, given)
 }
 
 // An entry applied (Output::Apply).
 pub fn output_apply_in(
     area: &mut [u8],
-    g: Gate,
+    g: Result<Capacity, Refusal>,
     index: u64,
     kind: u64,
     payload: &[u8],
@@ -241,17 +261,5 @@ pub fn output_apply_in(
     requires { Gated area.old g }
     ensures { (result, area.new) ≡ call done_no done_yes area.old (output_apply (record { 0 = index }) kind payload.now) }
 {
-    let refusal = g.refusal;
-    let f = g.capacity;
-    if 0 < refusal {
-        return answers::done(refusal);
-    }
-    let asked = asked_of(area, f, index, kind, payload.len() as u64);
-    let code = asked.code;
-    let slot = asked.slot;
-    if 0 < code {
-        return answers::done(code);
-    }
-    let applied = apply_at(area, f, slot, index, kind, payload);
-    answers::done(applied)
+    DoneAnswer::from(output_applied(area, g, index, kind, payload))
 }

@@ -1,5 +1,6 @@
 -- What the proofs of lib.rt cite. Assumes nothing.
-use Rattle.std.specs.Prelude.{◌≡◌, Bool, ◌&&◌, List, leb, length, Option, None, Some}
+use Rattle.std.specs.Option.{unwrap_or}
+use Rattle.std.specs.Prelude.{◌≡◌, Bool, ◌&&◌, List, leb, length, Option, None, Some, is_some}
 use Rattle.std.proofs.Math.Path.{sym, ap, ap₂, subst}
 use Rattle.std.proofs.Common.{◌∙◌}
 use Rattle.std.proofs.Math.Bool.{true}
@@ -29,7 +30,6 @@ use Rattle.state_header.specs.Header.{settings_of, network_of, network_set}
 use Rattle.state_records.specs.Records.{client_set}
 use Rattle.state_queue.specs.Events.{plain, pushed}
 use Rattle.state_queue.specs.Fits.{fits_push, fits_unpushed, plain_range}
-use Rattle.sim_outputs.specs.declared.Sum.{Sum}
 use Rattle.sim_outputs.specs.Outputs.{Sums}
 use Rattle.sim_attempt.specs.Attempts.{attempt_put, arrival_time, arrival_fits, Arrives, timeout_time, timeout_fits, TimesOut, attempt_test, delayed, outstanding_sent, attempted_as}
 use Rattle.sim_attempt.specs.Networks.{delayed_fits}
@@ -37,7 +37,7 @@ use Rattle.sim_attempt.specs.Laws.{client_count, attempted_none, attempted_some,
 
 -- ---- what is asked
 
-pub arrival_read : (b : List ℕ) (F : Capacity) (time : ℕ) (n : Network) (d : Delayed) (r : Sum) → Reads b F n network_of → d ≡ delay n → Sums time d.delay.0 r → Arrives b F time r
+pub arrival_read : (b : List ℕ) (F : Capacity) (time : ℕ) (n : Network) (d : Delayed) (r : Option ℕ) → Reads b F n network_of → d ≡ delay n → Sums time d.delay.0 r → Arrives b F time r
 unfolding network_of arrival_time arrival_fits
 arrival_read b F time n d r pn ed q =
     let is : (s : State) → Area b s → F ≡ capacity_of s → time + d.delay.0 ≡ time + (delay s.network).delay.0 =
@@ -47,7 +47,7 @@ arrival_read b F time n d r pn ed q =
       value = λ t. record { to = λ s h ef. q.value t ∙ is s h ef };
     }
 
-pub timeout_read : (b : List ℕ) (F : Capacity) (time : ℕ) (c : SimConfig) (r : Sum) → Reads b F c settings_of → Sums time c.client_timeout.0 r → TimesOut b F time r
+pub timeout_read : (b : List ℕ) (F : Capacity) (time : ℕ) (c : SimConfig) (r : Option ℕ) → Reads b F c settings_of → Sums time c.client_timeout.0 r → TimesOut b F time r
 unfolding settings_of timeout_time timeout_fits
 timeout_read b F time c r pc q =
     let is : (s : State) → Area b s → F ≡ capacity_of s → time + c.client_timeout.0 ≡ time + s.config.client_timeout.0 =
@@ -60,14 +60,14 @@ timeout_read b F time c r pc q =
 pub four_is : (a b c d : Bool) → (a && b && c && d) ≡ (a and (b and (c and d)))
 four_is a b c d = code_and (a && b && c) d ∙ ap (λ (x : Bool). x and d) (code_and (a && b) c ∙ ap (λ (x : Bool). x and c) (code_and a b)) ∙ and_assoc (a and b) c d ∙ and_assoc a b (c and d)
 
-pub attempt_read : (b : List ℕ) (F : Capacity) (time room attempt : ℕ) (at end next : Sum) → Arrives b F time at → TimesOut b F time end → Sums attempt 1 next
-    → Reads b F (leb 2 room && next.fits && at.fits && end.fits) (attempt_test time room attempt)
+pub attempt_read : (b : List ℕ) (F : Capacity) (time room attempt : ℕ) (at end next : Option ℕ) (x y z : Bool) → Arrives b F time at → TimesOut b F time end → Sums attempt 1 next
+    → x ≡ is_some next → y ≡ is_some at → z ≡ is_some end → Reads b F (leb 2 room && x && y && z) (attempt_test time room attempt)
 unfolding attempt_test
-attempt_read b F time room attempt at end next pa pe pn = record {
+attempt_read b F time room attempt at end next x y z pa pe pn ex ey ez = record {
   to = λ s h ef.
-      four_is (leb 2 room) next.fits at.fits end.fits
-      ∙ ap (λ (x : Bool). leb 2 room and (x and (at.fits and end.fits))) pn.fits
-      ∙ ap₂ (λ (x y : Bool). leb 2 room and (word (attempt + 1) and (x and y))) (pa.fits.to s h ef) (pe.fits.to s h ef);
+      four_is (leb 2 room) x y z
+      ∙ ap (λ (t : Bool). leb 2 room and (t and (y and z))) (ex ∙ pn.fits)
+      ∙ ap₂ (λ (t u : Bool). leb 2 room and (word (attempt + 1) and (t and u))) (ey ∙ pa.fits.to s h ef) (ez ∙ pe.fits.to s h ef);
 }
 
 -- ---- what is done
@@ -95,24 +95,24 @@ module _ {b r : List ℕ} {F : Capacity} {s : State} (h : AreaOf b r F s) (c : �
   pub attempt_word : (k : Client) → state_fits (client_set c k s) ≡ true → word k.attempt ≡ true
   attempt_word k t = and_left _ _ (and_right _ _ (and_right _ _ (sym (fits_set s c k (area_fits h.area) clients_are) ∙ t)))
 
-module _ (b b₁ b₂ b₃ : List ℕ) (F : Capacity) (c : ℕ) (client sent : Client) (seq at end : ℕ) (next : Sum) where
+module _ (b b₁ b₂ b₃ : List ℕ) (F : Capacity) (c : ℕ) (client sent : Client) (seq at end : ℕ) (next : Option ℕ) (v : ℕ) where
   abbrev arrives : ℕ → Scheduled
   arrives n = plain (record { 0 = at }) (event.ClientArrive client.target c seq n)
 
   abbrev times_out : ℕ → Scheduled
   times_out n = plain (record { 0 = end }) (event.ClientTimeout c n)
 
-  pub outstanding_acts : c < F.clients → Sums client.attempt 1 next → sent ≡ attempt_put client next.value → Changes b b₁ F (client_set c sent)
-      → Changes b₁ b₂ F (pushed (arrives next.value)) → Changes b₂ b₃ F (pushed (times_out next.value)) → Changes b b₃ F (outstanding_sent c client seq at end)
+  pub outstanding_acts : c < F.clients → Sums client.attempt 1 next → v ≡ unwrap_or next 0 → sent ≡ attempt_put client v → Changes b b₁ F (client_set c sent)
+      → Changes b₁ b₂ F (pushed (arrives v)) → Changes b₂ b₃ F (pushed (times_out v)) → Changes b b₃ F (outstanding_sent c client seq at end)
   unfolding outstanding_sent
-  outstanding_acts i q e p₁ p₂ p₃ = record {
+  outstanding_acts i q ev e p₁ p₂ p₃ = record {
     to = λ s l h t.
         let a : ℕ = client.attempt + 1 in
         let s₁ : State = client_set c (with_attempt client a) s in
         let s₂ : State = pushed (arrives a) s₁ in
         let t₂ : state_fits s₂ ≡ true = fits_unpushed s₂ (times_out a) t in
         let t₁ : state_fits s₁ ≡ true = fits_unpushed s₁ (arrives a) t₂ in
-        let n : next.value ≡ a = q.value (q.fits ∙ attempt_word h c i (with_attempt client a) t₁) in
+        let n : v ≡ a = ev ∙ q.value (q.fits ∙ attempt_word h c i (with_attempt client a) t₁) in
         let k : sent ≡ with_attempt client a = e ∙ ap (λ (m : ℕ). with_attempt client m) n in
         let h₁ : AreaOf b₁ l F s₁ = subst (λ (x : Client). AreaOf b₁ l F (client_set c x s)) k (p₁.to s l h (ap (λ (x : Client). state_fits (client_set c x s)) k ∙ t₁)) in
         let h₂ : AreaOf b₂ l F s₂ = subst (λ (m : ℕ). AreaOf b₂ l F (pushed (arrives m) s₁)) n (p₂.to s₁ l h₁ (ap (λ (m : ℕ). state_fits (pushed (arrives m) s₁)) n ∙ t₂)) in
@@ -137,20 +137,20 @@ module _ (b b₁ b₂ : List ℕ) (F : Capacity) (c : ℕ) (client : Client) (o 
         subst (λ (x : State). AreaOf b₂ l F x) (sym is) (q.to (delayed s) l (p.to s l h (delayed_fits s (area_fits h.area))) (ap state_fits (sym is) ∙ t));
   }
 
-  pub attempt_some : (w : Run) (at end : Sum) (sent : Outstanding) → Reads b F w run_of → Arrives b F w.now.0 at → TimesOut b F w.now.0 end → o ≡ client.outstanding → o ≡ Some sent
-      → Changes b b₁ F delayed → Changes b₁ b₂ F (outstanding_sent c client sent.seq at.value end.value) → Changes b b₂ F (attempted_as c client)
+  pub attempt_some : (w : Run) (at end : Option ℕ) (x y : ℕ) (sent : Outstanding) → Reads b F w run_of → Arrives b F w.now.0 at → TimesOut b F w.now.0 end → o ≡ client.outstanding → o ≡ Some sent
+      → x ≡ unwrap_or at 0 → y ≡ unwrap_or end 0 → Changes b b₁ F delayed → Changes b₁ b₂ F (outstanding_sent c client sent.seq x y) → Changes b b₂ F (attempted_as c client)
   unfolding arrival_fits timeout_fits
-  attempt_some w at end sent pw pa pe eo e p q = record {
+  attempt_some w at end x y sent pw pa pe eo e ex ey p q = record {
     to = λ s l h t.
         let k : Client = client in
         let is = attempted_some s c k (client_below h c i) sent (sym eo ∙ e) in
         let now : w.now.0 ≡ s.now.0 = ap (λ (x : Run). x.now.0) (pw.to s h.area h.capacity) in
         let ends : word (timeout_time s.now.0 s) ≡ true = ends_word c k sent.seq (arrival_time s.now.0 s) (timeout_time s.now.0 s) (delayed s) (ap state_fits (sym is) ∙ t) in
         let comes : word (arrival_time s.now.0 s) ≡ true = comes_word c k sent.seq (arrival_time s.now.0 s) (timeout_time s.now.0 s) (delayed s) (ap state_fits (sym is) ∙ t) in
-        let ea : at.value ≡ arrival_time s.now.0 s =
-        (pa.value (pa.fits.to s h.area h.capacity ∙ ap (λ (m : ℕ). word (arrival_time m s)) now ∙ comes)).to s h.area h.capacity ∙ ap (λ (m : ℕ). arrival_time m s) now in
-        let ee : end.value ≡ timeout_time s.now.0 s =
-        (pe.value (pe.fits.to s h.area h.capacity ∙ ap (λ (m : ℕ). word (timeout_time m s)) now ∙ ends)).to s h.area h.capacity ∙ ap (λ (m : ℕ). timeout_time m s) now in
-        let same : outstanding_sent c k sent.seq at.value end.value (delayed s) ≡ attempted_as c k s = ap₂ (λ (x y : ℕ). outstanding_sent c k sent.seq x y (delayed s)) ea ee ∙ sym is in
+        let ea : x ≡ arrival_time s.now.0 s =
+        ex ∙ (pa.value (pa.fits.to s h.area h.capacity ∙ ap (λ (m : ℕ). word (arrival_time m s)) now ∙ comes)).to s h.area h.capacity ∙ ap (λ (m : ℕ). arrival_time m s) now in
+        let ee : y ≡ timeout_time s.now.0 s =
+        ey ∙ (pe.value (pe.fits.to s h.area h.capacity ∙ ap (λ (m : ℕ). word (timeout_time m s)) now ∙ ends)).to s h.area h.capacity ∙ ap (λ (m : ℕ). timeout_time m s) now in
+        let same : outstanding_sent c k sent.seq x y (delayed s) ≡ attempted_as c k s = ap₂ (λ (i j : ℕ). outstanding_sent c k sent.seq i j (delayed s)) ea ee ∙ sym is in
         subst (λ (x : State). AreaOf b₂ l F x) same (q.to (delayed s) l (p.to s l h (delayed_fits s (area_fits h.area))) (ap state_fits same ∙ t));
   }

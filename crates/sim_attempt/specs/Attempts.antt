@@ -1,5 +1,6 @@
 -- What a client's attempt asks, draws and does (lib.rt): what its contracts cite. Assumes nothing.
-use Rattle.std.specs.Prelude.{◌≡◌, Bool, true, List, ℕ, ◌+◌, ◌-◌, leb, length, Option}
+use Rattle.std.specs.Option.{unwrap_or}
+use Rattle.std.specs.Prelude.{◌≡◌, Bool, true, List, ℕ, ◌+◌, ◌-◌, leb, length, Option, is_some}
 use Rattle.laws.specs.Bools.{◌and◌}
 use Rattle.laws.specs.Lists.{is_some}
 use Rattle.network.specs.Network.{delay}
@@ -14,7 +15,6 @@ use Rattle.state.specs.declared.Capacity.{Capacity}
 use Rattle.state.specs.Changes.{Reads}
 use Rattle.state_records.specs.Records.{client_set}
 use Rattle.state_queue.specs.Events.{plain, pushed}
-use Rattle.sim_outputs.specs.declared.Sum.{Sum}
 
 -- ---- a client
 
@@ -40,10 +40,10 @@ arrival_time time s = time + (delay s.network).delay.0
 unfoldable pub arrival_fits : ℕ → State → Bool
 arrival_fits time s = word (arrival_time time s)
 
--- Whether an arrival has 64 bits, and where it has, when it is.
-pub record Arrives (b : List ℕ) (F : Capacity) (time : ℕ) (r : Sum) : Type 0 where
-  pub fits : Reads b F r.fits (arrival_fits time)
-  pub value : r.fits ≡ true → Reads b F r.value (arrival_time time)
+-- When a message arrives where that has 64 bits, else nothing.
+pub record Arrives (b : List ℕ) (F : Capacity) (time : ℕ) (r : Option ℕ) : Type 0 where
+  pub fits : Reads b F (is_some r) (arrival_fits time)
+  pub value : is_some r ≡ true → Reads b F (unwrap_or r 0) (arrival_time time)
 
 -- When a command that is sent at a time times out.
 unfoldable pub timeout_time : ℕ → State → ℕ
@@ -53,10 +53,10 @@ timeout_time time s = time + s.config.client_timeout.0
 unfoldable pub timeout_fits : ℕ → State → Bool
 timeout_fits time s = word (timeout_time time s)
 
--- Whether a timeout has 64 bits, and where it has, when it is.
-pub record TimesOut (b : List ℕ) (F : Capacity) (time : ℕ) (r : Sum) : Type 0 where
-  pub fits : Reads b F r.fits (timeout_fits time)
-  pub value : r.fits ≡ true → Reads b F r.value (timeout_time time)
+-- When a command times out where that has 64 bits, else nothing.
+pub record TimesOut (b : List ℕ) (F : Capacity) (time : ℕ) (r : Option ℕ) : Type 0 where
+  pub fits : Reads b F (is_some r) (timeout_fits time)
+  pub value : is_some r ≡ true → Reads b F (unwrap_or r 0) (timeout_time time)
 
 -- Question 10 of a command sent at a time, where the queue takes so many events more, after so many attempts: both events have room, and
 -- attempt and times have 64 bits.

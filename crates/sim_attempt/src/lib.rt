@@ -18,7 +18,6 @@ ghost use Rattle.sim_attempt.specs.Attempts.{
 
 use clients::{Client, Outstanding};
 use queue::Event;
-use sim_outputs::Sum;
 use state::Capacity;
 use units::SimTime;
 
@@ -45,25 +44,25 @@ fn with_attempt(client: Client, attempt: u64) -> Client
 
 // ---- what is asked
 
-// When a message that is sent at a time arrives.
-fn arrival_at(area: &[u8], f: Capacity, time: u64) -> Sum
+// When a message that is sent at a time arrives, if that has 64 bits.
+fn arrival_at(area: &[u8], f: Capacity, time: u64) -> Option<u64>
     requires { Passed area.now f }
     ensures { Arrives area.now f time result }
 {
     let n = state_header::network_of(area, f);
     let d = n.delay();
     let delay = d.delay;
-    sim_outputs::sum64(time, delay.0)
+    time.checked_add(delay.0)
 }
 
-// When a command that is sent at a time times out.
-fn timeout_at(area: &[u8], f: Capacity, time: u64) -> Sum
+// When a command that is sent at a time times out, if that has 64 bits.
+fn timeout_at(area: &[u8], f: Capacity, time: u64) -> Option<u64>
     requires { Inside area.now f }
     ensures { TimesOut area.now f time result }
 {
     let settings = state_header::settings_of(area, f);
     let timeout = settings.client_timeout;
-    sim_outputs::sum64(time, timeout.0)
+    time.checked_add(timeout.0)
 }
 
 // Whether a state with a client's command sent fits: at a time, with so many free places in the queue, after so many attempts.
@@ -73,8 +72,8 @@ pub fn attempt_fits(area: &[u8], f: Capacity, time: u64, room: u64, attempt: u64
 {
     let at = arrival_at(area, f, time);
     let end = timeout_at(area, f, time);
-    let next = sim_outputs::sum64(attempt, 1);
-    (2 <= room) & next.fits & at.fits & end.fits
+    let next = attempt.checked_add(1);
+    (2 <= room) & next.is_some() & at.is_some() & end.is_some()
 }
 
 // ---- what is done
@@ -104,8 +103,7 @@ fn send_outstanding(
     requires c_lt_clients { c < f.clients }
     ensures { Changes area.old area.new f (outstanding_sent c client seq at end) }
 {
-    let next = sim_outputs::sum64(client.attempt, 1);
-    let attempt = next.value;
+    let attempt = client.attempt.checked_add(1).unwrap_or(0);
     let sent = with_attempt(client, attempt);
     state_records::set_client(area, f, c as usize, sent);
     let arrives = Event::ClientArrive {
@@ -134,7 +132,8 @@ pub fn client_attempt(area: &mut [u8], f: Capacity, c: u64, client: Client)
     match outstanding {
         None => state_records::set_client(area, f, c as usize, client),
         Some(sent) => {
-            send_outstanding(area, f, c, client, sent.seq, at.value, end.value);
+            let (at, end) = (at.unwrap_or(0), end.unwrap_or(0));
+            send_outstanding(area, f, c, client, sent.seq, at, end);
         }
     }
 }

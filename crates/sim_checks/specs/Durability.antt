@@ -1,8 +1,8 @@
 -- What the check of durability does (durability.rt): what its contracts cite. Assumes nothing.
-use Rattle.std.specs.Prelude.{List, ℕ}
+use Rattle.std.specs.Prelude.{List, ℕ, Result}
 use Rattle.units.specs.declared.SimTime.{SimTime}
+use Rattle.units.specs.declared.refusal.Refusal.{Refusal}
 use Rattle.checks.specs.Checks.{check_acknowledged, check_applied_up_to}
-use Rattle.checks_durability.specs.declared.DurabilityAsked.{DurabilityAsked}
 use Rattle.model.specs.State.{State, id_of}
 use Rattle.model.specs.Fields.{with_checker}
 use Rattle.model.specs.Calls.{applied_from, check_durability_call}
@@ -25,6 +25,6 @@ durability_checked highest s =
     with_checker s
     (check_applied_up_to (check_acknowledged s.checker s.now (acknowledged_of s)) s.now highest (applied_from 0 s.servers))
 
--- What the check will do: r has the refusal, and the highest acknowledged index.
-pub record DurabilityPlanned (b : List ℕ) (F : Capacity) (r : DurabilityAsked) : Type 0 where
-  pub plan : Planned b F r.code check_durability_call tt (durability_checked r.highest)
+-- What the check will do: the refusal, or the highest acknowledged index.
+pub record DurabilityPlanned (b : List ℕ) (F : Capacity) (r : Result ℕ Refusal) : Type 0 where
+  pub plan : Planned b F r check_durability_call (λ highest. tt) durability_checked

@@ -1,5 +1,5 @@
 -- What the proofs of durability.rt cite. Assumes nothing.
-use Rattle.std.specs.Prelude.{◌≡◌, Bool, true, false, not, get_or, drop, Some}
+use Rattle.std.specs.Prelude.{◌≡◌, Bool, true, false, not, get_or, drop, Some, Result, Ok, Err}
 use Rattle.std.proofs.Math.Path.{refl, sym, ap}
 use Rattle.std.proofs.Common.{ap₂, subst, ◌∙◌, drop_of_length-le, drop-cons}
 use mathlib.Core.List.{List, ◌∷◌}
@@ -8,7 +8,12 @@ use native.Mathlib.Omega.{arith}
 use Rattle.std.proofs.Math.ListN.{length}
 use Rattle.laws.specs.Lists.{at}
 use Rattle.laws.specs.ListLaws.{at_there}
+use Rattle.laws.specs.Bools.{pick}
 use Rattle.units.specs.declared.LogIndex.{LogIndex}
+use Rattle.units.specs.declared.refusal.Refusal.{Refusal}
+use Rattle.units.specs.declared.refusal.Refusal.TheVariants as question
+use Rattle.units.specs.declared.refusal.Refusal.TheVariants.{Room}
+use Rattle.units.specs.Refusals.{refusal_number}
 use Rattle.units.specs.declared.SimTime.{SimTime}
 use Rattle.checks.specs.Checks.{Acknowledged, AppliedUpTo, check_acknowledged, check_applied_up_to, check_durability}
 use Rattle.checks_durability.specs.declared.replies.Reply.{Reply}
@@ -17,7 +22,7 @@ use Rattle.checks_durability.specs.Acknowledged.{rebuilt, acknowledged_from, pla
 use Rattle.model.specs.State.{State, Server, new_server, id_of}
 use Rattle.model.specs.Fields.{with_checker}
 use Rattle.model.specs.Calls.{applied_from, check_durability_call}
-use Rattle.model.specs.Fits.{state_fits}
+use Rattle.model.specs.Fits.{state_fits, checker_fits}
 use Rattle.state.specs.declared.Capacity.{Capacity}
 use Rattle.state.specs.declared.Run.{Run}
 use Rattle.state.specs.declared.TableCounts.{TableCounts}
@@ -25,12 +30,10 @@ use Rattle.state.specs.Area.{run_of, counts_of}
 use Rattle.state.specs.Fitting.{area_fits}
 use Rattle.state.specs.FitsBy.{server_count}
 use Rattle.state.specs.Changes.{Inside, Gated, AreaOf, Changes, Reads}
-use Rattle.state.specs.declared.Gate.{Gate}
 use Rattle.state.specs.Call.{call}
-use Rattle.state.specs.Exits.{call_refused, call_done}
-use Rattle.answers.specs.declared.DoneAnswer.{DoneAnswer}
+use Rattle.state.specs.Exits.{ok_same, call_refused, call_done}
 use Rattle.answers.specs.Answers.{done_no, done_yes}
-use Rattle.state_asks.specs.Asks.{Asks, applied_of, reply_index_of, reply_missing_of, acknowledged_of, after_durability, DurabilityTold}
+use Rattle.state_asks.specs.Asks.{Asks, checker_code, applied_of, reply_index_of, reply_missing_of, acknowledged_of, after_durability, DurabilityTold}
 use Rattle.state_checks.specs.Acts.{missing_reported, behind_reported}
 use Rattle.state_checks.specs.ActLaws.{before_missing, before_behind}
 use Rattle.sim_checks.specs.Steps.{closed_of, each, Turning}
@@ -40,17 +43,31 @@ use Rattle.sim_checks.specs.Durability.{reply_checked, server_checked, durabilit
 -- ---- durability_plan
 
 module _ (b : List ℕ) (F : Capacity) (c : Bool) (q : Reads b F c closed_of) where
-  pub durability_open : not c ≡ true → DurabilityPlanned b F (record { code = 6; reports = 0; highest = 0 })
+  pub durability_open : not c ≡ true → DurabilityPlanned b F (Err question.Phase)
   unfolding check_durability_call after_durability acknowledged_of
-  durability_open n = record { plan = check_open q check_durability_call after_durability (λ s. refl) (durability_checked 0) n }
+  durability_open n = record { plan = check_open q check_durability_call after_durability (λ s. refl) durability_checked n }
 
-  pub durability_planned : (r : DurabilityAsked) → not c ≡ false → Asks b F (DurabilityTold r) → DurabilityPlanned b F r
-  unfolding check_durability_call after_durability acknowledged_of durability_checked check_durability
-  durability_planned r n p = record {
-    plan = check_asked q check_durability_call after_durability (λ s. refl) n r.code (λ s h ef. (p.to s h ef).code)
-        (durability_checked r.highest)
-        (λ s h ef. ap (λ (m : ℕ). durability_checked m s) (sym (p.to s h ef).highest));
-  }
+  module _ (n : not c ≡ false) (r : DurabilityAsked) (p : Asks b F (DurabilityTold r)) where
+    ten : (t : Bool) (m : ℕ) → m ≡ pick t 0 10 → 0 < m → ◌≡◌ {A = ℕ} 10 (pick t 0 10)
+    ten true m e l = absurd (omega arith)
+    ten false m e l = refl
+
+    pub durability_full : 0 < r.code → DurabilityPlanned b F (Err Room)
+    unfolding check_durability_call after_durability acknowledged_of checker_code
+    durability_full l = record {
+      plan = check_asked q check_durability_call after_durability (λ s. refl) n (Err Room)
+          (λ s h ef. ten (checker_fits s.config s.limits (after_durability s)) r.code (p.to s h ef).code l)
+          durability_checked (λ v e s h ef. absurd cc);
+    }
+
+    pub durability_planned : r.code ≤ 0 → DurabilityPlanned b F (Ok r.highest)
+    unfolding check_durability_call after_durability acknowledged_of durability_checked check_durability
+    durability_planned l = record {
+      plan = check_asked q check_durability_call after_durability (λ s. refl) n (Ok r.highest)
+          (λ s h ef. let z : 0 ≡ r.code = omega arith in z ∙ (p.to s h ef).code)
+          durability_checked
+          (λ v e s h ef. ap (λ (m : ℕ). durability_checked m s) (sym (p.to s h ef).highest ∙ ok_same e));
+    }
 
 -- ---- one reply, one server
 
@@ -189,13 +206,10 @@ durability_acts b b₁ b₂ F highest run counts qr qc p q = record {
 
 -- ---- the exits
 
-module _ (b : List ℕ) (g : Gate) (p : DurabilityAsked) (q : Gated b g) (y : g.refusal ≤ 0) (k : DurabilityPlanned b g.capacity p) where
-  pub durability_no : (r : DoneAnswer) → 0 < p.code → r ≡ done_no p.code → (r, b) ≡ call done_no done_yes b check_durability_call
-  durability_no r n e = call_refused done_no done_yes b check_durability_call g q y p.code tt (durability_checked p.highest)
-      k.plan r n e
+module _ (b : List ℕ) (g : Result Capacity Refusal) (q : Gated b g) (F : Capacity) (y : g ≡ Ok F) (p : Result ℕ Refusal) (k : DurabilityPlanned b F p) where
+  pub durability_no : (refusal : Refusal) → p ≡ Err refusal → (done_no (refusal_number refusal), b) ≡ call done_no done_yes b check_durability_call
+  durability_no refusal e = call_refused done_no done_yes b check_durability_call g q F y p _ _ k.plan (done_no (refusal_number refusal)) refusal e refl
 
-  pub durability_done : (b₁ : List ℕ) (r : DoneAnswer) → p.code ≤ 0 → Changes b b₁ g.capacity (durability_checked p.highest) → r
-      ≡ done_no 0
-      → (r, b₁) ≡ call done_no done_yes b check_durability_call
-  durability_done b₁ r n c e = call_done done_no done_yes b check_durability_call g q y p.code tt (durability_checked p.highest)
-      k.plan b₁ r n c e
+  pub durability_done : (b₁ : List ℕ) (highest : ℕ) → p ≡ Ok highest → Changes b b₁ F (durability_checked highest)
+      → (done_no 0, b₁) ≡ call done_no done_yes b check_durability_call
+  durability_done b₁ highest e c = call_done done_no done_yes b check_durability_call g q F y p _ _ k.plan b₁ (done_no 0) highest e c refl

@@ -1,8 +1,12 @@
 -- What the check of log matching does (matching.rt): what its contracts cite. Assumes nothing.
-use Rattle.std.specs.Prelude.{ℕ, ◌+◌, ◌-◌}
+use Rattle.std.specs.Prelude.{List, ℕ, ◌+◌, ◌-◌, Result}
 use Rattle.units.specs.declared.SimTime.{SimTime}
+use Rattle.units.specs.declared.refusal.Refusal.{Refusal}
 use Rattle.model.specs.State.{State, id_of}
 use Rattle.model.specs.Fields.{with_checker}
+use Rattle.model.specs.Calls.{check_log_matching_call}
+use Rattle.state.specs.declared.Capacity.{Capacity}
+use Rattle.state.specs.Changes.{Planned}
 use Rattle.state_asks.specs.Asks.{mismatch_between, after_matching}
 use Rattle.state_checks.specs.Acts.{mismatch_reported}
 use Rattle.sim_checks.specs.Steps.{each}
@@ -18,3 +22,7 @@ against_checked time servers i s = each (pair_checked time i) (i + 1) (servers -
 -- The state with every pair of logs checked.
 unfoldable pub matching_checked : State → State
 matching_checked s = with_checker s (after_matching s)
+
+-- What the check will do: the refusal, or every pair is checked.
+pub record MatchingPlanned (b : List ℕ) (F : Capacity) (r : Result (Unit {0}) Refusal) : Type 0 where
+  pub plan : Planned b F r check_log_matching_call (λ u. tt) (λ u. matching_checked)

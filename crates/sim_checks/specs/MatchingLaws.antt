@@ -10,6 +10,7 @@ use Rattle.std.specs.Prelude.{Ok, Err}
 use Rattle.std.specs.declared.result.Result.{Result}
 use Rattle.laws.specs.Bools.{pick}
 use Rattle.units.specs.declared.refusal.Refusal.{Refusal}
+use Rattle.units.specs.declared.refusal.Refusal.TheVariants as question
 use Rattle.units.specs.declared.refusal.Refusal.TheVariants.{Room}
 use Rattle.units.specs.Refusals.{refusal_number, answer_number}
 use Rattle.model.specs.Fits.{checker_fits}
@@ -23,40 +24,43 @@ use Rattle.state.specs.declared.Run.{Run}
 use Rattle.state.specs.Area.{run_of}
 use Rattle.state.specs.Fitting.{area_fits}
 use Rattle.state.specs.FitsBy.{server_count}
-use Rattle.state.specs.Changes.{Inside, AreaOf, Changes, Reads, Planned}
+use Rattle.state.specs.Changes.{Inside, Gated, AreaOf, Changes, Reads, Planned}
+use Rattle.state.specs.Call.{call}
+use Rattle.state.specs.Exits.{call_refused, call_done}
+use Rattle.answers.specs.Answers.{done_no, done_yes}
 use Rattle.state_asks.specs.Asks.{Asks, checker_code, log_of, mismatch_between, after_matching, MatchingTold}
 use Rattle.state_checks.specs.Acts.{mismatch_reported}
 use Rattle.state_checks.specs.ActLaws.{before_mismatch}
 use Rattle.sim_checks.specs.Steps.{closed_of, each, Turning}
 use Rattle.sim_checks.specs.StepLaws.{check_open, check_asked, before_each, turn, turn_first, turn_last}
-use Rattle.sim_checks.specs.Matching.{pair_checked, against_checked, matching_checked}
+use Rattle.sim_checks.specs.Matching.{pair_checked, against_checked, matching_checked, MatchingPlanned}
 use Rattle.checks.specs.declared.Mismatch.{Mismatch}
 
 -- ---- matching_plan
 
 module _ (b : List ℕ) (F : Capacity) (c : Bool) (q : Reads b F c closed_of) where
-  pub matching_open : not c ≡ true → Planned b F 6 check_log_matching_call tt matching_checked
+  pub matching_open : not c ≡ true → MatchingPlanned b F (Err question.Phase)
   unfolding check_log_matching_call after_matching
-  matching_open n = check_open q check_log_matching_call after_matching (λ s. refl) matching_checked n
+  matching_open n = record { plan = check_open q check_log_matching_call after_matching (λ s. refl) (λ u. matching_checked) n }
 
   module _ (r : Result ℕ Refusal) (n : not c ≡ false) (p : Asks b F (MatchingTold r)) where
-    matching_planned : (k : ℕ) → k ≡ answer_number r → Planned b F k check_log_matching_call tt matching_checked
+    pub matching_planned : (x : Result (Unit {0}) Refusal) → answer_number x ≡ answer_number r → MatchingPlanned b F x
     unfolding check_log_matching_call after_matching matching_checked checker_code
-    matching_planned k e =
-        check_asked q check_log_matching_call after_matching (λ s. refl) n k
-        (λ s h ef. e ∙ ap answer_number (p.to s h ef).is ∙ number (checker_fits s.config s.limits (after_matching s)) (p.to s h ef).reports) matching_checked
-        (λ s h ef. refl)
+    matching_planned x e = record {
+      plan = check_asked q check_log_matching_call after_matching (λ s. refl) n x
+          (λ s h ef. e ∙ ap answer_number (p.to s h ef).is ∙ number (checker_fits s.config s.limits (after_matching s)) (p.to s h ef).reports) (λ u. matching_checked)
+          (λ v o s h ef. refl);
+    }
       where
         number : (t : Bool) (m : ℕ) → answer_number (pick t (Ok m) (Err Room)) ≡ pick t 0 10
         number true m = refl
         number false m = refl
 
-    pub matching_fits : (m : ℕ) → r ≡ Ok m → Planned b F 0 check_log_matching_call tt matching_checked
-    matching_fits m e = matching_planned 0 (sym (ap answer_number e))
+    pub matching_fits : (m : ℕ) → r ≡ Ok m → MatchingPlanned b F (Ok tt)
+    matching_fits m e = matching_planned (Ok tt) (sym (ap answer_number e))
 
-    pub matching_full : (refusal : Refusal) (k : ℕ) → r ≡ Err refusal → k ≡ refusal_number refusal
-        → Planned b F k check_log_matching_call tt matching_checked
-    matching_full refusal k e f = matching_planned k (f ∙ sym (ap answer_number e))
+    pub matching_full : (refusal : Refusal) → r ≡ Err refusal → MatchingPlanned b F (Err refusal)
+    matching_full refusal e = matching_planned (Err refusal) (sym (ap answer_number e))
 
 -- ---- check_pair
 
@@ -171,3 +175,13 @@ matching_acts b b₁ F run q p = record {
       ∙ ap (λ (t : SimTime). with_checker s (check_log_matching s.checker t (logs_from 0 s.servers))) time in
       subst (AreaOf b₁ r F) e (p.to s r h (ap state_fits e ∙ u));
 }
+
+-- ---- the exits
+
+module _ (b : List ℕ) (g : Result Capacity Refusal) (q : Gated b g) (F : Capacity) (y : g ≡ Ok F) (p : Result (Unit {0}) Refusal)
+    (k : MatchingPlanned b F p) where
+  pub matching_no : (refusal : Refusal) → p ≡ Err refusal → (done_no (refusal_number refusal), b) ≡ call done_no done_yes b check_log_matching_call
+  matching_no refusal e = call_refused done_no done_yes b check_log_matching_call g q F y p _ _ k.plan (done_no (refusal_number refusal)) refusal e refl
+
+  pub matching_done : (b₁ : List ℕ) (u : Unit {0}) → p ≡ Ok u → Changes b b₁ F matching_checked → (done_no 0, b₁) ≡ call done_no done_yes b check_log_matching_call
+  matching_done b₁ u e c = call_done done_no done_yes b check_log_matching_call g q F y p _ _ k.plan b₁ (done_no 0) u e c refl

@@ -1,5 +1,5 @@
 -- What loops over steps cite, and the question of the phase. Assumes nothing.
-use Rattle.std.specs.Prelude.{◌≡◌, Bool, List, eqb, length}
+use Rattle.std.specs.Prelude.{◌≡◌, Bool, List, eqb, length, Result, Ok, Err}
 use Rattle.std.proofs.Math.Path.{refl, sym, ap, subst}
 use Rattle.std.proofs.Common.{◌∙◌, add-one}
 use Rattle.std.proofs.Math.Bool.{true, false, not}
@@ -7,6 +7,9 @@ use Prim.Native.Nat.{ℕ, zero, suc, ◌+◌, ◌-◌, ◌≤◌, ◌<◌}
 use native.Mathlib.Omega.{arith}
 use Rattle.laws.specs.Bools.{pick, ◌and◌, and_true}
 use Rattle.laws.specs.Decides.{false_true}
+use Rattle.units.specs.declared.refusal.Refusal.{Refusal}
+use Rattle.units.specs.declared.refusal.Refusal.TheVariants as question
+use Rattle.units.specs.Refusals.{answer_number}
 use Rattle.checks.specs.Checks.{Checker}
 use Rattle.model.specs.State.{State, Phase, closed, writing, sending}
 use Rattle.model.specs.Fields.{with_checker}
@@ -19,7 +22,7 @@ use Rattle.state.specs.Area.{Area, capacity_of}
 use Rattle.state.specs.Fitting.{area_fits}
 use Rattle.state.specs.FitsBy.{fits_test}
 use Rattle.state.specs.Changes.{Inside, AreaOf, Changes, Reads, Planned, judged}
-use Rattle.state.specs.Exits.{inside_after}
+use Rattle.state.specs.Exits.{inside_after, planned_err}
 use Rattle.state_header.specs.Header.{phase_of}
 use Rattle.state_header.specs.Laws.{closed_is}
 use Rattle.state_asks.specs.Asks.{checker_code}
@@ -39,12 +42,10 @@ closed_read b F o q = record {
 
 module _ {b : List ℕ} {F : Capacity} {c : Bool} (q : Reads b F c closed_of) (call : State → Out (Unit {0})) (after : State → Checker)
     (is : (s : State) → call s ≡ ask (is_closed s.phase) 6 (done tt (with_checker s (after s)))) where
-  pub check_open : (op : State → State) → not c ≡ true → Planned b F 6 call tt op
+  pub check_open : {P : Type 0} (op : P → State → State) → not c ≡ true → Planned b F (Err question.Phase) call (λ p. tt) op
   unfolding closed_of judged
-  check_open op n = record {
-    code = λ s h ef. sym (ap judged (is s ∙ ap (λ (t : Bool). ask t 6 (done tt (with_checker s (after s)))) (open_is s h ef)));
-    gives = λ s h ef e. absurd (omega arith);
-  }
+  check_open op n =
+      planned_err question.Phase (λ s h ef. sym (ap judged (is s ∙ ap (λ (t : Bool). ask t 6 (done tt (with_checker s (after s)))) (open_is s h ef))))
     where
       open_is : (s : State) → Area b s → F ≡ capacity_of s → is_closed s.phase ≡ false
       open_is s h ef = sym (q.to s h ef) ∙ is_false c n
@@ -53,7 +54,7 @@ module _ {b : List ℕ} {F : Capacity} {c : Bool} (q : Reads b F c closed_of) (c
           is_false true e = absurd (false_true e)
           is_false false e = refl
 
-  module _ (n : not c ≡ false) (k : ℕ) (told : (s : State) → Area b s → F ≡ capacity_of s → k ≡ checker_code s (after s)) where
+  module _ {P : Type 0} (n : not c ≡ false) (r : Result P Refusal) (told : (s : State) → Area b s → F ≡ capacity_of s → answer_number r ≡ checker_code s (after s)) where
     made : (s : State) → Area b s → F ≡ capacity_of s → call s ≡ done tt (with_checker s (after s))
     unfolding closed_of
     made s h ef = is s ∙ ap (λ (t : Bool). ask t 6 (done tt (with_checker s (after s)))) (sym (q.to s h ef) ∙ is_true c n)
@@ -62,8 +63,8 @@ module _ {b : List ℕ} {F : Capacity} {c : Bool} (q : Reads b F c closed_of) (c
         is_true true e = refl
         is_true false e = absurd (false_true (sym e))
 
-    pub check_asked : (op : State → State) → ((s : State) → Area b s → F ≡ capacity_of s → with_checker s (after s) ≡ op s)
-        → Planned b F k call tt op
+    pub check_asked : (op : P → State → State) → ((v : P) → r ≡ Ok v → (s : State) → Area b s → F ≡ capacity_of s → with_checker s (after s) ≡ op v s)
+        → Planned b F r call (λ p. tt) op
     unfolding judged checker_code
     check_asked op same = record {
       code = λ s h ef.
@@ -72,7 +73,7 @@ module _ {b : List ℕ} {F : Capacity} {c : Bool} (q : Reads b F c closed_of) (c
           ∙ ap (λ (t : Bool). pick t 0 10)
           (fits_checks s (after s) (fits_test s (area_fits h) 13)
           ∙ ap (λ (t : Bool). checker_fits s.config s.limits (after s) and t) (area_fits h) ∙ and_true _));
-      gives = λ s h ef e. made s h ef ∙ ap (λ (x : State). done tt x) (same s h ef);
+      gives = λ v e s h ef. made s h ef ∙ ap (λ (x : State). done tt x) (same v e s h ef);
     }
 
 -- ---- steps in a row

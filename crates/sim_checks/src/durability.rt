@@ -3,32 +3,31 @@ ghost use Rattle.std.specs.Prelude.{◌≡◌, ◌<◌};
 ghost use Rattle.model.specs.Calls.{check_durability_call};
 ghost use Rattle.state.specs.Changes.{Inside, Gated, Changes};
 ghost use Rattle.state.specs.Call.{call};
-ghost use Rattle.answers.specs.Answers.{done_no, done_yes};
+ghost use Rattle.answers.specs.Answers.{done_no, done_yes, done_answer};
 ghost use Rattle.sim_checks.specs.Steps.{each};
 ghost use Rattle.sim_checks.specs.Durability.{reply_checked, server_checked, durability_checked, DurabilityPlanned};
 
 use crate::is_closed;
 use answers::DoneAnswer;
-use checks_durability::DurabilityAsked;
-use state::{Capacity, Gate};
+use state::Capacity;
 use state_asks::durability;
 use state_checks::acts;
+use units::refusal::Refusal;
 use units::{NodeId, SimTime};
 
 // Questions 6 and 10, and the highest acknowledged index.
-fn durability_plan(area: &[u8], f: Capacity) -> DurabilityAsked
+fn durability_plan(area: &[u8], f: Capacity) -> Result<u64, Refusal>
     requires { Inside area.now f }
     ensures { DurabilityPlanned area.now f result }
 {
-    let closed = is_closed(area, f);
-    if !closed {
-        return DurabilityAsked {
-            code: 6,
-            reports: 0,
-            highest: 0,
-        };
+    if !is_closed(area, f) {
+        return Err(Refusal::Phase);
     }
-    durability::durability_asked(area, f)
+    let asked = durability::durability_asked(area, f);
+    if 0 < asked.code {
+        return Err(Refusal::Room);
+    }
+    Ok(asked.highest)
 }
 
 // ---- acknowledged commands
@@ -89,21 +88,21 @@ fn durability_act(area: &mut [u8], f: Capacity, highest: u64)
     check_servers(area, f, run.now, highest);
 }
 
+// Durability checked, or the refusal.
+fn durable_checked(area: &mut [u8], g: Result<Capacity, Refusal>) -> Result<(), Refusal>
+    requires { Gated area.old g }
+    ensures { (done_answer result, area.new) ≡ call done_no done_yes area.old check_durability_call }
+{
+    let f = g?;
+    let highest = durability_plan(area, f)?;
+    durability_act(area, f, highest);
+    Ok(())
+}
+
 // Durability checked.
-pub fn check_durability_in(area: &mut [u8], g: Gate) -> DoneAnswer
+pub fn check_durability_in(area: &mut [u8], g: Result<Capacity, Refusal>) -> DoneAnswer
     requires { Gated area.old g }
     ensures { (result, area.new) ≡ call done_no done_yes area.old check_durability_call }
 {
-    let refusal = g.refusal;
-    let f = g.capacity;
-    if 0 < refusal {
-        return answers::done(refusal);
-    }
-    let p = durability_plan(area, f);
-    let code = p.code;
-    if 0 < code {
-        return answers::done(code);
-    }
-    durability_act(area, f, p.highest);
-    answers::done(0)
+    DoneAnswer::from(durable_checked(area, g))
 }

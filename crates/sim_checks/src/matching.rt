@@ -1,32 +1,30 @@
 // Log matching: every pair of servers' logs, those of stopped servers too (check_log_matching).
 ghost use Rattle.std.specs.Prelude.{◌≡◌, ◌+◌, ◌-◌, ◌<◌};
 ghost use Rattle.model.specs.Calls.{check_log_matching_call};
-ghost use Rattle.state.specs.Changes.{Inside, Gated, Changes, Planned};
+ghost use Rattle.state.specs.Changes.{Inside, Gated, Changes};
 ghost use Rattle.state.specs.Call.{call};
-ghost use Rattle.answers.specs.Answers.{done_no, done_yes};
+ghost use Rattle.answers.specs.Answers.{done_no, done_yes, done_answer};
 ghost use Rattle.sim_checks.specs.Steps.{each};
-ghost use Rattle.sim_checks.specs.Matching.{pair_checked, against_checked, matching_checked};
+ghost use Rattle.sim_checks.specs.Matching.{pair_checked, against_checked, matching_checked, MatchingPlanned};
 
 use crate::is_closed;
 use answers::DoneAnswer;
-use state::{Capacity, Gate};
+use state::Capacity;
 use state_asks::matching;
 use state_checks::acts;
+use units::refusal::Refusal;
 use units::{NodeId, SimTime};
 
 // Questions 6 and 10.
-fn matching_plan(area: &[u8], f: Capacity) -> u64
+fn matching_plan(area: &[u8], f: Capacity) -> Result<(), Refusal>
     requires { Inside area.now f }
-    ensures { Planned area.now f result check_log_matching_call tt matching_checked }
+    ensures { MatchingPlanned area.now f result }
 {
-    let closed = is_closed(area, f);
-    if !closed {
-        return 6;
+    if !is_closed(area, f) {
+        return Err(Refusal::Phase);
     }
-    match matching::matching_asked(area, f) {
-        Ok(_) => 0,
-        Err(refusal) => u64::from(refusal),
-    }
+    matching::matching_asked(area, f)?;
+    Ok(())
 }
 
 // The logs of the servers at two places.
@@ -72,20 +70,21 @@ fn matching_act(area: &mut [u8], f: Capacity)
     check_pairs(area, f, run.now);
 }
 
+// Log matching checked over every pair of logs, or the refusal.
+fn log_matching_checked(area: &mut [u8], g: Result<Capacity, Refusal>) -> Result<(), Refusal>
+    requires { Gated area.old g }
+    ensures { (done_answer result, area.new) ≡ call done_no done_yes area.old check_log_matching_call }
+{
+    let f = g?;
+    matching_plan(area, f)?;
+    matching_act(area, f);
+    Ok(())
+}
+
 // Log matching checked over every pair of logs.
-pub fn check_log_matching_in(area: &mut [u8], g: Gate) -> DoneAnswer
+pub fn check_log_matching_in(area: &mut [u8], g: Result<Capacity, Refusal>) -> DoneAnswer
     requires { Gated area.old g }
     ensures { (result, area.new) ≡ call done_no done_yes area.old check_log_matching_call }
 {
-    let refusal = g.refusal;
-    let f = g.capacity;
-    if 0 < refusal {
-        return answers::done(refusal);
-    }
-    let code = matching_plan(area, f);
-    if 0 < code {
-        return answers::done(code);
-    }
-    matching_act(area, f);
-    answers::done(0)
+    DoneAnswer::from(log_matching_checked(area, g))
 }

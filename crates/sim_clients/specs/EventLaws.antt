@@ -1,5 +1,6 @@
 -- What the proofs of lib.rt cite, and question 10 of a client's command, retry and timeout. Assumes nothing.
-use Rattle.std.specs.Prelude.{◌≡◌, refl, false, not, ◌&&◌, List, ℕ, ◌+◌, ◌<◌, length, Option, None, Some}
+use Rattle.std.specs.Option.{unwrap_or}
+use Rattle.std.specs.Prelude.{◌≡◌, refl, false, not, ◌&&◌, List, ℕ, ◌+◌, ◌<◌, length, Option, None, Some, is_some}
 use Rattle.std.proofs.Math.Path.{sym, ap, ap₂}
 use Rattle.std.proofs.Common.{subst, ◌∙◌, arith}
 use Rattle.std.proofs.Math.Bool.{Bool, true}
@@ -30,7 +31,6 @@ use Rattle.state.specs.Changes.{AreaOf, Changes, Reads}
 use Rattle.state_header.specs.Header.{workload_set}
 use Rattle.state_header.specs.Laws.{fits_workload, under_word}
 use Rattle.state_records.specs.Records.{client_read, client_set}
-use Rattle.sim_outputs.specs.declared.Sum.{Sum}
 use Rattle.sim_outputs.specs.Outputs.{Sums}
 use Rattle.sim_attempt.specs.Attempts.{waiting, room_of, arrival_time, attempt_test, delayed, attempted_as}
 use Rattle.sim_attempt.specs.Laws.{client_changed, client_same, client_fits_at, limits_of, fits_attempt}
@@ -46,13 +46,13 @@ pub awaits_told : (k : Client) (attempt : ℕ) (w : Bool) → w ≡ waiting k.ou
 unfolding awaits_in
 awaits_told k attempt w e = ap (λ (x : Bool). eqb k.attempt attempt && x) e
 
-pub begins : (k : Client) (time : SimTime) (next : Sum) → Sums k.next_seq 1 next
-    → Begins k time (record { target = k.target; next_seq = next.value; attempt = k.attempt; outstanding = Some (record { seq = k.next_seq; first_sent = time }) })
+pub begins : (k : Client) (time : SimTime) (next : Option ℕ) (v : ℕ) → Sums k.next_seq 1 next → v ≡ unwrap_or next 0
+    → Begins k time (record { target = k.target; next_seq = v; attempt = k.attempt; outstanding = Some (record { seq = k.next_seq; first_sent = time }) })
 unfolding begun
-begins k time next q = record {
+begins k time next v q ev = record {
   is = λ t.
       ap (λ (n : ℕ). let y : Client = record { target = k.target; next_seq = n; attempt = k.attempt; outstanding = Some (record { seq = k.next_seq; first_sent = time }) } in y)
-      (q.value (q.fits ∙ t));
+      (ev ∙ q.value (q.fits ∙ t));
 }
 
 -- what a client that was read tells of the state's
@@ -83,13 +83,13 @@ module _ (b : List ℕ) (F : Capacity) (time room c : ℕ) (k : Client) (w : Boo
     to = λ s h ef. sym (ap (λ (x : Bool). pick x true (word ((client_at s c).next_seq + 1) and attempt_test time room (client_at s c).attempt s)) (sym (e ∙ read_waits k c q h ef) ∙ y));
   }
 
-  pub send_asked : (next : Sum) (fits : Bool) → w ≡ waiting k.outstanding → w ≡ false → Sums k.next_seq 1 next → Reads b F fits (attempt_test time room k.attempt)
-      → Reads b F (next.fits && fits) (send_test time room c)
+  pub send_asked : (next : Option ℕ) (some fits : Bool) → w ≡ waiting k.outstanding → w ≡ false → Sums k.next_seq 1 next → some ≡ is_some next → Reads b F fits (attempt_test time room k.attempt)
+      → Reads b F (some && fits) (send_test time room c)
   unfolding send_test
-  send_asked next fits e y p r = record {
+  send_asked next some fits e y p es r = record {
     to = λ s h ef.
-        code_and next.fits fits
-        ∙ ap₂ (λ (x y : Bool). x and y) (p.fits ∙ ap (λ (n : ℕ). word (n + 1)) (read_seq k c q h ef)) (r.to s h ef ∙ ap (λ (n : ℕ). attempt_test time room n s) (read_attempt k c q h ef))
+        code_and some fits
+        ∙ ap₂ (λ (x y : Bool). x and y) (es ∙ p.fits ∙ ap (λ (n : ℕ). word (n + 1)) (read_seq k c q h ef)) (r.to s h ef ∙ ap (λ (n : ℕ). attempt_test time room n s) (read_attempt k c q h ef))
         ∙ sym (ap (λ (x : Bool). pick x true (word ((client_at s c).next_seq + 1) and attempt_test time room (client_at s c).attempt s)) (sym (e ∙ read_waits k c q h ef) ∙ y));
   }
 

@@ -1,5 +1,6 @@
 -- What the proofs of redirects.rt cite, and question 10 of a redirect. Assumes nothing.
-use Rattle.std.specs.Prelude.{◌≡◌, not, ◌&&◌, List, ℕ, ◌+◌, ◌-◌, ◌^◌, ◌≤◌, ◌<◌, length, Option, None, Some}
+use Rattle.std.specs.Option.{unwrap_or}
+use Rattle.std.specs.Prelude.{◌≡◌, not, ◌&&◌, List, ℕ, ◌+◌, ◌-◌, ◌^◌, ◌≤◌, ◌<◌, length, Option, None, Some, is_some}
 use Rattle.std.proofs.Math.Path.{refl, sym, ap, ap₂, subst}
 use Rattle.std.proofs.Common.{◌∙◌, arith}
 use Rattle.std.proofs.Math.Bool.{Bool, true, false}
@@ -31,7 +32,6 @@ use Rattle.state_header.specs.Laws.{fits_workload, under_word}
 use Rattle.state_records.specs.Records.{client_read, client_set}
 use Rattle.state_queue.specs.Events.{queue_room, event_in_range, plain, pushed}
 use Rattle.state_queue.specs.Fits.{fits_push, fits_unpushed, plain_range}
-use Rattle.sim_outputs.specs.declared.Sum.{Sum}
 use Rattle.sim_outputs.specs.Outputs.{Sums}
 use Rattle.sim_attempt.specs.Attempts.{room_of, attempt_test, attempted_as}
 use Rattle.sim_attempt.specs.Laws.{client_changed, limits_of, room_is, number_tests, fits_set}
@@ -179,7 +179,7 @@ module _ (s : State) (c : ℕ) (t : state_fits s ≡ true) (i : c < s.config.cli
 
 -- ---- the plan
 
-pub backoff_read : (b : List ℕ) (F : Capacity) (time : ℕ) (c : SimConfig) (r : Sum) → Reads b F c settings_of → Sums time c.client_backoff.0 r → BacksOff b F time r
+pub backoff_read : (b : List ℕ) (F : Capacity) (time : ℕ) (c : SimConfig) (r : Option ℕ) → Reads b F c settings_of → Sums time c.client_backoff.0 r → BacksOff b F time r
 unfolding settings_of backoff_time backoff_fits
 backoff_read b F time c r pc q =
     let is : (s : State) → Area b s → F ≡ capacity_of s → time + c.client_backoff.0 ≡ time + s.config.client_backoff.0 =
@@ -215,10 +215,10 @@ module _ (b : List ℕ) (F : Capacity) (time room c attempt : ℕ) (hint : Optio
       to = λ s h ef. r.to s h ef ∙ sym (test_is s h ef ∙ ap (λ (x : Bool). pick x (attempt_test time room k.attempt s) (leb 1 room and backoff_fits time s)) y);
     }
 
-    pub redirect_later : (end : Sum) → u ≡ false → BacksOff b F time end → Reads b F (leb 1 room && end.fits) (redirect_test time room c attempt hint)
-    redirect_later end y r = record {
+    pub redirect_later : (end : Option ℕ) (some : Bool) → u ≡ false → BacksOff b F time end → some ≡ is_some end → Reads b F (leb 1 room && some) (redirect_test time room c attempt hint)
+    redirect_later end some y r es = record {
       to = λ s h ef.
-          code_and (leb 1 room) end.fits ∙ ap (λ (x : Bool). leb 1 room and x) (r.fits.to s h ef)
+          code_and (leb 1 room) some ∙ ap (λ (x : Bool). leb 1 room and x) (es ∙ r.fits.to s h ef)
           ∙ sym (test_is s h ef ∙ ap (λ (x : Bool). pick x (attempt_test time room k.attempt s) (leb 1 room and backoff_fits time s)) y);
     }
 
@@ -239,17 +239,17 @@ drawn_acts b b₁ b₂ F c k m run d pr ed em p₁ p₂ = record {
       subst (λ (x : State). AreaOf b₂ l F x) same (p₂.to s₁ l (p₁.to s l h t₁) t₂);
 }
 
-pub retry_acts : (b b₁ b₂ : List ℕ) (F : Capacity) (c : ℕ) (k : Client) (attempt : ℕ) (run : Run) (end : Sum) → Reads b F run run_of → BacksOff b F run.now.0 end
-    → Changes b b₁ F (target_drawn c k) → Changes b₁ b₂ F (pushed (plain (record { 0 = end.value }) (event.ClientRetry c attempt))) → Changes b b₂ F (retry_put c k attempt)
+pub retry_acts : (b b₁ b₂ : List ℕ) (F : Capacity) (c : ℕ) (k : Client) (attempt : ℕ) (run : Run) (end : Option ℕ) (v : ℕ) → Reads b F run run_of → BacksOff b F run.now.0 end → v ≡ unwrap_or end 0
+    → Changes b b₁ F (target_drawn c k) → Changes b₁ b₂ F (pushed (plain (record { 0 = v }) (event.ClientRetry c attempt))) → Changes b b₂ F (retry_put c k attempt)
 unfolding retry_put backoff_fits
-retry_acts b b₁ b₂ F c k attempt run end pr pe p₁ p₂ = record {
+retry_acts b b₁ b₂ F c k attempt run end v pr pe ev p₁ p₂ = record {
   to = λ s l h t.
       let s₁ : State = target_drawn c k s in
       let now : run.now.0 ≡ s.now.0 = ap (λ (x : Run). x.now.0) (pr.to s h.area h.capacity) in
       let w : word (backoff_time s.now.0 s) ≡ true = time_word s₁ (record { 0 = backoff_time s.now.0 s }) (event.ClientRetry c attempt) t in
-      let ee : end.value ≡ backoff_time s.now.0 s =
-      (pe.value (pe.fits.to s h.area h.capacity ∙ ap (λ (m : ℕ). word (backoff_time m s)) now ∙ w)).to s h.area h.capacity ∙ ap (λ (m : ℕ). backoff_time m s) now in
-      let same : pushed (plain (record { 0 = end.value }) (event.ClientRetry c attempt)) s₁ ≡ retry_put c k attempt s =
+      let ee : v ≡ backoff_time s.now.0 s =
+      ev ∙ (pe.value (pe.fits.to s h.area h.capacity ∙ ap (λ (m : ℕ). word (backoff_time m s)) now ∙ w)).to s h.area h.capacity ∙ ap (λ (m : ℕ). backoff_time m s) now in
+      let same : pushed (plain (record { 0 = v }) (event.ClientRetry c attempt)) s₁ ≡ retry_put c k attempt s =
       ap (λ (n : ℕ). pushed (plain (record { 0 = n }) (event.ClientRetry c attempt)) s₁) ee in
       let t₁ : state_fits s₁ ≡ true = fits_unpushed s₁ (plain (record { 0 = backoff_time s.now.0 s }) (event.ClientRetry c attempt)) t in
       subst (λ (x : State). AreaOf b₂ l F x) same (p₂.to s₁ l (p₁.to s l h t₁) (ap state_fits same ∙ t));

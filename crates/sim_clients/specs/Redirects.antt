@@ -1,5 +1,6 @@
 -- What a redirect asks and does (redirects.rt): what its contracts cite. Assumes nothing.
-use Rattle.std.specs.Prelude.{◌≡◌, Bool, true, false, ◌&&◌, List, ℕ, ◌+◌, ◌-◌, leb, length, Option, None, Some}
+use Rattle.std.specs.Option.{unwrap_or}
+use Rattle.std.specs.Prelude.{◌≡◌, Bool, true, false, ◌&&◌, List, ℕ, ◌+◌, ◌-◌, leb, length, Option, None, Some, is_some}
 use Rattle.laws.specs.Bools.{pick, ◌and◌}
 use Rattle.clients.specs.declared.Client.{Client}
 use Rattle.queue.specs.Range.{word}
@@ -10,7 +11,6 @@ use Rattle.model.specs.Simulation.{client_redirect}
 use Rattle.state.specs.declared.Capacity.{Capacity}
 use Rattle.state.specs.Changes.{Reads}
 use Rattle.state_queue.specs.Events.{plain, pushed}
-use Rattle.sim_outputs.specs.declared.Sum.{Sum}
 use Rattle.sim_attempt.specs.Attempts.{attempt_test, attempted_as}
 use Rattle.sim_clients.specs.ClientEvents.{awaits, target_drawn}
 use Rattle.units.specs.declared.NodeId.{NodeId}
@@ -37,10 +37,10 @@ backoff_time time s = time + s.config.client_backoff.0
 unfoldable pub backoff_fits : ℕ → State → Bool
 backoff_fits time s = word (backoff_time time s)
 
--- Whether the end of a backoff has 64 bits, and where it has, when it is.
-pub record BacksOff (b : List ℕ) (F : Capacity) (time : ℕ) (r : Sum) : Type 0 where
-  pub fits : Reads b F r.fits (backoff_fits time)
-  pub value : r.fits ≡ true → Reads b F r.value (backoff_time time)
+-- When a backoff ends where that has 64 bits, else nothing.
+pub record BacksOff (b : List ℕ) (F : Capacity) (time : ℕ) (r : Option ℕ) : Type 0 where
+  pub fits : Reads b F (is_some r) (backoff_fits time)
+  pub value : is_some r ≡ true → Reads b F (unwrap_or r 0) (backoff_time time)
 
 -- Question 10 of a redirect of client c: to a known leader that of an attempt, else room for a retry, at a time of 64 bits.
 unfoldable pub redirect_test : ℕ → ℕ → ℕ → ℕ → Option NodeId → State → Bool

@@ -36,7 +36,6 @@ use Rattle.state_records.specs.Records.{client_read, client_set, reply_count, re
 use Rattle.state_records.specs.Fits.{fits_client, fits_replied}
 use Rattle.state_queue.specs.Events.{queue_room, event_in_range, plain, pushed}
 use Rattle.state_queue.specs.Fits.{fits_push, fits_unpushed, plain_range, same_tests}
-use Rattle.sim_outputs.specs.declared.Sum.{Sum}
 use Rattle.sim_outputs.specs.Outputs.{Sums}
 use Rattle.sim_attempt.specs.Attempts.{room_of}
 use Rattle.sim_attempt.specs.Acts as attempt
@@ -77,13 +76,13 @@ module _ (b : List ℕ) (F : Capacity) (room c seq : ℕ) (k : Client) (w : Bool
   unfolding reply_test
   reply_old n = record { to = λ s h ef. sym (ap (λ (x : Bool). pick x (tests s) true) (sym (answers_read s h ef) ∙ not-true w n)) }
 
-  pub reply_asked : (next : Sum) (count : ℕ) (counts : Bool) → not w ≡ false → Sums k.attempt 1 next → Reads b F count reply_count → Reads b F counts replies_room
-      → Reads b F (leb 1 room && next.fits && ltb count F.limits.history && counts) (reply_test room c seq)
+  pub reply_asked : (next : Option ℕ) (some : Bool) (count : ℕ) (counts : Bool) → not w ≡ false → Sums k.attempt 1 next → some ≡ is_some next → Reads b F count reply_count → Reads b F counts replies_room
+      → Reads b F (leb 1 room && some && ltb count F.limits.history && counts) (reply_test room c seq)
   unfolding reply_test reply_count
-  reply_asked next count counts n p r m = record {
+  reply_asked next some count counts n p es r m = record {
     to = λ s h ef.
-        four_is (leb 1 room) next.fits (ltb count F.limits.history) counts
-        ∙ ap₂ (λ (x y : Bool). leb 1 room and (x and y)) (p.fits ∙ ap (λ (j : ℕ). word (j + 1)) (read_attempt k c q h ef))
+        four_is (leb 1 room) some (ltb count F.limits.history) counts
+        ∙ ap₂ (λ (x y : Bool). leb 1 room and (x and y)) (es ∙ p.fits ∙ ap (λ (j : ℕ). word (j + 1)) (read_attempt k c q h ef))
         (ap₂ (λ (x y : Bool). x and y)
         (below_is count F.limits.history ∙ ap₂ (λ (x y : ℕ). leb (x + 1) y) (r.to s h ef) (ap (λ (G : Capacity). G.limits.history) ef)) (m.to s h ef))
         ∙ sym (ap (λ (x : Bool). pick x (tests s) true) (sym (answers_read s h ef) ∙ not-false w n));
@@ -104,9 +103,9 @@ reply_counted_lem b b' F m c next pm ec en k = record {
       subst (λ (x : Metrics). AreaOf b' l F (metrics_set x s)) e (k.to s l h (ap (λ (x : Metrics). state_fits (metrics_set x s)) e ∙ t));
 }
 
-pub rests : (k : Client) (next : Sum) → Sums k.attempt 1 next → RestsAs k (record { target = k.target; next_seq = k.next_seq; attempt = next.value; outstanding = None })
+pub rests : (k : Client) (next : Option ℕ) (v : ℕ) → Sums k.attempt 1 next → v ≡ unwrap_or next 0 → RestsAs k (record { target = k.target; next_seq = k.next_seq; attempt = v; outstanding = None })
 unfolding rested
-rests k next q = record { is = λ t. ap (λ (n : ℕ). with_attempt (with_outstanding k None) n) (q.value (q.fits ∙ t)) }
+rests k next v q ev = record { is = λ t. ap (λ (n : ℕ). with_attempt (with_outstanding k None) n) (ev ∙ q.value (q.fits ∙ t)) }
 
 rested_word : (k : Client) → word (rested k).attempt ≡ true → word (k.attempt + 1) ≡ true
 unfolding rested

@@ -51,14 +51,14 @@ fn awaits(client: Client, attempt: u64) -> bool
 fn begin_command(client: Client, time: SimTime) -> Client
     ensures { Begins client time result }
 {
-    let next = sim_outputs::sum64(client.next_seq, 1);
+    let next_seq = client.next_seq.checked_add(1).unwrap_or(0);
     let outstanding = Some(Outstanding {
         seq: client.next_seq,
         first_sent: time,
     });
     Client {
         target: client.target,
-        next_seq: next.value,
+        next_seq,
         attempt: client.attempt,
         outstanding,
     }
@@ -75,9 +75,9 @@ pub fn client_send_fits(area: &[u8], f: Capacity, time: u64, room: u64, c: u64) 
     if sim_attempt::is_waiting(outstanding) {
         return true;
     }
-    let next = sim_outputs::sum64(client.next_seq, 1);
+    let next = client.next_seq.checked_add(1);
     let fits = sim_attempt::attempt_fits(area, f, time, room, client.attempt);
-    next.fits & fits
+    next.is_some() & fits
 }
 
 // A client with nothing outstanding begins its next command (client_send).

@@ -16,7 +16,6 @@ ghost use Rattle.sim_clients.specs.Redirects.{
 use crate::{awaits, with_target};
 use clients::Client;
 use queue::Event;
-use sim_outputs::Sum;
 use state::Capacity;
 use units::{NodeId, SimTime};
 
@@ -48,14 +47,14 @@ fn is_known(slot: Option<u64>) -> bool
     }
 }
 
-// When a client that backs off from a time on tries again.
-fn backoff_at(area: &[u8], f: Capacity, time: u64) -> Sum
+// When a client that backs off from a time on tries again, if that has 64 bits.
+fn backoff_at(area: &[u8], f: Capacity, time: u64) -> Option<u64>
     requires { Inside area.now f }
     ensures { BacksOff area.now f time result }
 {
     let settings = state_header::settings_of(area, f);
     let backoff = settings.client_backoff;
-    sim_outputs::sum64(time, backoff.0)
+    time.checked_add(backoff.0)
 }
 
 // Whether the state after a redirect fits.
@@ -81,7 +80,7 @@ pub fn client_redirect_fits(
         return sim_attempt::attempt_fits(area, f, time, room, client.attempt);
     }
     let end = backoff_at(area, f, time);
-    (1 <= room) & end.fits
+    (1 <= room) & end.is_some()
 }
 
 // A client, which is now so, with a target drawn at random (random_server).
@@ -110,7 +109,7 @@ fn retry_later(area: &mut [u8], f: Capacity, c: u64, client: Client, attempt: u6
     let end = backoff_at(area, f, now.0);
     random_target(area, f, c, client);
     let retry = Event::ClientRetry { client: c, attempt };
-    state_queue::push_plain(area, f, SimTime(end.value), retry);
+    state_queue::push_plain(area, f, SimTime(end.unwrap_or(0)), retry);
 }
 
 // A client goes where it was sent.

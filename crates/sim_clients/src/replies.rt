@@ -49,10 +49,10 @@ pub fn client_reply_fits(area: &[u8], f: Capacity, room: u64, c: u64, seq: u64) 
         return true;
     }
     let limits = f.limits;
-    let next = sim_outputs::sum64(client.attempt, 1);
+    let next = client.attempt.checked_add(1);
     let count = state_records::reply_count(area, f);
     let counts = replies_room(area, f);
-    (1 <= room) & next.fits & (count < limits.history) & counts
+    (1 <= room) & next.is_some() & (count < limits.history) & counts
 }
 
 // One reply more in the metrics.
@@ -69,11 +69,10 @@ fn count_reply(area: &mut [u8], f: Capacity)
 fn rest(client: Client) -> Client
     ensures { RestsAs client result }
 {
-    let next = sim_outputs::sum64(client.attempt, 1);
     Client {
         target: client.target,
         next_seq: client.next_seq,
-        attempt: next.value,
+        attempt: client.attempt.checked_add(1).unwrap_or(0),
         outstanding: None,
     }
 }

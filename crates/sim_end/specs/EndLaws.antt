@@ -1,5 +1,5 @@
 -- What the proofs of the act and of the call cite, and question 10 of an end. Assumes nothing.
-use Rattle.std.specs.Prelude.{◌≡◌, false, not, List, ℕ, zero, suc, ◌+◌, ◌≤◌, ◌<◌, eqb, leb}
+use Rattle.std.specs.Prelude.{◌≡◌, false, not, List, ℕ, zero, suc, ◌+◌, ◌≤◌, ◌<◌, eqb, leb, Result, Ok, Err}
 use Rattle.std.proofs.Math.Path.{refl, sym, ap, ap₂, subst}
 use Rattle.std.proofs.Common.{◌∙◌, eqb-true, eq-eqb}
 use Rattle.std.proofs.Math.Bool.{Bool, true}
@@ -13,6 +13,9 @@ use Rattle.laws.specs.Order.{numbers, pairs, remove_by}
 use Rattle.laws.specs.OrderLaws.{length_push}
 use Rattle.client.specs.Key.{key_of}
 use Rattle.client.specs.declared.ClientKey.{ClientKey}
+use Rattle.units.specs.declared.refusal.Refusal.{Refusal}
+use Rattle.units.specs.declared.refusal.Refusal.TheVariants.{Room}
+use Rattle.units.specs.Refusals.{refusal_number, answer_number}
 use Rattle.protocol.specs.declared.Status.{Status}
 use Rattle.queue.specs.declared.Event.{Event}
 use Rattle.queue.specs.Queue.{push, time_of}
@@ -23,7 +26,6 @@ use Rattle.model.specs.Simulation.{Opening, no_input, Moved, close_input, end_in
 use Rattle.model.specs.Calls.{Out, done, ask, is_flag, while_sending, end}
 use Rattle.model.specs.Fits.{state_fits, phase_fits, checker_fits}
 use Rattle.state.specs.declared.Capacity.{Capacity}
-use Rattle.state.specs.declared.Gate.{Gate}
 use Rattle.state.specs.declared.OpenInput.{OpenInput}
 use Rattle.state.specs.Parts.{open_of, owed_in, owed_back, phase_kind}
 use Rattle.state.specs.Area.{Area, capacity_of}
@@ -33,12 +35,11 @@ use Rattle.state.specs.Fitting.{area_fits, laid_limits}
 use Rattle.state.specs.FitsBy.{fits_test}
 use Rattle.state.specs.Lens.{ServersFit, servers_fit_lem}
 use Rattle.state.specs.Call.{call}
-use Rattle.state.specs.Changes.{Gated, Changes, Reads, Planned, judged}
-use Rattle.state.specs.Exits.{call_refused, call_done}
+use Rattle.state.specs.Changes.{Gated, Changes, Reads, judged}
+use Rattle.state.specs.Exits.{refusal_above, ok_same, code_refused, code_done}
 use Rattle.state_header.specs.Header.{phase_of}
 use Rattle.answers.specs.declared.InputNumbers.{InputNumbers}
-use Rattle.answers.specs.declared.OpenedAnswer.{OpenedAnswer}
-use Rattle.answers.specs.Answers.{input_of, opened_no, opened_of, opened_yes}
+use Rattle.answers.specs.Answers.{input_of, opened_no, opened_of, opened_yes, opened_answer}
 use Rattle.state_server.specs.Servers.{forgotten}
 use Rattle.state_server.specs.ServerLaws.{kept_forgotten}
 use Rattle.state_queue.specs.Events.{queue_room}
@@ -192,45 +193,42 @@ module _ (b : List ℕ) (F : Capacity) (o : OpenInput) (x : Status) (r : StatusA
   unfolding checker_code
   code_is s h ef = (a.to s h ef).code
 
-  past : (fits : Bool) (n : ℕ) → n ≡ pick fits 0 10 → 0 < n → (room : Bool) → n ≡ pick (room and fits) 0 10
+  past : (fits : Bool) (n : ℕ) → n ≡ pick fits 0 10 → 0 < n → (room : Bool) → ◌≡◌ {A = ℕ} 10 (pick (room and fits) 0 10)
   past true n e l room = absurd (omega arith)
-  past false n e l room = e ∙ sym (ap (λ (t : Bool). pick t 0 10) (and_no room false refl))
+  past false n e l room = sym (ap (λ (t : Bool). pick t 0 10) (and_no room false refl))
 
   yes : (fits : Bool) (n : ℕ) → n ≡ pick fits 0 10 → n ≤ 0 → fits ≡ true
   yes true n e l = refl
   yes false n e l = absurd (omega arith)
 
-  pub at_checks : (v : OpenedAnswer) → 0 < r.code → v ≡ opened_no r.code → EndsAt b b F o x v
-  at_checks v l e = subst (λ (y : OpenedAnswer). EndsAt b b F o x y) (sym e) (record {
+  pub at_checks : 0 < r.code → EndsAt b b F o x (Err Room)
+  at_checks l = record {
     code = record { to = λ s h ef. past _ r.code (code_is s h ef) l (end_room o s) ∙ sym (ten_is s h ef) };
-    opens = λ z. absurd (omega arith);
+    opens = λ n e. absurd cc;
     kept = λ z. refl;
-    none = λ z. refl;
-  })
+  }
 
   module _ (z : r.code ≤ 0) (room : Bool) (pr : Reads b F room (end_room o)) where
-    pub at_full : (v : OpenedAnswer) → not room ≡ true → v ≡ opened_no 10 → EndsAt b b F o x v
-    at_full v n e = subst (λ (y : OpenedAnswer). EndsAt b b F o x y) (sym e) (record {
+    pub at_full : not room ≡ true → EndsAt b b F o x (Err Room)
+    at_full n = record {
       code = record { to = λ s h ef. sym (ap (λ (t : Bool). pick t 0 10) (no_and _ _ (sym (pr.to s h ef) ∙ no room n))) ∙ sym (ten_is s h ef) };
-      opens = λ m. absurd (omega arith);
+      opens = λ i e. absurd cc;
       kept = λ m. refl;
-      none = λ m. refl;
-    })
+    }
       where
         no : (t : Bool) → not t ≡ true → t ≡ false
         no true e = absurd (false_true e)
         no false e = refl
 
-    pub at_done : (b' : List ℕ) (n : InputNumbers) (v : OpenedAnswer) → not room ≡ false → Opens b b' F n (end_at o x) → v ≡ opened_of n → EndsAt b b' F o x v
-    at_done b' n v t p e = subst (λ (y : OpenedAnswer). EndsAt b b' F o x y) (sym e) (record {
+    pub at_done : (b' : List ℕ) (n : InputNumbers) → not room ≡ false → Opens b b' F n (end_at o x) → EndsAt b b' F o x (Ok n)
+    at_done b' n t p = record {
       code = record {
         to = λ s h ef.
             sym (ap₂ (λ (y u : Bool). pick (y and u) 0 10) (sym (pr.to s h ef) ∙ got room t) (yes _ r.code (code_is s h ef) z) ∙ ap (λ (u : Bool). pick u 0 10) (and_true true)) ∙ sym (ten_is s h ef);
       };
-      opens = λ m. p;
+      opens = λ i e. subst (λ (m : InputNumbers). Opens b b' F m (end_at o x)) (ok_same e) p;
       kept = λ m. absurd (omega arith);
-      none = λ m. absurd (omega arith);
-    })
+    }
       where
         got : (t : Bool) → not t ≡ false → t ≡ true
         got true e = refl
@@ -269,56 +267,51 @@ end_let_in s (sending slot input verdict owed) role present x e = by (leb role 2
     by true e = ap (λ (m : Moved). done m.opening m.state) (end_is s slot input verdict owed x)
     by false e = absurd (omega arith)
 
-module _ (b : List ℕ) (g : Gate) (role term present leader commit : ℕ) (o : OpenInput) (c : ℕ) (gated : Gated b g) (y : g.refusal ≤ 0) (q : Reads b g.capacity o (λ s. open_of (phase_of s)))
-    (ec : c ≡ end_code o.phase role present) where
+module _ (b : List ℕ) (g : Result Capacity Refusal) (role term present leader commit : ℕ) (gated : Gated b g) (F : Capacity) (y : g ≡ Ok F) (o : OpenInput)
+    (q : Reads b F o (λ s. open_of (phase_of s))) (c : Result (Unit {0}) Refusal) (ec : answer_number c ≡ end_code o.phase role present) where
   abbrev asked : State → Out Opening
   asked = end role (record { 0 = term }) present leader (record { 0 = commit })
 
-  code_here : (s : State) → Area b s → g.capacity ≡ capacity_of s → c ≡ end_code (phase_kind s.phase) role present
+  code_here : (s : State) → Area b s → F ≡ capacity_of s → answer_number c ≡ end_code (phase_kind s.phase) role present
   code_here s h ef = ec ∙ ap (λ (i : OpenInput). end_code i.phase role present) (q.to s h ef)
 
-  pub end_no : (r : OpenedAnswer) → 0 < c → r ≡ opened_no c → (r, b) ≡ call opened_no opened_yes b asked
+  pub end_no : (refusal : Refusal) → c ≡ Err refusal → (opened_no (refusal_number refusal), b) ≡ call opened_no opened_yes b asked
   unfolding end
-  end_no r l e =
-      call_refused opened_no opened_yes b asked g gated y c no_input (λ s. s)
-      (record { code = λ s h ef. end_refused s.phase role present _ c (code_here s h ef) l; gives = λ s h ef z. absurd (omega arith) }) r l e
+  end_no refusal e =
+      code_refused opened_no opened_yes b asked g gated F y refusal
+      (λ s h ef. end_refused s.phase role present _ (refusal_number refusal) (sym (ap answer_number e) ∙ code_here s h ef) (refusal_above refusal))
+      (opened_no (refusal_number refusal)) refl
 
-  module _ (z : c ≤ 0) (x : Status) (gx : GivesStatus role term present leader commit x) where
-    gives_end : (s : State) → Area b s → g.capacity ≡ capacity_of s → asked s ≡ done (end_at o x s).opening (end_at o x s).state
+  module _ (u : Unit {0}) (z : c ≡ Ok u) (x : Status) (gx : GivesStatus role term present leader commit x) where
+    gives_end : (s : State) → Area b s → F ≡ capacity_of s → asked s ≡ done (end_at o x s).opening (end_at o x s).state
     unfolding end status_of
     gives_end s h ef =
-        end_let_in s s.phase role present (status_of role term present leader commit) (sym (code_here s h ef) ∙ (let e : c ≡ 0 = omega arith in e))
+        end_let_in s s.phase role present (status_of role term present leader commit) (sym (code_here s h ef) ∙ ap answer_number z)
         ∙ ap₂ (λ (i : OpenInput) (u : Status). done (end_at i u s).opening (end_at i u s).state) (sym (q.to s h ef)) (sym gx.is)
 
-    module _ (b' : List ℕ) (r : OpenedAnswer) (p : EndsAt b b' g.capacity o x r) where
-      planned : Planned b g.capacity r.refusal asked (end_at o x (decode b)).opening (λ s. (end_at o x s).state)
+    module _ (b' : List ℕ) (r : Result InputNumbers Refusal) (p : EndsAt b b' F o x r) where
+      told : (s : State) → Area b s → F ≡ capacity_of s → answer_number r ≡ judged (asked s)
       unfolding judged end_ten
-      planned = record {
-        code = λ s h ef. p.code.to s h ef ∙ sym (ap judged (gives_end s h ef));
-        gives = λ s h ef e. gives_end s h ef ∙ ap (λ (t : State). done (end_at o x t).opening (end_at o x s).state) (sym (area_decode h));
-      }
+      told s h ef = p.code.to s h ef ∙ sym (ap judged (gives_end s h ef))
 
-      fits_here : r.refusal ≡ 0 → state_fits (end_at o x (decode b)).state ≡ true
+      fits_here : answer_number r ≡ 0 → state_fits (end_at o x (decode b)).state ≡ true
       unfolding end_ten
       fits_here e =
-          let n : g.refusal ≡ 0 = omega arith in
           cases (state_fits (end_at o x (decode b)).state) (λ t. t)
-          (λ t. let k : r.refusal ≡ 10 = p.code.to (decode b) (gated.area n) (gated.capacity n) ∙ ap (λ (u : Bool). pick u 0 10) t in absurd (omega arith))
+          (λ t. let k : answer_number r ≡ 10 = p.code.to (decode b) (gated.area F y) (gated.capacity F y) ∙ ap (λ (u : Bool). pick u 0 10) t in absurd (omega arith))
 
-      pub end_yes : (r, b') ≡ call opened_no opened_yes b asked
-      end_yes =
-          let n : g.refusal ≡ 0 = omega arith in
-          cases (eqb r.refusal 0)
-          (λ t.
-          let none : r.refusal ≡ 0 = eqb-true r.refusal 0 t in
-          let input : r.input ≡ input_of (end_at o x (decode b)).opening = (p.opens none).input (decode b) (gated.area n) (gated.capacity n) (fits_here none) in
-          call_done opened_no opened_yes b asked g gated y r.refusal (end_at o x (decode b)).opening (λ s. (end_at o x s).state) planned b' r (omega (arith, none)) (p.opens none).changes
-          (ap₂ (λ (m : ℕ) (i : InputNumbers). let v : OpenedAnswer = record { refusal = m; input = i } in v) none input))
-          (λ t.
-          let l : 0 < r.refusal = positive r.refusal (λ w. false_true (sym t ∙ eq-eqb r.refusal 0 w)) in
-          subst (λ (v : List ℕ). (r, v) ≡ call opened_no opened_yes b asked) (sym (p.kept l))
-          (call_refused opened_no opened_yes b asked g gated y r.refusal _ _ planned r l (p.none l)))
+      pub end_yes : (opened_answer r, b') ≡ call opened_no opened_yes b asked
+      end_yes = by r refl
         where
-          positive : (m : ℕ) → (m ≡ 0 → ⊥) → 0 < m
-          positive zero h = absurd (h refl)
-          positive (suc m) h = omega arith
+          by : (v : Result InputNumbers Refusal) → r ≡ v → (opened_answer v, b') ≡ call opened_no opened_yes b asked
+          by (Ok n) e =
+              let none : answer_number r ≡ 0 = ap answer_number e in
+              let opens = p.opens n e in
+              code_done opened_no opened_yes b asked g gated F y (end_at o x (decode b)).opening (λ s. (end_at o x s).state) (λ s h ef. sym none ∙ told s h ef)
+              (λ s h ef. gives_end s h ef ∙ ap (λ (t : State). done (end_at o x t).opening (end_at o x s).state) (sym (area_decode h))) b' (opened_of n) opens.changes
+              (ap opened_of (opens.input (decode b) (gated.area F y) (gated.capacity F y) (fits_here none)))
+          by (Err refusal) e =
+              let n : refusal_number refusal ≡ answer_number r = sym (ap answer_number e) in
+              subst (λ (v : List ℕ). (opened_no (refusal_number refusal), v) ≡ call opened_no opened_yes b asked)
+              (sym (p.kept (omega (arith, n, refusal_above refusal))))
+              (code_refused opened_no opened_yes b asked g gated F y refusal (λ s h ef. n ∙ told s h ef) (opened_no (refusal_number refusal)) refl)

@@ -1,7 +1,9 @@
 -- What the end of an input asks and does (lib.rt): what its contracts cite. Assumes nothing.
-use Rattle.std.specs.Prelude.{◌≡◌, Bool, true, List, ℕ, ◌<◌, max, eqb, leb, Option, None, Some}
+use Rattle.std.specs.Prelude.{◌≡◌, Bool, true, List, ℕ, ◌<◌, max, eqb, leb, Option, None, Some, Result, Ok}
 use Rattle.laws.specs.Bools.{pick, ◌and◌}
 use Rattle.units.specs.declared.Term.{Term}
+use Rattle.units.specs.declared.refusal.Refusal.{Refusal}
+use Rattle.units.specs.Refusals.{answer_number}
 use Rattle.protocol.specs.declared.Status.{Status}
 use Rattle.raft_log.specs.Log.{gaps}
 use Rattle.queue.specs.Range.{word}
@@ -15,8 +17,7 @@ use Rattle.state.specs.declared.OpenInput.{OpenInput}
 use Rattle.state.specs.declared.ServerState.{ServerState}
 use Rattle.state.specs.Parts.{owed_in}
 use Rattle.state.specs.Changes.{Reads}
-use Rattle.answers.specs.declared.OpenedAnswer.{OpenedAnswer}
-use Rattle.answers.specs.Answers.{opened_no}
+use Rattle.answers.specs.declared.InputNumbers.{InputNumbers}
 use Rattle.state_asks.specs.Asks.{after_status, log_of}
 use Rattle.sim_replies.specs.Replies.{redirect_count, redirect_test, redirected}
 use Rattle.sim_owed.specs.Servers.{Opens}
@@ -98,9 +99,8 @@ end_at o x s = close_at (owed_in o.owed o.next) (redirected o (status_ended o.sl
 unfoldable pub end_ten : OpenInput → Status → State → ℕ
 end_ten o x s = pick (state_fits (end_at o x s).state) 0 10
 
--- r is the answer of an end: that number; where it is 0 the end is done and r has the input that it opens, else nothing has changed.
-pub record EndsAt (b b' : List ℕ) (F : Capacity) (o : OpenInput) (x : Status) (r : OpenedAnswer) : Type 0 where
-  pub code : Reads b F r.refusal (end_ten o x)
-  pub opens : r.refusal ≡ 0 → Opens b b' F r.input (end_at o x)
-  pub kept : 0 < r.refusal → b' ≡ b
-  pub none : 0 < r.refusal → r ≡ opened_no r.refusal
+-- What an end gives: it is done, and r has the input that it opens; or question 10 is answered no, and nothing has changed.
+pub record EndsAt (b b' : List ℕ) (F : Capacity) (o : OpenInput) (x : Status) (r : Result InputNumbers Refusal) : Type 0 where
+  pub code : Reads b F (answer_number r) (end_ten o x)
+  pub opens : (input : InputNumbers) → r ≡ Ok input → Opens b b' F input (end_at o x)
+  pub kept : 0 < answer_number r → b' ≡ b

@@ -1,18 +1,18 @@
 -- What the proofs of the arguments and of the questions before question 10 cite. Assumes nothing.
-use Rattle.std.specs.Prelude.{◌≡◌, refl, Bool, true, false, ◌&&◌, List, ℕ, zero, suc, ◌^◌, ◌≤◌, ◌<◌, eqb, leb, Option, None, Some}
+use Rattle.std.specs.Prelude.{◌≡◌, refl, Bool, true, false, ◌&&◌, List, ℕ, zero, suc, ◌^◌, ◌≤◌, ◌<◌, eqb, leb, Option, None, Some, Result, Ok}
 use Rattle.std.proofs.Math.Path.{sym}
 use Rattle.std.proofs.Common.{ap, ap₂, subst, ◌∙◌, arith, Fits, eq-eqb, ne_eqb, lt-ltb, le-leb, ltb-true}
 use Rattle.std.specs.Int.{w64}
 use Rattle.std.proofs.lemmas.Bool.{lt-leb}
 use Rattle.laws.specs.Bools.{pick, pick_both, ◌and◌, and_left, no_and}
 use Rattle.laws.proofs.BoolLaws.{and_both, and_no, code_and}
+use Rattle.units.specs.declared.refusal.Refusal.{Refusal}
 use Rattle.protocol.specs.declared.Role.{Role}
 use Rattle.protocol.specs.declared.Role.TheVariants.{Follower}
 use Rattle.model.specs.State.{State, Phase, closed, writing, sending}
 use Rattle.model.specs.Calls.{role_of, node_option}
 use Rattle.model.specs.Fits.{phase_fits, node_fits}
 use Rattle.state.specs.declared.Capacity.{Capacity}
-use Rattle.state.specs.declared.Gate.{Gate}
 use Rattle.state.specs.declared.OpenInput.{OpenInput}
 use Rattle.state.specs.Parts.{open_of, phase_slot, owed_in}
 use Rattle.state.specs.Decode.{decode}
@@ -90,10 +90,10 @@ room_read b F o told owed more goes p eo em q = record {
 
 -- ---- the server of the open input
 
-pub slot_open : (b : List ℕ) (g : Gate) (o : OpenInput) → Gated b g → g.refusal ≤ 0 → Reads b g.capacity o (λ s. open_of (phase_of s)) → o.slot < g.capacity.servers
-slot_open b g o q y r =
-    let z : g.refusal ≡ 0 = omega arith in
+pub slot_open : (b : List ℕ) (g : Result Capacity Refusal) (F : Capacity) (o : OpenInput) → Gated b g → g ≡ Ok F → Reads b F o (λ s. open_of (phase_of s)) → o.slot < F.servers
+slot_open b g F o q y r =
     let s : State = decode b in
-    let k : phase_slot s.phase < s.config.servers = slot_in s (fits_test s (area_fits (q.area z)) 19) (laid_limits (q.area z).laid).servers_low in
-    subst (λ (G : Capacity). o.slot < G.servers) (sym (q.capacity z))
-    (subst (λ (m : ℕ). m < s.config.servers) (sym (ap (λ (x : OpenInput). x.slot) (r.to s (q.area z) (q.capacity z)))) k)
+    let area = q.area F y in
+    let k : phase_slot s.phase < s.config.servers = slot_in s (fits_test s (area_fits area) 19) (laid_limits area.laid).servers_low in
+    subst (λ (G : Capacity). o.slot < G.servers) (sym (q.capacity F y))
+    (subst (λ (m : ℕ). m < s.config.servers) (sym (ap (λ (x : OpenInput). x.slot) (r.to s area (q.capacity F y)))) k)

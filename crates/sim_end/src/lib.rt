@@ -7,7 +7,8 @@ ghost use Rattle.model.specs.Calls.{role_of, node_option, end};
 ghost use Rattle.state.specs.Parts.{open_of};
 ghost use Rattle.state.specs.Changes.{Inside, Gated, Reads, Changes};
 ghost use Rattle.state.specs.Call.{call};
-ghost use Rattle.answers.specs.Answers.{opened_no, opened_yes};
+ghost use Rattle.units.specs.Refusals.{answer_number};
+ghost use Rattle.answers.specs.Answers.{opened_no, opened_yes, opened_answer};
 ghost use Rattle.state_header.specs.Header.{phase_of};
 ghost use Rattle.state_asks.specs.Asks.{Asks, StatusTold};
 ghost use Rattle.sim_owed.specs.Servers.{Opens};
@@ -26,10 +27,11 @@ ghost use Rattle.sim_end.specs.Ends.{
   EndsAt,
 };
 
-use answers::{InputNumbers, OpenedAnswer, opened};
+use answers::{InputNumbers, OpenedAnswer};
 use checks_on_status::StatusAsked;
 use protocol::{Role, Status};
-use state::{Capacity, Gate, OpenInput, ServerState};
+use state::{Capacity, OpenInput, ServerState};
+use units::refusal::Refusal;
 use units::{LogIndex, NodeId, Term};
 
 // ---- the arguments
@@ -68,20 +70,20 @@ fn status_given(role: u64, term: u64, present: u64, leader: u64, commit: u64) ->
     }
 }
 
-// The first of the questions 6 and 9 that is answered no, or 0.
-fn end_code(phase: u64, role: u64, present: u64) -> u64
-    ensures { result ≡ end_code phase role present }
+// The first of the questions 6 and 9 that is answered no.
+fn end_asked(phase: u64, role: u64, present: u64) -> Result<(), Refusal>
+    ensures { answer_number result ≡ end_code phase role present }
 {
     if phase != 2 {
-        return 6;
+        return Err(Refusal::Phase);
     }
     if 2 < role {
-        return 9;
+        return Err(Refusal::Argument);
     }
     if 1 < present {
-        return 9;
+        return Err(Refusal::Argument);
     }
-    0
+    Ok(())
 }
 
 // ---- what is asked
@@ -194,7 +196,12 @@ fn end_act(
 }
 
 // Question 10 of an end, and where it is answered yes, all that is done.
-fn end_at(area: &mut [u8], f: Capacity, input: OpenInput, status: Status) -> OpenedAnswer
+fn end_at(
+    area: &mut [u8],
+    f: Capacity,
+    input: OpenInput,
+    status: Status,
+) -> Result<InputNumbers, Refusal>
     requires inside { Inside area.old f }
     requires slot_lt_servers { input.slot < f.servers }
     requires reads { Reads area.old f input (λ s. open_of (phase_of s)) }
@@ -202,21 +209,39 @@ fn end_at(area: &mut [u8], f: Capacity, input: OpenInput, status: Status) -> Ope
     ensures { EndsAt area.old area.new f input status result }
 {
     let asked = state_asks::status::status_asked(area, f, input.slot as usize, status);
-    let code = asked.code;
-    if 0 < code {
-        return opened::opened_no(code);
+    if 0 < asked.code {
+        return Err(Refusal::Room);
     }
     if !end_room(area, f, input) {
-        return opened::opened_no(10);
+        return Err(Refusal::Room);
     }
-    let numbers = end_act(area, f, input, status, asked);
-    opened::opened(numbers)
+    Ok(end_act(area, f, input, status, asked))
+}
+
+// The input that the end of the sealed input opens, or the refusal.
+fn ended(
+    area: &mut [u8],
+    g: Result<Capacity, Refusal>,
+    role: u64,
+    term: u64,
+    present: u64,
+    leader: u64,
+    commit: u64,
+) -> Result<InputNumbers, Refusal>
+    requires { Gated area.old g }
+    ensures { (opened_answer result, area.new) ≡ call opened_no opened_yes area.old (end role (record { 0 = term }) present leader (record { 0 = commit })) }
+{
+    let f = g?;
+    let input = state_header::open_of(area, f);
+    end_asked(input.phase, role, present)?;
+    let status = status_given(role, term, present, leader, commit);
+    end_at(area, f, input, status)
 }
 
 // The end of the sealed input, with its server's status.
 pub fn end_in(
     area: &mut [u8],
-    g: Gate,
+    g: Result<Capacity, Refusal>,
     role: u64,
     term: u64,
     present: u64,
@@ -226,16 +251,5 @@ pub fn end_in(
     requires { Gated area.old g }
     ensures { (result, area.new) ≡ call opened_no opened_yes area.old (end role (record { 0 = term }) present leader (record { 0 = commit })) }
 {
-    let refusal = g.refusal;
-    let f = g.capacity;
-    if 0 < refusal {
-        return opened::opened_no(refusal);
-    }
-    let input = state_header::open_of(area, f);
-    let code = end_code(input.phase, role, present);
-    if 0 < code {
-        return opened::opened_no(code);
-    }
-    let status = status_given(role, term, present, leader, commit);
-    end_at(area, f, input, status)
+    OpenedAnswer::from(ended(area, g, role, term, present, leader, commit))
 }

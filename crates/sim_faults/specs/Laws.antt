@@ -1,5 +1,6 @@
 -- What the proofs of the functions cite. Assumes nothing.
-use Rattle.std.specs.Prelude.{◌≡◌, Bool, not, List, ℕ, ◌+◌, ◌-◌, ◌≤◌, ◌<◌, Option, None, Some}
+use Rattle.std.specs.Option.{unwrap_or}
+use Rattle.std.specs.Prelude.{◌≡◌, Bool, not, List, ℕ, ◌+◌, ◌-◌, ◌≤◌, ◌<◌, Option, None, Some, is_some}
 use Rattle.std.proofs.Math.Path.{refl, sym, ap, subst}
 use Rattle.std.proofs.Common.{◌∙◌, leb-true}
 use Rattle.std.proofs.Math.Bool.{true, false}
@@ -37,7 +38,6 @@ use Rattle.state_server.specs.ServerLaws.{server_state_set_lem}
 use Rattle.state_server.specs.Laws.{status_runs_lem}
 use Rattle.state_queue.specs.Events.{pushed, plain}
 use Rattle.state_queue.specs.Sends.{pushed_after}
-use Rattle.sim_outputs.specs.declared.Sum.{Sum}
 use Rattle.sim_outputs.specs.Outputs.{Sums}
 use Rattle.sim_owed.specs.declared.Owed.TheVariants.{Nothing}
 use Rattle.sim_owed.specs.Servers.{owed_of, Opens, stop_at, restart_test, restart_at}
@@ -288,10 +288,10 @@ module _ (b : List ℕ) (F : Capacity) (x : Option Leading) (q : Reads b F x lea
   unfolding leader_fits leader_test
   leaderless time d e = record { to = λ s h ef. ap (λ (o : Option Leading). leader_test o time d) (sym e ∙ q.to s h ef) }
 
-  pub leader_due : (time : SimTime) (d : Duration) (l : Leading) (a : Sum) → x ≡ Some l → Sums time.0 d.0 a
-      → Reads b F a.fits (leader_fits time d)
+  pub leader_due : (time : SimTime) (d : Duration) (l : Leading) (a : Option ℕ) (t : Bool) → x ≡ Some l → Sums time.0 d.0 a → t ≡ is_some a
+      → Reads b F t (leader_fits time d)
   unfolding leader_fits leader_test
-  leader_due time d l a e u = record { to = λ s h ef. u.fits ∙ ap (λ (o : Option Leading). leader_test o time d) (sym e ∙ q.to s h ef) }
+  leader_due time d l a t e u et = record { to = λ s h ef. et ∙ u.fits ∙ ap (λ (o : Option Leading). leader_test o time d) (sym e ∙ q.to s h ef) }
 
   pub leader_none : (b' : List ℕ) (d : Duration) (r : InputNumbers) → x ≡ None → Opens b b' F r idle_at
       → Opens b b' F r (fault_at (CrashLeader d))
@@ -330,14 +330,14 @@ module _ (b : List ℕ) (F : Capacity) (id : NodeId) (d : Duration) where
   pub stop_high : (r : InputNumbers) → F.servers < id.0 → StopsKnown b b F id d r
   stop_high r l = record { to = λ k. absurd (omega (arith, k.high)) }
 
-  pub stop_done : (w : Run) (a : Sum) (b₁ b₂ : List ℕ) (r : InputNumbers) → Reads b F w run_of → Sums w.now.0 d.0 a
-      → Changes b b₁ F (stop_scheduled id (record { 0 = a.value })) → Opens b₁ b₂ F r idle_at → StopsKnown b b₂ F id d r
+  pub stop_done : (w : Run) (a : Option ℕ) (v : ℕ) (b₁ b₂ : List ℕ) (r : InputNumbers) → Reads b F w run_of → Sums w.now.0 d.0 a → v ≡ unwrap_or a 0
+      → Changes b b₁ F (stop_scheduled id (record { 0 = v })) → Opens b₁ b₂ F r idle_at → StopsKnown b b₂ F id d r
   unfolding idle_at pushed stop_scheduled
-  stop_done w a b₁ b₂ r qw u p o = record {
+  stop_done w a v b₁ b₂ r qw u ev p o = record {
     to = λ k.
         let l : 1 ≤ id.0 = k.low in
-        let e : Scheduled = restart_event id (record { 0 = a.value }) in
-        opens_after (stop_scheduled id (record { 0 = a.value })) idle_at (stop_move id d) p o
+        let e : Scheduled = restart_event id (record { 0 = v }) in
+        opens_after (stop_scheduled id (record { 0 = v })) idle_at (stop_move id d) p o
         (λ s h ef t.
         let n : F.servers ≡ s.config.servers = ap (λ (G : Capacity). G.servers) ef in
         let k' : id.0 ≤ s.config.servers = omega (arith, k.high) in
@@ -348,7 +348,7 @@ module _ (b : List ℕ) (F : Capacity) (id : NodeId) (d : Duration) where
         ∙ ap (λ (m : Moved). state_fits m.state) (sym (stop_is s id d)) ∙ t in
         let w₆₄ : word (s.now.0 + d.0) ≡ true = and_right _ _ (and_left _ _ (sym (fits_stopped s id d f l k' (record { 0 = s.now.0 + d.0 })) ∙ whole)) in
         let now : w.now.0 ≡ s.now.0 = ap (λ (x : Run). x.now.0) (qw.to s h ef) in
-        let value : a.value ≡ s.now.0 + d.0 = u.value (u.fits ∙ ap (λ (x : ℕ). word (x + d.0)) now ∙ w₆₄) ∙ ap (λ (x : ℕ). x + d.0) now in
+        let value : v ≡ s.now.0 + d.0 = ev ∙ u.value (u.fits ∙ ap (λ (x : ℕ). word (x + d.0)) now ∙ w₆₄) ∙ ap (λ (x : ℕ). x + d.0) now in
         let same : pushed e (stop_at (slot_of id) s) ≡ pushed e' (stop_at (slot_of id) s) = ap (λ (x : ℕ). pushed (restart_event id (record { 0 = x })) (stop_at (slot_of id) s)) value in
         (ap idle_at same ∙ sym (stop_is s id d), ap state_fits same ∙ whole));
   }

@@ -9,7 +9,6 @@ ghost use Rattle.sim_faults.specs.Faults.{fault_at, crashing_state, crashing_at,
 use answers::InputNumbers;
 use faults::Fault;
 use queue::Event;
-use sim_outputs::sum64;
 use sim_owed::{Owed, closes, servers};
 use state::{Capacity, ServerState};
 use units::{Duration, NodeId, SimTime};
@@ -120,7 +119,7 @@ pub fn crash_leader_fits(area: &[u8], f: Capacity, time: SimTime, downtime: Dura
 {
     match state_server::leader_of(area, f) {
         None => true,
-        Some(_) => sum64(time.0, downtime.0).fits,
+        Some(_) => time.0.checked_add(downtime.0).is_some(),
     }
 }
 
@@ -146,8 +145,8 @@ fn stop_leader(area: &mut [u8], f: Capacity, id: NodeId, downtime: Duration) -> 
         return answers::no_input();
     }
     let run = state_header::run_of(area, f);
-    let time = sum64(run.now.0, downtime.0);
-    stop_scheduled(area, f, id, SimTime(time.value));
+    let time = run.now.0.checked_add(downtime.0).unwrap_or(0);
+    stop_scheduled(area, f, id, SimTime(time));
     closes::close_phase(area, f)
 }
 

@@ -1,17 +1,17 @@
 -- What the proofs of lib.rt cite, and what a call in the sending phase gives. Assumes nothing.
-use Rattle.std.specs.Prelude.{◌≡◌, refl, Bool, true, false, not, ◌&&◌, List, ℕ, ◌+◌, ◌-◌, ◌^◌, ◌≤◌, ◌<◌, None, Some}
+use Rattle.std.specs.Prelude.{◌≡◌, refl, Bool, true, false, not, ◌&&◌, List, ℕ, ◌+◌, ◌-◌, ◌^◌, ◌≤◌, ◌<◌, ltb, Option, None, Some, SomeIff, is_some, Result, Ok}
 use Rattle.std.proofs.Common.{sym, subst, ◌∙◌, arith, Fits, lt-ltb, le-ltb, ltb-true}
 use Rattle.std.proofs.Math.Path.{ap}
 use Rattle.std.proofs.Math.Dec.{eqb}
 use Rattle.std.specs.Int.{w64}
 use Rattle.laws.specs.Bools.{and_left}
 use Rattle.laws.specs.Decides.{false_true}
+use Rattle.units.specs.declared.refusal.Refusal.{Refusal}
 use Rattle.model.specs.State.{State, Phase, closed, writing, sending, accepted, not_leader}
 use Rattle.model.specs.Calls.{done, output, ask}
 use Rattle.model.specs.Fits.{state_fits, phase_fits}
 use Rattle.state.specs.declared.Capacity.{Capacity}
 use Rattle.state.specs.declared.OpenInput.{OpenInput}
-use Rattle.state.specs.declared.Gate.{Gate}
 use Rattle.state.specs.Parts.{open_of, phase_kind, phase_slot, phase_verdict, verdict_kind}
 use Rattle.state.specs.Area.{Area, capacity_of}
 use Rattle.state.specs.Decode.{decode}
@@ -24,19 +24,25 @@ use Rattle.sim_outputs.specs.Outputs.{Passed, sends, sender_of, IsSender, asks_c
 
 -- ---- the gate
 
-pub passed_of : (b : List ℕ) (g : Gate) → Gated b g → g.refusal ≤ 0 → Passed b g.capacity
-passed_of b g q y = let z : g.refusal ≡ 0 = omega arith in record { inside = q.inside z; capacity = q.capacity z; area = q.area z }
+pub passed_of : (b : List ℕ) (g : Result Capacity Refusal) (F : Capacity) → Gated b g → g ≡ Ok F → Passed b F
+passed_of b g F q y = record { inside = q.inside F y; capacity = q.capacity F y; area = q.area F y }
 
 pub passed_inside : (b : List ℕ) (F : Capacity) → Passed b F → Inside b F
 passed_inside b F p = p.inside
 
 -- ---- numbers
 
-pub sum_yes : (a b : ℕ) → a ≤ 18446744073709551615 - b → Fits w64 b → Sums a b (record { fits = true; value = a + b })
-sum_yes a b h f = record { fits = sym (lt-ltb (a + b) (2 ^ 64) (omega (arith, f.fits))); value = λ t. refl }
+pub sum_fits : (n : ℕ) (o : Option ℕ) → SomeIff o (n < 2 ^ 64) n → is_some o ≡ ltb n (2 ^ 64)
+sum_fits n None i = sym (le-ltb n (2 ^ 64) (omega (arith, i)))
+sum_fits n (Some m) i = sym (lt-ltb n (2 ^ 64) i.0)
 
-pub sum_no : (a b : ℕ) → 18446744073709551615 - b < a → Sums a b (record { fits = false; value = 0 })
-sum_no a b h = record { fits = sym (le-ltb (a + b) (2 ^ 64) (omega arith)); value = λ t. absurd (false_true t) }
+pub sum_value : (n m : ℕ) (o : Option ℕ) → SomeIff o (n < 2 ^ 64) n → o ≡ Some m → m ≡ n
+sum_value n m o i e = (subst (λ (x : Option ℕ). SomeIff x (n < 2 ^ 64) n) e i).1
+
+-- a sum as `checked_add` gives it
+pub sums_of : (a b : ℕ) (o : Option ℕ) → SomeIff o (a + b < 2 ^ 64) (a + b) → Sums a b o
+sums_of a b None i = record { fits = sum_fits (a + b) None i; value = λ t. absurd (false_true t) }
+sums_of a b (Some n) i = record { fits = sum_fits (a + b) (Some n) i; value = λ t. i.1 }
 
 -- ---- who sends
 

@@ -1,5 +1,6 @@
 -- What all output calls ask (lib.rt): what their contracts cite. Assumes nothing.
-use Rattle.std.specs.Prelude.{◌≡◌, Bool, true, false, List, ℕ, ◌+◌, ◌^◌, ◌<◌, ltb}
+use Rattle.std.specs.Prelude.{◌≡◌, Bool, true, false, List, ℕ, ◌+◌, ◌^◌, ◌<◌, ltb, Option, is_some}
+use Rattle.std.specs.Option.{unwrap_or}
 use Rattle.laws.specs.Bools.{pick}
 use Rattle.model.specs.State.{State, Phase, closed, writing, sending}
 use Rattle.model.specs.Calls.{is_accepted}
@@ -8,7 +9,6 @@ use Rattle.state.specs.Parts.{phase_slot}
 use Rattle.state.specs.Area.{Area, capacity_of}
 use Rattle.state.specs.Decode.{decode}
 use Rattle.state.specs.Changes.{Inside, Reads}
-use Rattle.sim_outputs.specs.declared.Sum.{Sum}
 use Rattle.sim_outputs.specs.declared.Sender.{Sender}
 
 -- The gate let the area through: its numbers, and the state that lies there.
@@ -36,7 +36,7 @@ pub record IsSender (b : List ℕ) (F : Capacity) (r : Sender) : Type 0 where
 unfoldable pub asks_code : (second third : ℕ) → Bool → Bool → Bool → ℕ
 asks_code second third ready a b = pick ready (pick a (pick b 0 third) second) 6
 
--- Whether the sum of a and b has 64 bits, and where it has, the sum.
-pub record Sums (a b : ℕ) (r : Sum) : Type 0 where
-  pub fits : r.fits ≡ ltb (a + b) (2 ^ 64)
-  pub value : r.fits ≡ true → r.value ≡ a + b
+-- The sum of a and b where it has 64 bits, else nothing.
+pub record Sums (a b : ℕ) (r : Option ℕ) : Type 0 where
+  pub fits : is_some r ≡ ltb (a + b) (2 ^ 64)
+  pub value : is_some r ≡ true → unwrap_or r 0 ≡ a + b

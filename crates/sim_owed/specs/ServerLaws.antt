@@ -1,5 +1,6 @@
 -- What the proofs of lib.rt and servers.rt cite, and moves behind changes. Assumes nothing.
-use Rattle.std.specs.Prelude.{◌≡◌, Bool, ◌&&◌, List, [], ℕ, zero, suc, ◌+◌, ◌%◌, ◌^◌, ◌<◌, ltb, drop}
+use Rattle.std.specs.Option.{unwrap_or}
+use Rattle.std.specs.Prelude.{◌≡◌, Bool, ◌&&◌, List, [], ℕ, zero, suc, ◌+◌, ◌%◌, ◌^◌, ◌<◌, ltb, drop, Option, is_some}
 use Rattle.std.proofs.Math.Path.{refl, ap}
 use Rattle.std.proofs.Common.{sym, ap₂, subst, ◌∙◌, arith}
 use Rattle.std.proofs.Math.Bool.{true}
@@ -35,7 +36,6 @@ use Rattle.state_disk.specs.Disks.{crashed_at}
 use Rattle.state_disk.specs.DiskLaws.{fits_crashed}
 use Rattle.answers.specs.declared.InputNumbers.{InputNumbers}
 use Rattle.answers.specs.Answers.{input_of}
-use Rattle.sim_outputs.specs.declared.Sum.{Sum}
 use Rattle.sim_outputs.specs.Outputs.{Sums}
 use Rattle.sim_owed.specs.declared.Owed.{Owed as OwedKind}
 use Rattle.sim_owed.specs.declared.Owed.TheVariants.{Nothing, Construction, Healing}
@@ -224,10 +224,10 @@ server_stopped b b₁ b₂ b₃ F k x y i qx ey p₁ p₂ p₃ = record {
 
 -- ---- a restart
 
-pub restarts : (x : ServerState) (a e h : Sum) → Sums x.incarnation 1 a → Sums x.election 1 e → Sums x.heartbeat 1 h
-    → Restarts x (record { status = x.status; incarnation = a.value; election = e.value; heartbeat = h.value; crash_on_next_input = x.crash_on_next_input; next_apply = 1; pending = x.pending; leading = x.leading })
+pub restarts : (x : ServerState) (a e h : Option ℕ) (i j k : ℕ) → Sums x.incarnation 1 a → Sums x.election 1 e → Sums x.heartbeat 1 h → i ≡ unwrap_or a 0 → j ≡ unwrap_or e 0 → k ≡ unwrap_or h 0
+    → Restarts x (record { status = x.status; incarnation = i; election = j; heartbeat = k; crash_on_next_input = x.crash_on_next_input; next_apply = 1; pending = x.pending; leading = x.leading })
 unfolding restarted_state
-restarts x a e h qa qe qh = record { is = λ wa we wh. rw (qa.value (qa.fits ∙ wa), qe.value (qe.fits ∙ we), qh.value (qh.fits ∙ wh)) }
+restarts x a e h i j k qa qe qh ei ej ek = record { is = λ wa we wh. rw (ei ∙ qa.value (qa.fits ∙ wa), ej ∙ qe.value (qe.fits ∙ we), ek ∙ qh.value (qh.fits ∙ wh)) }
 
 -- what the code asks is what the definition does
 rise_tests : (n : ℕ) (e h : Bool) → ((ltb n 4294967295 && e) && h) ≡ (ltb (n + 1) (2 ^ 32) and (e and h))
@@ -237,14 +237,14 @@ rise_tests n e h =
     (λ t. t ∙ sym (lt-ltb (n + 1) (2 ^ 32) (omega (arith, ltb-true n 4294967295 t))))
     (λ t. t ∙ sym (le-ltb (n + 1) (2 ^ 32) (omega (arith, ltb-false n 4294967295 t)))))
 
-pub restart_asked : (b : List ℕ) (F : Capacity) (slot : ℕ) (x : ServerState) (e h : Sum) → Reads b F x (server_state_at slot)
-    → Sums x.election 1 e → Sums x.heartbeat 1 h
-    → Reads b F ((ltb x.incarnation 4294967295 && e.fits) && h.fits) (restart_test slot)
+pub restart_asked : (b : List ℕ) (F : Capacity) (slot : ℕ) (x : ServerState) (e h : Option ℕ) (i j : Bool) → Reads b F x (server_state_at slot)
+    → Sums x.election 1 e → Sums x.heartbeat 1 h → i ≡ is_some e → j ≡ is_some h
+    → Reads b F ((ltb x.incarnation 4294967295 && i) && j) (restart_test slot)
 unfolding server_state_at restart_test can_rise
-restart_asked b F slot x e h q qe qh = record {
+restart_asked b F slot x e h i j q qe qh ei ej = record {
   to = λ s a ef.
-      rise_tests x.incarnation e.fits h.fits
-      ∙ ap₂ (λ (t u : Bool). ltb (x.incarnation + 1) (2 ^ 32) and (t and u)) qe.fits qh.fits
+      rise_tests x.incarnation i j
+      ∙ ap₂ (λ (t u : Bool). ltb (x.incarnation + 1) (2 ^ 32) and (t and u)) (ei ∙ qe.fits) (ej ∙ qh.fits)
       ∙ ap (λ (y : ServerState). ltb (y.incarnation + 1) (2 ^ 32) and (word (y.election + 1) and word (y.heartbeat + 1))) (q.to s a ef);
 }
 

@@ -8,7 +8,6 @@ ghost use Rattle.sim_owed.specs.Servers.{owed_of, StartsAs, Opens, start_at, sto
 use crate::Owed;
 use answers::{InputNumbers, opened};
 use seeds::Stream;
-use sim_outputs::sum64;
 use state::{Capacity, OpenInput, ServerState};
 use units::NodeId;
 
@@ -100,14 +99,11 @@ fn restarted(x: ServerState) -> ServerState
 {
     let status = x.status;
     let leading = x.leading;
-    let incarnation = sum64(x.incarnation, 1);
-    let election = sum64(x.election, 1);
-    let heartbeat = sum64(x.heartbeat, 1);
     ServerState {
         status,
-        incarnation: incarnation.value,
-        election: election.value,
-        heartbeat: heartbeat.value,
+        incarnation: x.incarnation.checked_add(1).unwrap_or(0),
+        election: x.election.checked_add(1).unwrap_or(0),
+        heartbeat: x.heartbeat.checked_add(1).unwrap_or(0),
         crash_on_next_input: x.crash_on_next_input,
         next_apply: 1,
         pending: x.pending,
@@ -122,9 +118,9 @@ pub fn restart_fits(area: &[u8], f: Capacity, slot: u64) -> bool
     ensures { Reads area.now f result (restart_test slot) }
 {
     let x = state_server::server_of(area, f, slot as usize);
-    let election = sum64(x.election, 1);
-    let heartbeat = sum64(x.heartbeat, 1);
-    (x.incarnation < 4294967295) & election.fits & heartbeat.fits
+    let election = x.election.checked_add(1);
+    let heartbeat = x.heartbeat.checked_add(1);
+    (x.incarnation < 4294967295) & election.is_some() & heartbeat.is_some()
 }
 
 // A stopped server starts again.

@@ -6,78 +6,36 @@ ghost use Rattle.model.specs.Reads.{read_leader, read_run, read_settings, read_r
 ghost use Rattle.state.specs.Changes.{Inside, Gated, Reads};
 ghost use Rattle.state.specs.Call.{reading};
 ghost use Rattle.answers.specs.Answers.{leader_no, leader_yes, run_no, run_yes, settings_no, settings_yes, reply_no, reply_yes, confirmation_no, confirmation_yes};
-ghost use Rattle.sim_reads_run.specs.Run.{leader_given, server_number, kind_number, run_numbers, settings_read, reply_given, flag_given, index_given, confirmation_told, confirmation_given};
+ghost use Rattle.answers.specs.Reads.{leader_answer, reply_answer, confirmation_answer};
+ghost use Rattle.sim_reads_run.specs.Run.{server_number, kind_number, run_numbers};
 
 use answers::{ConfirmationAnswer, LeaderAnswer, ReplyAnswer, RunAnswer, SettingsAnswer};
 use checks_durability::replies::Reply;
 use clients::confirmations::Confirmation;
 use leader::Leading;
-use state::{Capacity, Gate};
-use units::LogIndex;
+use state::Capacity;
+use units::refusal::Refusal;
 
 // ---- the leader
 
-// A refused read of the leader, or that there is none.
-fn leader_no(refusal: u64) -> LeaderAnswer
-    ensures { result ≡ leader_no refusal }
+// The running server that leads the highest term, if any.
+fn leader(area: &[u8], g: Result<Capacity, Refusal>) -> Result<Option<Leading>, Refusal>
+    requires { Gated area.now g }
+    ensures { leader_answer result ≡ reading leader_no leader_yes area.now read_leader }
 {
-    LeaderAnswer {
-        refusal,
-        present: 0,
-        server: 0,
-        term: 0,
-    }
-}
-
-// A leader that may be absent in numbers.
-fn leader_yes(leader: Option<Leading>) -> LeaderAnswer
-    ensures { result ≡ leader_given leader }
-{
-    match leader {
-        None => leader_no(0),
-        Some(Leading { id, term }) => LeaderAnswer {
-            refusal: 0,
-            present: 1,
-            server: id.0,
-            term: term.0,
-        },
-    }
+    let f = g?;
+    Ok(state_server::leader_of(area, f))
 }
 
 // The running server that leads the highest term.
-pub fn read_leader_in(area: &[u8], g: Gate) -> LeaderAnswer
+pub fn read_leader_in(area: &[u8], g: Result<Capacity, Refusal>) -> LeaderAnswer
     requires { Gated area.now g }
     ensures { result ≡ reading leader_no leader_yes area.now read_leader }
 {
-    let refusal = g.refusal;
-    let f = g.capacity;
-    if 0 < refusal {
-        return leader_no(refusal);
-    }
-    let leader = state_server::leader_of(area, f);
-    leader_yes(leader)
+    LeaderAnswer::from(leader(area, g))
 }
 
 // ---- the run
-
-// A refused read of the run.
-fn run_no(refusal: u64) -> RunAnswer
-    ensures { result ≡ run_no refusal }
-{
-    RunAnswer {
-        refusal,
-        now: 0,
-        events: 0,
-        seed: 0,
-        phase: 0,
-        server: 0,
-        input: 0,
-        queued: 0,
-        replies: 0,
-        confirmations: 0,
-        violations: 0,
-    }
-}
 
 // The server whose input is open, or 0.
 fn server_number(phase: u64, slot: u64) -> u64
@@ -132,186 +90,80 @@ fn run_numbers(area: &[u8], f: Capacity) -> RunAnswer
 }
 
 // The run as a whole.
-pub fn read_run_in(area: &[u8], g: Gate) -> RunAnswer
+pub fn read_run_in(area: &[u8], g: Result<Capacity, Refusal>) -> RunAnswer
     requires { Gated area.now g }
     ensures { result ≡ reading run_no run_yes area.now read_run }
 {
-    let refusal = g.refusal;
-    let f = g.capacity;
-    if 0 < refusal {
-        return run_no(refusal);
-    }
-    run_numbers(area, f)
-}
-
-// ---- the settings
-
-// A refused read of the settings.
-fn settings_no(refusal: u64) -> SettingsAnswer
-    ensures { result ≡ settings_no refusal }
-{
-    SettingsAnswer {
-        refusal,
-        servers: 0,
-        clients: 0,
-        log_indexes: 0,
-        payload: 0,
-        message: 0,
-        events: 0,
-        writes: 0,
-        history: 0,
-    }
-}
-
-// The counts of the settings in numbers.
-fn settings_yes(f: Capacity) -> SettingsAnswer
-    ensures { result ≡ settings_yes (settings_read f) }
-{
-    let limits = f.limits;
-    SettingsAnswer {
-        refusal: 0,
-        servers: f.servers,
-        clients: f.clients,
-        log_indexes: limits.log_indexes,
-        payload: limits.payload,
-        message: limits.message,
-        events: limits.events,
-        writes: limits.writes,
-        history: limits.history,
-    }
-}
-
-// How many servers and clients there are, and the limits.
-pub fn read_settings_in(area: &[u8], g: Gate) -> SettingsAnswer
-    requires { Gated area.now g }
-    ensures { result ≡ reading settings_no settings_yes area.now read_settings }
-{
-    let refusal = g.refusal;
-    let f = g.capacity;
-    if 0 < refusal {
-        return settings_no(refusal);
-    }
-    settings_yes(f)
-}
-
-// ---- replies
-
-// A refused read of a reply, or that there is none at a place.
-fn reply_no(refusal: u64) -> ReplyAnswer
-    ensures { result ≡ reply_no refusal }
-{
-    ReplyAnswer {
-        refusal,
-        present: 0,
-        sent: 0,
-        received: 0,
-        index: 0,
-        client: 0,
-        sequence: 0,
-    }
-}
-
-// A reply that may be absent in numbers.
-fn reply_yes(reply: Option<Reply>) -> ReplyAnswer
-    ensures { result ≡ reply_given reply }
-{
-    match reply {
-        None => reply_no(0),
-        Some(x) => ReplyAnswer {
-            refusal: 0,
-            present: 1,
-            sent: x.sent.0,
-            received: x.received.0,
-            index: x.index.0,
-            client: x.client,
-            sequence: x.seq,
+    match g {
+        Ok(f) => run_numbers(area, f),
+        Err(refusal) => RunAnswer {
+            refusal: u64::from(refusal),
+            now: 0,
+            events: 0,
+            seed: 0,
+            phase: 0,
+            server: 0,
+            input: 0,
+            queued: 0,
+            replies: 0,
+            confirmations: 0,
+            violations: 0,
         },
     }
 }
 
+// ---- the settings
+
+// How many servers and clients there are, and the limits.
+pub fn read_settings_in(area: &[u8], g: Result<Capacity, Refusal>) -> SettingsAnswer
+    requires { Gated area.now g }
+    ensures { result ≡ reading settings_no settings_yes area.now read_settings }
+{
+    SettingsAnswer::from(g)
+}
+
+// ---- replies
+
+// A client's reply by its place from 0, or none.
+fn reply(area: &[u8], g: Result<Capacity, Refusal>, place: u64) -> Result<Option<Reply>, Refusal>
+    requires { Gated area.now g }
+    ensures { reply_answer result ≡ reading reply_no reply_yes area.now (read_reply place) }
+{
+    let f = g?;
+    Ok(state_records::reply_of(area, f, place as usize))
+}
+
 // A client's reply by its place from 0.
-pub fn read_reply_in(area: &[u8], g: Gate, place: u64) -> ReplyAnswer
+pub fn read_reply_in(area: &[u8], g: Result<Capacity, Refusal>, place: u64) -> ReplyAnswer
     requires { Gated area.now g }
     ensures { result ≡ reading reply_no reply_yes area.now (read_reply place) }
 {
-    let refusal = g.refusal;
-    let f = g.capacity;
-    if 0 < refusal {
-        return reply_no(refusal);
-    }
-    let reply = state_records::reply_of(area, f, place as usize);
-    reply_yes(reply)
+    ReplyAnswer::from(reply(area, g, place))
 }
 
 // ---- confirmations
 
-// A refused read of a confirmation, or that there is none at a place.
-fn confirmation_no(refusal: u64) -> ConfirmationAnswer
-    ensures { result ≡ confirmation_no refusal }
+// An answer to a request to confirm leadership by its place from 0, or none.
+fn confirmation(
+    area: &[u8],
+    g: Result<Capacity, Refusal>,
+    place: u64,
+) -> Result<Option<Confirmation>, Refusal>
+    requires { Gated area.now g }
+    ensures { confirmation_answer result ≡ reading confirmation_no confirmation_yes area.now (read_confirmation place) }
 {
-    ConfirmationAnswer {
-        refusal,
-        present: 0,
-        request: 0,
-        confirmed: 0,
-        read_index: 0,
-    }
-}
-
-// Whether there is a read index.
-fn index_flag(index: Option<LogIndex>) -> u64
-    ensures { result ≡ flag_given index }
-{
-    match index {
-        None => 0,
-        Some(_) => 1,
-    }
-}
-
-// The read index, or 0.
-fn index_number(index: Option<LogIndex>) -> u64
-    ensures { result ≡ index_given index }
-{
-    match index {
-        None => 0,
-        Some(x) => x.0,
-    }
-}
-
-// A confirmation in numbers.
-fn confirmation_some(confirmation: Confirmation) -> ConfirmationAnswer
-    ensures { result ≡ confirmation_told confirmation }
-{
-    let index = confirmation.read_index;
-    ConfirmationAnswer {
-        refusal: 0,
-        present: 1,
-        request: confirmation.request.0,
-        confirmed: index_flag(index),
-        read_index: index_number(index),
-    }
-}
-
-// A confirmation that may be absent in numbers.
-fn confirmation_yes(confirmation: Option<Confirmation>) -> ConfirmationAnswer
-    ensures { result ≡ confirmation_given confirmation }
-{
-    match confirmation {
-        None => confirmation_no(0),
-        Some(x) => confirmation_some(x),
-    }
+    let f = g?;
+    Ok(state_records::confirmation_of(area, f, place as usize))
 }
 
 // An answer to a request to confirm leadership, by its place from 0.
-pub fn read_confirmation_in(area: &[u8], g: Gate, place: u64) -> ConfirmationAnswer
+pub fn read_confirmation_in(
+    area: &[u8],
+    g: Result<Capacity, Refusal>,
+    place: u64,
+) -> ConfirmationAnswer
     requires { Gated area.now g }
     ensures { result ≡ reading confirmation_no confirmation_yes area.now (read_confirmation place) }
 {
-    let refusal = g.refusal;
-    let f = g.capacity;
-    if 0 < refusal {
-        return confirmation_no(refusal);
-    }
-    let confirmation = state_records::confirmation_of(area, f, place as usize);
-    confirmation_yes(confirmation)
+    ConfirmationAnswer::from(confirmation(area, g, place))
 }

@@ -1,5 +1,6 @@
 -- What the proofs of the delay's functions cite, and question 10 of a delay drawn. Assumes nothing.
-use Rattle.std.specs.Prelude.{◌≡◌, Bool, true, List, ℕ, ◌+◌, ◌^◌, ◌≤◌, ◌<◌, eqb, ltb, set}
+use Rattle.std.specs.Option.{unwrap_or}
+use Rattle.std.specs.Prelude.{◌≡◌, Bool, true, List, ℕ, ◌+◌, ◌^◌, ◌≤◌, ◌<◌, eqb, ltb, set, Option}
 use Rattle.std.proofs.Common.{sym, ap, ap₂, subst, ◌∙◌, arith}
 use Rattle.laws.specs.Bools.{allb, and_left}
 use Rattle.laws.proofs.BoolLaws.{and_right, and_both}
@@ -17,7 +18,6 @@ use Rattle.state.specs.FitsBy.{fits_test}
 use Rattle.state.specs.Changes.{AreaOf, Changes, Reads}
 use Rattle.state_header.specs.Header.{network_of, network_set}
 use Rattle.state_header.specs.Laws.{under_word}
-use Rattle.sim_outputs.specs.declared.Sum.{Sum}
 use Rattle.sim_outputs.specs.Outputs.{Sums}
 use Rattle.sim_replies.specs.Replies.{DrawsDelay, delay_drawn, arrival_time, arrival_fits, Arrives, delay_taken, network_fits}
 
@@ -44,7 +44,7 @@ delay_read b F n r q d = record {
       d.to (subst (λ (x : Network). DelaysFit x) (sym e) fit) ∙ ap delay e;
 }
 
-pub arrival_read : (b : List ℕ) (F : Capacity) (d : Delayed) (w : Run) (r : Sum) → Reads b F d delay_drawn → Reads b F w run_of → Sums w.now.0 d.delay.0 r → Arrives b F r
+pub arrival_read : (b : List ℕ) (F : Capacity) (d : Delayed) (w : Run) (r : Option ℕ) → Reads b F d delay_drawn → Reads b F w run_of → Sums w.now.0 d.delay.0 r → Arrives b F r
 unfolding delay_drawn arrival_time arrival_fits
 arrival_read b F d w r pd pw q =
     let is : (s : State) → Area b s → F ≡ capacity_of s → w.now.0 + d.delay.0 ≡ arrival_time s =

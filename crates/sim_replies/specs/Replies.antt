@@ -1,5 +1,6 @@
 -- What a server sends to a client (lib.rt): what contracts cite. Assumes nothing.
-use Rattle.std.specs.Prelude.{◌≡◌, Bool, true, List, ℕ, eqb, ltb, Option, None, Some}
+use Rattle.std.specs.Option.{unwrap_or}
+use Rattle.std.specs.Prelude.{◌≡◌, Bool, true, List, ℕ, eqb, ltb, Option, None, Some, is_some}
 use Rattle.laws.specs.Bools.{pick, ◌and◌}
 use Rattle.laws.specs.Order.{pairs, remove_by}
 use Rattle.client.specs.Key.{key_of}
@@ -17,7 +18,6 @@ use Rattle.state.specs.declared.OpenInput.{OpenInput}
 use Rattle.state.specs.Parts.{input_in, verdict_in}
 use Rattle.state.specs.Changes.{Reads}
 use Rattle.state_queue.specs.Events.{queue_room}
-use Rattle.sim_outputs.specs.declared.Sum.{Sum}
 use Rattle.units.specs.declared.NodeId.{NodeId}
 
 -- ---- a delay
@@ -38,10 +38,10 @@ arrival_time s = (arrival s).time.0
 unfoldable pub arrival_fits : State → Bool
 arrival_fits s = word (arrival_time s)
 
--- Whether that time has 64 bits was answered, and where it has, the time.
-pub record Arrives (b : List ℕ) (F : Capacity) (r : Sum) : Type 0 where
-  pub fits : Reads b F r.fits arrival_fits
-  pub value : r.fits ≡ true → Reads b F r.value arrival_time
+-- That time where it has 64 bits, else nothing.
+pub record Arrives (b : List ℕ) (F : Capacity) (r : Option ℕ) : Type 0 where
+  pub fits : Reads b F (is_some r) arrival_fits
+  pub value : is_some r ≡ true → Reads b F (unwrap_or r 0) arrival_time
 
 -- The state with the network's next delay drawn.
 unfoldable pub delay_taken : State → State

@@ -1,5 +1,6 @@
 -- What the proofs of a client told cite, and question 10 of it. Assumes nothing.
-use Rattle.std.specs.Prelude.{◌≡◌, Bool, true, false, ◌&&◌, get_or}
+use Rattle.std.specs.Option.{unwrap_or}
+use Rattle.std.specs.Prelude.{◌≡◌, Bool, true, false, ◌&&◌, get_or, Option, is_some}
 use Rattle.std.proofs.Math.Path.{refl, ap, ap₂}
 use Rattle.std.proofs.Common.{sym, subst, ◌∙◌}
 use mathlib.Core.List.{List, [], ◌∷◌}
@@ -24,13 +25,12 @@ use Rattle.state_server.specs.Servers.{forgotten}
 use Rattle.state_server.specs.ServerLaws.{fits_forgotten}
 use Rattle.state_queue.specs.Events.{plain, queue_room, pushed}
 use Rattle.state_queue.specs.Fits.{fits_push, room_pushed, plain_range}
-use Rattle.sim_outputs.specs.declared.Sum.{Sum}
 use Rattle.sim_replies.specs.Replies.{arrival_time, arrival_fits, Arrives, delay_taken, network_fits, client_told, tell_test}
 use Rattle.sim_replies.specs.Laws.{network_fits_lem, fits_delay_taken}
 
-pub tell_read : (b : List ℕ) (F : Capacity) (t : Sum) (room : Bool) → Arrives b F t → Reads b F room (queue_room 1) → Reads b F (t.fits && room) tell_test
+pub tell_read : (b : List ℕ) (F : Capacity) (t : Option ℕ) (some room : Bool) → Arrives b F t → some ≡ is_some t → Reads b F room (queue_room 1) → Reads b F (some && room) tell_test
 unfolding tell_test arrival_fits
-tell_read b F t room p q = record { to = λ s h ef. code_and t.fits room ∙ ap₂ (λ (x y : Bool). x and y) (p.fits.to s h ef) (q.to s h ef) }
+tell_read b F t some room p e q = record { to = λ s h ef. code_and some room ∙ ap₂ (λ (x y : Bool). x and y) (e ∙ p.fits.to s h ef) (q.to s h ef) }
 
 -- ---- the three steps
 
@@ -123,9 +123,9 @@ time_fits : (s : State) (slot : ℕ) (key : ClientKey) → tell_test s ≡ true 
 unfolding tell_test arrival_fits
 time_fits s slot key t = ap word (time_same s slot key) ∙ and_left _ _ t
 
-pub told_acts : (b b₁ b₂ b₃ : List ℕ) (F : Capacity) (slot : ℕ) (key : ClientKey) (event : Event) (t : Sum) → slot < F.servers → Changes b b₁ F (forgotten slot key) → Arrives b₁ F t
-    → Changes b₁ b₂ F delay_taken → Changes b₂ b₃ F (pushed (plain (record { 0 = t.value }) event)) → Changes b b₃ F (client_told slot key event)
-told_acts b b₁ b₂ b₃ F slot key event t i p a q r = record {
+pub told_acts : (b b₁ b₂ b₃ : List ℕ) (F : Capacity) (slot : ℕ) (key : ClientKey) (event : Event) (t : Option ℕ) (v : ℕ) → slot < F.servers → Changes b b₁ F (forgotten slot key) → Arrives b₁ F t → v ≡ unwrap_or t 0
+    → Changes b₁ b₂ F delay_taken → Changes b₂ b₃ F (pushed (plain (record { 0 = v }) event)) → Changes b b₃ F (client_told slot key event)
+told_acts b b₁ b₂ b₃ F slot key event t v i p a ev q r = record {
   to = λ s l h fit.
       let f : state_fits s ≡ true = area_fits h.area in
       let j : slot < s.config.servers = subst (λ (G : Capacity). slot < G.servers) h.capacity i in
@@ -134,9 +134,9 @@ told_acts b b₁ b₂ b₃ F slot key event t i p a q r = record {
       let h₁ : AreaOf b₁ l F s₁ = p.to s l h f₁ in
       let h₂ : AreaOf b₂ l F (delay_taken s₁) = q.to s₁ l h₁ (fits_delay_taken s₁ (network_fits_lem s₁ f₁) ∙ f₁) in
       let tests : (event_fits_in s event and (tell_test s and state_fits s)) ≡ true = sym (told_tests s slot key event (servers_fit_lem s f) j (network_fits_lem s f)) ∙ fit in
-      let yes : t.fits ≡ true = a.fits.to s₁ h₁.area h₁.capacity ∙ time_fits s slot key (and_left _ _ (and_right _ _ tests)) in
-      let time : t.value ≡ arrival_time s = (a.value yes).to s₁ h₁.area h₁.capacity ∙ time_same s slot key in
-      let e : pushed (plain (record { 0 = t.value }) event) (delay_taken s₁) ≡ client_told slot key event s =
+      let yes : is_some t ≡ true = a.fits.to s₁ h₁.area h₁.capacity ∙ time_fits s slot key (and_left _ _ (and_right _ _ tests)) in
+      let time : v ≡ arrival_time s = ev ∙ (a.value yes).to s₁ h₁.area h₁.capacity ∙ time_same s slot key in
+      let e : pushed (plain (record { 0 = v }) event) (delay_taken s₁) ≡ client_told slot key event s =
       ap (λ (m : ℕ). pushed (plain (record { 0 = m }) event) (delay_taken s₁)) time ∙ sym (told_is s slot key event) in
       subst (λ (u : State). AreaOf b₃ l F u) e (r.to (delay_taken s₁) l h₂ (ap state_fits e ∙ fit));
 }

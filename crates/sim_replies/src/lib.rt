@@ -21,7 +21,6 @@ ghost use Rattle.sim_replies.specs.Replies.{
 use client::ClientKey;
 use network::{Delayed, Network};
 use queue::Event;
-use sim_outputs::Sum;
 use state::{Capacity, OpenInput};
 use units::{Duration, NodeId, SimTime};
 
@@ -56,13 +55,13 @@ pub fn delay_drawn(area: &[u8], f: Capacity) -> Delayed
 }
 
 // When an event that is sent now arrives.
-pub fn arrival_of(area: &[u8], f: Capacity) -> Sum
+pub fn arrival_of(area: &[u8], f: Capacity) -> Option<u64>
     requires { Inside area.now f }
     ensures { Arrives area.now f result }
 {
     let drawn = delay_drawn(area, f);
     let run = state_header::run_of(area, f);
-    sim_outputs::sum64(run.now.0, drawn.delay.0)
+    run.now.0.checked_add(drawn.delay.0)
 }
 
 // The network after its next delay.
@@ -84,7 +83,7 @@ pub fn tell_room(area: &[u8], f: Capacity) -> bool
 {
     let time = arrival_of(area, f);
     let room = state_queue::queue_room(area, f, 1);
-    time.fits & room
+    time.is_some() & room
 }
 
 // A client is told by the server at a place: its key goes, a delay is drawn and the event pushed.
@@ -96,7 +95,7 @@ pub fn tell_client(area: &mut [u8], f: Capacity, slot: u64, key: ClientKey, even
     state_server::forget(area, f, slot as usize, key);
     let time = arrival_of(area, f);
     take_delay(area, f);
-    state_queue::push_plain(area, f, SimTime(time.value), event);
+    state_queue::push_plain(area, f, SimTime(time.unwrap_or(0)), event);
 }
 
 // ---- a redirect

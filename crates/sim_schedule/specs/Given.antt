@@ -1,5 +1,5 @@
 -- The fault of a call's numbers and groups (given.rt): what the contracts cite. Assumes nothing.
-use Rattle.std.specs.Prelude.{◌≡◌, Bool, true, false, List, [], ◌∷◌, ℕ, ◌^◌, ◌≤◌, leb, ltb, eqb, length, get_or, replicate, Option, None, Some}
+use Rattle.std.specs.Prelude.{◌≡◌, Bool, true, false, List, [], ◌∷◌, ℕ, ◌^◌, ◌≤◌, leb, ltb, eqb, length, get_or, replicate, Option, None, Some, is_some}
 use Rattle.laws.specs.Bools.{pick, every, ◌and◌}
 use Rattle.words.specs.Words.{le}
 use Rattle.faults.specs.Fault as faults
@@ -55,10 +55,10 @@ unfoldable pub within_of : Option Fault → Bool
 within_of None = false
 within_of (Some fault) = faults.within_limits fault
 
--- What is asked of the fault of a kind, two numbers and groups: whether its servers are in the cluster; whether it is one, within limits,
--- with at most 8 groups; and where it is, the fault, whose numbers have 64 bits.
+-- What is asked of the fault of a kind, two numbers and groups: whether its servers are in the cluster; and the fault, whose numbers have
+-- 64 bits, where it is one, within limits, with at most 8 groups.
 pub record AsksFault (servers kind first second : ℕ) (groups : List ℕ) (r : FaultAsked) : Type 0 where
   pub known : r.known ≡ targets_in servers kind (fault_given kind first second groups) groups
-  pub fits : r.fits ≡ (groups_few kind (length groups) and within_of (fault_given kind first second groups))
-  pub fault : r.fits ≡ true → fault_given kind first second groups ≡ Some r.fault
-  pub small : r.fits ≡ true → words_fit (words_of (event.Fault r.fault)) ≡ true
+  pub fits : is_some r.fault ≡ (groups_few kind (length groups) and within_of (fault_given kind first second groups))
+  pub fault : (f : Fault) → r.fault ≡ Some f → fault_given kind first second groups ≡ Some f
+  pub small : (f : Fault) → r.fault ≡ Some f → words_fit (words_of (event.Fault f)) ≡ true

@@ -1,5 +1,5 @@
 -- What the proofs of given.rt cite, and what groups known make of a partition. Assumes nothing.
-use Rattle.std.specs.Prelude.{◌≡◌, Bool, true, false, ◌&&◌, List, [], ◌∷◌, ◌++◌, leb, eqb, length, drop, replicate, Option, None, Some, Result}
+use Rattle.std.specs.Prelude.{◌≡◌, Bool, true, false, ◌&&◌, List, [], ◌∷◌, ◌++◌, leb, eqb, length, drop, replicate, Option, None, Some, Result, is_some}
 use Rattle.std.specs.Result.{result_ok}
 use Rattle.std.proofs.Math.Path.{refl, sym, ap, ap₂}
 use Rattle.std.proofs.Common.{subst, ◌∙◌, div-lt_iff_lt-mul, one-mul, drop_of_length-le, pow_pos, pow_mono, shl_exact, take_all, Fits}
@@ -255,21 +255,30 @@ module _ {E : Type 0} (servers kind first second : ℕ) (groups : List ℕ) (w a
       (λ t. ap (λ (o : Option Fault). groups_few kind (length groups) and within_of o) (few_same t))
       (λ t. rw t)
 
-  pub asked_fault : (known few within : Bool) (fault : Fault) → known ≡ targets_in servers kind option groups → few
-      ≡ groups_few kind (length groups)
-      → within ≡ within_of option → fault ≡ fault_or option → Fits w64 kind → Fits w64 a → Fits w64 b
-      → AsksFault servers kind first second groups (record { known = known; fits = few && within; fault = fault })
-  asked_fault known few within fault pt pf pi pz hk ha hb =
-      let joined : (few && within) ≡ (groups_few kind (length groups) and within_of option) =
-      code_and few within ∙ ap₂ (λ (t u : Bool). t and u) pf pi in
-      let given : (few && within) ≡ true → option ≡ Some fault =
-      λ t. there option (and_right _ _ (sym joined ∙ t)) ∙ ap Some (sym pz) in
-      record {
-        known = pt ∙ known_same;
-        fits = joined ∙ fits_same;
-        fault = λ t. sym (few_same (and_left _ _ (sym joined ∙ t))) ∙ given t;
-        small = λ t. numbers_small kind a b fault hk ha hb (numbers_of_fault kind a b fault (sym po ∙ given t));
-      }
+  module _ (known few within : Bool) (pt : known ≡ targets_in servers kind option groups) (pf : few ≡ groups_few kind (length groups))
+      (pi : within ≡ within_of option) where
+    joined : (few && within) ≡ (groups_few kind (length groups) and within_of option)
+    joined = code_and few within ∙ ap₂ (λ (t u : Bool). t and u) pf pi
+
+    pub asked_fault : (few && within) ≡ true → Fits w64 kind → Fits w64 a → Fits w64 b
+        → AsksFault servers kind first second groups (record { known = known; fault = option })
+    asked_fault t hk ha hb =
+        let one : option ≡ Some (fault_or option) = there option (and_right _ _ (sym joined ∙ t)) in
+        let same : option ≡ fault_given kind first second groups = few_same (and_left _ _ (sym joined ∙ t)) in
+        record {
+          known = pt ∙ known_same;
+          fits = ap is_some one ∙ sym t ∙ joined ∙ fits_same;
+          fault = λ f e. sym same ∙ e;
+          small = λ f e. numbers_small kind a b f hk ha hb (numbers_of_fault kind a b f (sym po ∙ e));
+        }
+
+    pub asked_none : (few && within) ≡ false → AsksFault servers kind first second groups (record { known = known; fault = None })
+    asked_none t = record {
+      known = pt ∙ known_same;
+      fits = sym t ∙ joined ∙ fits_same;
+      fault = λ f e. absurd cc;
+      small = λ f e. absurd cc;
+    }
 
 -- ---- groups that are known are those of a partition whose targets are
 

@@ -1,6 +1,7 @@
 -- What scheduling a fault asks and does (lib.rt): what the contracts cite. Assumes nothing.
-use Rattle.std.specs.Prelude.{Bool, List, ℕ}
+use Rattle.std.specs.Prelude.{Bool, List, ℕ, Result}
 use Rattle.laws.specs.Bools.{pick}
+use Rattle.units.specs.declared.refusal.Refusal.{Refusal}
 use Rattle.queue.specs.declared.Event.TheVariants as event
 use Rattle.model.specs.Calls.{schedule}
 use Rattle.state.specs.declared.Capacity.{Capacity}
@@ -12,7 +13,7 @@ use Rattle.sim_schedule.specs.declared.SchedulePlan.{SchedulePlan}
 unfoldable pub schedule_code : Bool → Bool → Bool → Bool → ℕ
 schedule_code closed known args room = pick closed (pick known (pick args (pick room 0 10) 9) 7) 6
 
--- What scheduling a fault will do: r has the refusal, the time and the fault.
-pub record SchedulePlanned (b : List ℕ) (F : Capacity) (time kind first second : ℕ) (groups : List ℕ) (r : SchedulePlan) : Type 0 where
-  pub plan : Planned b F r.code (schedule (record { 0 = time }) kind first second groups) tt
-      (pushed (plain (record { 0 = r.time }) (event.Fault r.fault)))
+-- What scheduling a fault will do: the refusal, or the time and the fault.
+pub record SchedulePlanned (b : List ℕ) (F : Capacity) (time kind first second : ℕ) (groups : List ℕ) (r : Result SchedulePlan Refusal) : Type 0 where
+  pub plan : Planned b F r (schedule (record { 0 = time }) kind first second groups) (λ p. tt)
+      (λ p. pushed (plain (record { 0 = p.time }) (event.Fault p.fault)))

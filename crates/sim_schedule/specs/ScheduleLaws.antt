@@ -1,12 +1,16 @@
 -- What the proofs of lib.rt cite. Assumes nothing.
-use Rattle.std.specs.Prelude.{◌≡◌, refl, Bool, false, not, ◌&&◌, List, ℕ, ◌^◌, ◌≤◌, ◌<◌, max, leb, eqb, Option, None, Some}
+use Rattle.std.specs.Prelude.{◌≡◌, refl, Bool, false, not, ◌&&◌, List, ℕ, ◌^◌, ◌≤◌, ◌<◌, max, leb, eqb, Option, None, Some, is_some, Result, Ok, Err}
 use Rattle.std.proofs.Math.Path.{sym, ap, subst}
+use borrow.Author.Tests.{eq-eqb, ne_eqb, le-leb, lt-leb}
 use Rattle.std.proofs.Common.{ap₂, ◌∙◌, arith, eqb-true, leb-true, lt-ltb, ltb-true}
 use Rattle.std.proofs.Math.Bool.{true}
 use Rattle.std.proofs.Math.ListN.{length}
-use Rattle.laws.specs.Bools.{pick, cases, ◌and◌, and_left, and_true, and_assoc}
-use Rattle.laws.proofs.BoolLaws.{and_right, and_both, code_and}
+use Rattle.laws.specs.Bools.{pick, cases, ◌and◌, no_and, and_left, and_true, and_assoc}
+use Rattle.laws.proofs.BoolLaws.{and_right, and_both, and_no, code_and}
 use Rattle.laws.specs.Decides.{false_true}
+use Rattle.units.specs.declared.refusal.Refusal.{Refusal}
+use Rattle.units.specs.declared.refusal.Refusal.TheVariants as question
+use Rattle.units.specs.Refusals.{refusal_number}
 use Rattle.faults.specs.Fault as faults
 use Rattle.faults.specs.declared.Fault.{Fault}
 use Rattle.queue.specs.declared.Event.TheVariants as event
@@ -18,7 +22,6 @@ use Rattle.model.specs.Calls as calls
 use Rattle.model.specs.Calls.{Out, done, ask, is_closed, with_fault, fault_given, schedule}
 use Rattle.model.specs.Fits.{state_fits}
 use Rattle.state.specs.declared.Capacity.{Capacity}
-use Rattle.state.specs.declared.Gate.{Gate}
 use Rattle.state.specs.declared.OpenInput.{OpenInput}
 use Rattle.state.specs.declared.Run.{Run}
 use Rattle.state.specs.Parts.{open_of}
@@ -27,8 +30,7 @@ use Rattle.state.specs.Fitting.{area_fits, laid_limits}
 use Rattle.state.specs.FitsBy.{fits_test, server_count}
 use Rattle.state.specs.Changes.{Gated, Changes, Reads, judged}
 use Rattle.state.specs.Call.{call}
-use Rattle.state.specs.Exits.{call_refused, call_done}
-use Rattle.answers.specs.declared.DoneAnswer.{DoneAnswer}
+use Rattle.state.specs.Exits.{planned_err, planned_ok, call_refused, call_done}
 use Rattle.answers.specs.Answers.{done_no, done_yes}
 use Rattle.state_header.specs.Header.{phase_of}
 use Rattle.state_header.specs.Laws.{closed_is}
@@ -196,9 +198,9 @@ module _ (b : List ℕ) (F : Capacity) (time kind first second : ℕ) (groups : 
     known_is : q.known ≡ targets_in (length s.servers) kind fault groups
     known_is = pq.known ∙ ap (λ (n : ℕ). targets_in n kind fault groups) count
 
-    args_is : (leb time (2 ^ 62) && q.fits) ≡ (early and within_of fault)
+    args_is : (leb time (2 ^ 62) && is_some q.fault) ≡ (early and within_of fault)
     args_is =
-        code_and (leb time (2 ^ 62)) q.fits ∙ ap (λ (t : Bool). leb time (2 ^ 62) and t) pq.fits
+        code_and (leb time (2 ^ 62)) (is_some q.fault) ∙ ap (λ (t : Bool). leb time (2 ^ 62) and t) pq.fits
         ∙ sym (and_assoc (leb time (2 ^ 62)) (groups_few kind (length groups)) (within_of fault))
 
     fits_is : (f : Fault) → fault ≡ Some f → targets_in (length s.servers) kind fault groups ≡ true → early ≡ true
@@ -210,54 +212,83 @@ module _ (b : List ℕ) (F : Capacity) (time kind first second : ℕ) (groups : 
         let targets : faults.targets_known s.config.servers f ≡ true =
         in_range_lem s.config.servers kind first second groups f few e (ap (λ (m : ℕ). targets_in m kind fault groups) (sym n) ∙ k)
         (and_right _ _ t) in
-        let fits : q.fits ≡ true = pq.fits ∙ and_both _ _ (and_right _ _ t) (ap within_of e ∙ w) in
-        let same : q.fault ≡ f = ap fault_or (sym (pq.fault fits) ∙ e) in
-        let small : words_fit (words_of (event.Fault f)) ≡ true = subst (λ (g : Fault). words_fit (words_of (event.Fault g)) ≡ true) same
-        (pq.small fits) in
+        let fits : is_some q.fault ≡ true = pq.fits ∙ and_both _ _ (and_right _ _ t) (ap within_of e ∙ w) in
+        let is : q.fault ≡ Some f = by q.fault fits refl f e in
+        let small : words_fit (words_of (event.Fault f)) ≡ true = pq.small f is in
         room_asked s (area_fits h) time f (leb-true time (2 ^ 62) (and_left _ _ t)) (and_both _ _ targets w) small ∙ sym (pr.to s h ef)
+      where
+        by : (x : Option Fault) → is_some x ≡ true → q.fault ≡ x → (f : Fault) → fault ≡ Some f → x ≡ Some f
+        by None k u f e = absurd cc
+        by (Some g) k u f e = sym (pq.fault g u) ∙ e
 
-    code_is : schedule_code (eqb o.phase 0) q.known (leb time (2 ^ 62) && q.fits) room
+    code_is : schedule_code (eqb o.phase 0) q.known (leb time (2 ^ 62) && is_some q.fault) room
         ≡ schedule_code (is_closed s.phase) (targets_in (length s.servers) kind fault groups) (early and within_of fault) room
     code_is =
-        ap₂ (λ (c k : Bool). schedule_code c k (leb time (2 ^ 62) && q.fits) room)
+        ap₂ (λ (c k : Bool). schedule_code c k (leb time (2 ^ 62) && is_some q.fault) room)
         (ap (λ (x : OpenInput). eqb x.phase 0) (po.to s h ef) ∙ closed_is s.phase) known_is
         ∙ ap (λ (a : Bool). schedule_code (is_closed s.phase) (targets_in (length s.servers) kind fault groups) a room) args_is
 
-  pub schedule_planned : (code t : ℕ) → code ≡ schedule_code (eqb o.phase 0) q.known (leb time (2 ^ 62) && q.fits) room → t
-      ≡ max time run.now.0
-      → SchedulePlanned b F time kind first second groups (record { code = code; time = t; fault = q.fault })
-  schedule_planned code t ec et = record {
-    plan = record {
-      code = λ s h ef.
-          ec ∙ code_is s h ef
-          ∙ sym (ap judged (is_asks s h ef)
-          ∙ judged_asks (is_closed s.phase) (targets_in (length s.servers) kind fault groups) early fault (scheduled s h ef) room
-          (fits_is s h ef));
-      gives = λ s h ef z.
-          let z₁ = sym (code_is s h ef) ∙ sym ec ∙ z in
-          let fits : q.fits ≡ true = pq.fits ∙ fits_of (code_args _ _ _ _ z₁) in
-          let now : max time s.now.0 ≡ t = ap (λ (x : Run). max time x.now.0) (sym (pw.to s h ef)) ∙ sym et in
-          is_asks s h ef
-          ∙ asks_done (is_closed s.phase) (targets_in (length s.servers) kind fault groups) early fault (scheduled s h ef) room
-          q.fault (pq.fault fits) z₁
-          ∙ ap (λ (n : ℕ). done tt (pushed (plain (record { 0 = n }) (event.Fault q.fault)) s)) now;
-    };
-  }
-    where
-      fits_of : (early and within_of fault) ≡ true → (groups_few kind (length groups) and within_of fault) ≡ true
-      fits_of u = and_both _ _ (and_right _ _ (and_left _ _ u)) (and_right _ _ u)
+    -- the number of the call, by its questions
+    told : schedule_code (eqb o.phase 0) q.known (leb time (2 ^ 62) && is_some q.fault) room ≡ judged (schedule (record { 0 = time }) kind first second groups s)
+    told =
+        code_is
+        ∙ sym (ap judged is_asks
+        ∙ judged_asks (is_closed s.phase) (targets_in (length s.servers) kind fault groups) early fault scheduled room
+        fits_is)
+
+  stops : (refusal : Refusal) → refusal_number refusal ≡ schedule_code (eqb o.phase 0) q.known (leb time (2 ^ 62) && is_some q.fault) room
+      → SchedulePlanned b F time kind first second groups (Err refusal)
+  stops refusal e = record { plan = planned_err refusal (λ s h ef. e ∙ told s h ef) }
+
+  pub schedule_open : (o.phase ≡ 0 → ⊥) → SchedulePlanned b F time kind first second groups (Err question.Phase)
+  schedule_open n = stops question.Phase (code_six _ _ _ _ (ap not (ne_eqb o.phase 0 n)))
+
+  module _ (c : o.phase ≡ 0) where
+    closed : not (eqb o.phase 0) ≡ false
+    closed = ap not (eq-eqb o.phase 0 c)
+
+    pub schedule_unknown : not q.known ≡ true → SchedulePlanned b F time kind first second groups (Err question.UnknownServer)
+    schedule_unknown n = stops question.UnknownServer (code_seven _ _ _ _ closed n)
+
+    module _ (k : not q.known ≡ false) where
+      pub schedule_none : q.fault ≡ None → SchedulePlanned b F time kind first second groups (Err question.Argument)
+      schedule_none n = stops question.Argument (code_nine _ _ _ _ closed k (ap not (code_and _ _ ∙ and_no (leb time (2 ^ 62)) _ (ap is_some n))))
+
+      module _ (x : Fault) (t : q.fault ≡ Some x) where
+        pub schedule_late : 4611686018427387904 < time → SchedulePlanned b F time kind first second groups (Err question.Argument)
+        schedule_late l = stops question.Argument (code_nine _ _ _ _ closed k (ap not (code_and _ _ ∙ no_and _ _ (lt-leb time (2 ^ 62) l))))
+
+        module _ (l : time ≤ 4611686018427387904) where
+          args : (leb time (2 ^ 62) && is_some q.fault) ≡ true
+          args = code_and _ _ ∙ and_both _ _ (le-leb time (2 ^ 62) l) (ap is_some t)
+
+          pub schedule_full : not room ≡ true → SchedulePlanned b F time kind first second groups (Err question.Room)
+          schedule_full n = stops question.Room (code_ten _ _ _ _ closed k (ap not args) n)
+
+          pub schedule_planned : not room ≡ false → (at : ℕ) → at ≡ max time run.now.0
+              → SchedulePlanned b F time kind first second groups (Ok (record { time = at; fault = x }))
+          schedule_planned r at et =
+              let z : ◌≡◌ {A = ℕ} 0 (schedule_code (eqb o.phase 0) q.known (leb time (2 ^ 62) && is_some q.fault) room) = code_none _ _ _ _ closed k (ap not args) r in
+              record {
+                plan = planned_ok (record { time = at; fault = x }) (λ s h ef. z ∙ told s h ef)
+                    (λ s h ef.
+                    let now : max time s.now.0 ≡ at = ap (λ (w : Run). max time w.now.0) (sym (pw.to s h ef)) ∙ sym et in
+                    is_asks s h ef
+                    ∙ asks_done (is_closed s.phase) (targets_in (length s.servers) kind fault groups) early fault (scheduled s h ef) room
+                    x (pq.fault x t) (sym (code_is s h ef) ∙ sym z)
+                    ∙ ap (λ (n : ℕ). done tt (pushed (plain (record { 0 = n }) (event.Fault x)) s)) now);
+              }
 
 -- ---- the exits
 
-module _ (b : List ℕ) (g : Gate) (time kind first second : ℕ) (groups : List ℕ) (p : SchedulePlan) (q : Gated b g) (y : g.refusal ≤ 0)
-    (k : SchedulePlanned b g.capacity time kind first second groups p) where
-  pub schedule_no : (r : DoneAnswer) → 0 < p.code → r ≡ done_no p.code → (r, b)
+module _ (b : List ℕ) (g : Result Capacity Refusal) (time kind first second : ℕ) (groups : List ℕ) (q : Gated b g) (F : Capacity) (y : g ≡ Ok F)
+    (p : Result SchedulePlan Refusal) (k : SchedulePlanned b F time kind first second groups p) where
+  pub schedule_no : (refusal : Refusal) → p ≡ Err refusal → (done_no (refusal_number refusal), b)
       ≡ call done_no done_yes b (schedule (record { 0 = time }) kind first second groups)
-  schedule_no r n e = call_refused done_no done_yes b (schedule (record { 0 = time }) kind first second groups) g q y p.code tt _
-      k.plan r n e
+  schedule_no refusal e = call_refused done_no done_yes b (schedule (record { 0 = time }) kind first second groups) g q F y p _ _
+      k.plan (done_no (refusal_number refusal)) refusal e refl
 
-  pub schedule_done : (b₁ : List ℕ) (r : DoneAnswer) → p.code ≤ 0 → Changes b b₁ g.capacity
-      (pushed (plain (record { 0 = p.time }) (event.Fault p.fault)))
-      → r ≡ done_no 0 → (r, b₁) ≡ call done_no done_yes b (schedule (record { 0 = time }) kind first second groups)
-  schedule_done b₁ r n c e = call_done done_no done_yes b (schedule (record { 0 = time }) kind first second groups) g q y p.code tt _
-      k.plan b₁ r n c e
+  pub schedule_done : (b₁ : List ℕ) (v : SchedulePlan) → p ≡ Ok v → Changes b b₁ F (pushed (plain (record { 0 = v.time }) (event.Fault v.fault)))
+      → (done_no 0, b₁) ≡ call done_no done_yes b (schedule (record { 0 = time }) kind first second groups)
+  schedule_done b₁ v e c = call_done done_no done_yes b (schedule (record { 0 = time }) kind first second groups) g q F y p _ _
+      k.plan b₁ (done_no 0) v e c refl

@@ -1,7 +1,6 @@
 // The fault that a kind, two numbers and groups name, one byte a group: whether its servers are in the cluster, and its numbers
 // within limits.
 ghost use Rattle.std.specs.Prelude.{◌≡◌, ◌+◌, ◌^◌, ◌≤◌, ◌<◌, length, get_or};
-ghost use Rattle.queue.specs.Numbers.{fault_or};
 ghost use Rattle.sim_schedule.specs.Given.{members_in, WordIn, GroupsWord, groups_few, first_by, second_by};
 ghost use Rattle.sim_schedule.specs.Given.{targets_of, targets_in, within_of, AsksFault};
 
@@ -12,10 +11,8 @@ use faults::{Fault, FaultNumbers};
 pub struct FaultAsked {
     // Whether every server that it names is in the cluster.
     pub known: bool,
-    // Whether the numbers are those of a fault, and within limits.
-    pub fits: bool,
-    // The fault where they are, else any.
-    pub fault: Fault,
+    // The fault, if the numbers are those of one, and within limits.
+    pub fault: Option<Fault>,
 }
 
 // ---- groups
@@ -144,16 +141,6 @@ fn within_of(fault: Option<Fault>) -> bool
     }
 }
 
-// A fault that is there, or any.
-fn fault_or(fault: Option<Fault>) -> Fault
-    ensures { result ≡ fault_or fault }
-{
-    match fault {
-        None => Fault::HealAll,
-        Some(given) => given,
-    }
-}
-
 // What is asked of the fault of a kind, two numbers and groups.
 pub fn fault_asked(servers: u64, kind: u64, first: u64, second: u64, groups: &[u8]) -> FaultAsked
     requires { servers ≤ 8 }
@@ -170,10 +157,9 @@ pub fn fault_asked(servers: u64, kind: u64, first: u64, second: u64, groups: &[u
     .ok();
     let known = targets_in(servers, kind, fault, groups);
     let few = groups_few(kind, groups.len());
-    let within = within_of(fault);
-    FaultAsked {
-        known,
-        fits: few & within,
-        fault: fault_or(fault),
+    if few & within_of(fault) {
+        FaultAsked { known, fault }
+    } else {
+        FaultAsked { known, fault: None }
     }
 }

@@ -5,42 +5,23 @@ ghost use Rattle.std.specs.Prelude.{◌≡◌, max};
 ghost use Rattle.model.specs.Calls.{schedule};
 ghost use Rattle.state.specs.Changes.{Inside, Gated};
 ghost use Rattle.state.specs.Call.{call};
-ghost use Rattle.answers.specs.Answers.{done_no, done_yes};
-ghost use Rattle.sim_schedule.specs.Schedule.{schedule_code, SchedulePlanned};
+ghost use Rattle.answers.specs.Answers.{done_no, done_yes, done_answer};
+ghost use Rattle.sim_schedule.specs.Schedule.{SchedulePlanned};
 
 use answers::DoneAnswer;
 use faults::Fault;
 use queue::Event;
-use state::{Capacity, Gate};
+use state::Capacity;
 use units::SimTime;
+use units::refusal::Refusal;
 
 pub mod given; // the fault of the call's numbers
 
-// What scheduling a fault will push, or the refusal.
+// What scheduling a fault will push.
 #[derive(Clone, Copy)]
 pub struct SchedulePlan {
-    pub code: u64,
     pub time: u64,
     pub fault: Fault,
-}
-
-// The refusal: 6, 7, 9, 10, or 0.
-fn schedule_code(closed: bool, known: bool, args: bool, room: bool) -> u64
-    ensures { result ≡ schedule_code closed known args room }
-{
-    if !closed {
-        return 6;
-    }
-    if !known {
-        return 7;
-    }
-    if !args {
-        return 9;
-    }
-    if !room {
-        return 10;
-    }
-    0
 }
 
 // A time before now becomes now.
@@ -59,7 +40,7 @@ fn schedule_plan(
     first: u64,
     second: u64,
     groups: &[u8],
-) -> SchedulePlan
+) -> Result<SchedulePlan, Refusal>
     requires { Inside area.now f }
     ensures { SchedulePlanned area.now f time kind first second groups.now result }
 {
@@ -67,20 +48,53 @@ fn schedule_plan(
     let asked = given::fault_asked(f.servers, kind, first, second, groups);
     let room = state_queue::queue_room(area, f, 1);
     let run = state_header::run_of(area, f);
-    let args = (time <= 4611686018427387904) & asked.fits;
-    let code = schedule_code(open.phase == 0, asked.known, args, room);
-    let fault = asked.fault;
-    SchedulePlan {
-        code,
+    if open.phase != 0 {
+        return Err(Refusal::Phase);
+    }
+    if !asked.known {
+        return Err(Refusal::UnknownServer);
+    }
+    let Some(fault) = asked.fault else {
+        return Err(Refusal::Argument);
+    };
+    if 4611686018427387904 < time {
+        return Err(Refusal::Argument);
+    }
+    if !room {
+        return Err(Refusal::Room);
+    }
+    Ok(SchedulePlan {
         time: not_before(time, run.now.0),
         fault,
-    }
+    })
+}
+
+// A fault scheduled, or the refusal.
+fn scheduled(
+    area: &mut [u8],
+    g: Result<Capacity, Refusal>,
+    time: u64,
+    kind: u64,
+    first: u64,
+    second: u64,
+    groups: &[u8],
+) -> Result<(), Refusal>
+    requires { Gated area.old g }
+    ensures { (done_answer result, area.new) ≡ call done_no done_yes area.old
+        (schedule (record { 0 = time }) kind first second groups.now) }
+{
+    let f = g?;
+    let SchedulePlan { time: at, fault } = schedule_plan(
+        area, f, time, kind, first, second, groups,
+    )?;
+    state_queue::push_plain(area, f, SimTime(at), Event::Fault(fault));
+    Ok(())
 }
 
 // A fault scheduled, by its kind, two numbers and the groups of a partition.
 pub fn schedule_in(
     area: &mut [u8],
-    g: Gate,
+    g: Result<Capacity, Refusal>,
     time: u64,
     kind: u64,
     first: u64,
@@ -91,17 +105,5 @@ pub fn schedule_in(
     ensures { (result, area.new) ≡ call done_no done_yes area.old
         (schedule (record { 0 = time }) kind first second groups.now) }
 {
-    let refusal = g.refusal;
-    let f = g.capacity;
-    if 0 < refusal {
-        return answers::done(refusal);
-    }
-    let p = schedule_plan(area, f, time, kind, first, second, groups);
-    let code = p.code;
-    if 0 < code {
-        return answers::done(code);
-    }
-    let fault = p.fault;
-    state_queue::push_plain(area, f, SimTime(p.time), Event::Fault(fault));
-    answers::done(0)
+    DoneAnswer::from(scheduled(area, g, time, kind, first, second, groups))
 }

@@ -1,7 +1,7 @@
 -- What the proofs of lib.rt cite. Assumes nothing.
 use Rattle.std.proofs.Math.Path.{◌≡◌, refl, sym, ap, ap₂}
 use Rattle.std.proofs.Common.{subst, ◌∙◌, eq-eqb, ne_eqb, lt-ltb, ltb-true, Fits}
-use Rattle.std.specs.Prelude.{Bool, true, false, ◌&&◌, ◌||◌, List, leb, eqb, Option}
+use Rattle.std.specs.Prelude.{Bool, true, false, ◌&&◌, ◌||◌, List, leb, eqb, Option, Result, Ok, Err}
 use Prim.Native.Nat.{ℕ, zero, suc, ◌^◌, ◌≤◌, ◌<◌}
 use native.Mathlib.Omega.{arith}
 use Rattle.std.proofs.lemmas.Bool.{lt-leb}
@@ -9,13 +9,15 @@ use Rattle.std.specs.Int.{w64}
 use Rattle.laws.specs.Bools.{pick, pick_both, cases, ◌and◌, and_left, and_assoc}
 use Rattle.laws.proofs.BoolLaws.{and_right, and_both, code_and}
 use Rattle.laws.specs.Decides.{false_true}
+use Rattle.units.specs.declared.refusal.Refusal.{Refusal}
+use Rattle.units.specs.Refusals.{refusal_number, answer_number}
 use Rattle.queue.specs.Range.{word}
-use Rattle.model.specs.State.{State, direct, from_client, Input, start_input, message_input, timer_input, propose_input, confirm_input, Verdict, accepted, not_leader, Owed, Phase, closed, writing, sending}
+use Rattle.storage.specs.Storage.{unsynced}
+use Rattle.model.specs.State.{State, server_at, direct, from_client, Input, start_input, message_input, timer_input, propose_input, confirm_input, Verdict, accepted, not_leader, Owed, Phase, closed, writing, sending}
 use Rattle.model.specs.Simulation.{no_input}
-use Rattle.model.specs.Calls.{Out, refused, done, ask, is_flag, node_option, while_writing, synced, nothing_to_sync, cut, sealing_number, can_be_refused, verdict_of, sealed, seal}
+use Rattle.model.specs.Calls.{Out, refused, done, ask, is_flag, node_option, while_writing, synced, nothing_to_sync, cut, Sealed, can_be_refused, verdict_of, sealed, seal}
 use Rattle.model.specs.Fits.{state_fits, node_fits, verdict_fits, phase_fits}
 use Rattle.state.specs.declared.Capacity.{Capacity}
-use Rattle.state.specs.declared.Gate.{Gate}
 use Rattle.state.specs.declared.OpenInput.{OpenInput}
 use Rattle.state.specs.declared.ServerState.{ServerState}
 use Rattle.state.specs.Parts.{open_of, phase_kind, input_kind, verdict_kind, verdict_number}
@@ -24,15 +26,18 @@ use Rattle.state.specs.EncodeLaws.{area_decode}
 use Rattle.state.specs.Fitting.{area_fits, laid_limits}
 use Rattle.state.specs.FitsBy.{fits_test}
 use Rattle.state.specs.Call.{call}
-use Rattle.state.specs.Changes.{Gated, Reads, Planned, judged}
-use Rattle.state.specs.Exits.{call_refused, call_done}
+use Rattle.state.specs.Area.{Area, capacity_of}
+use Rattle.state.specs.Changes.{Gated, Changes, Reads, judged}
+use Rattle.state.specs.Exits.{ok_same, code_refused, code_done}
 use Rattle.state_header.specs.Header.{phase_of}
 use Rattle.state_server.specs.Servers.{server_state_at}
 use Rattle.state_disk.specs.declared.SyncTold.{SyncTold}
 use Rattle.state_disk.specs.Disks.{unsynced_at}
 use Rattle.answers.specs.declared.InputNumbers.{InputNumbers}
 use Rattle.answers.specs.declared.SealedAnswer.{SealedAnswer}
-use Rattle.answers.specs.Answers.{no_input_numbers, sealed_no, sealed_of, sealed_yes}
+use Rattle.answers.specs.declared.opened.Sealing.{Sealing as Ended}
+use Rattle.answers.specs.declared.opened.Sealing.TheVariants.{Synced, NothingToSync, Cut}
+use Rattle.answers.specs.Answers.{no_input_numbers, sealed_no, sealed_of, sealed_yes, sealed_answer, sealing_told}
 use Rattle.sim_outputs.specs.Outputs.{Passed, asks_code}
 use Rattle.sim_outputs.specs.Laws.{sender_read}
 use Rattle.sim_owed.specs.Servers.{Opens}
@@ -41,7 +46,7 @@ use Rattle.sim_seal_sync.specs.Laws.{fits_sync, sync_is}
 use Rattle.sim_seal.specs.declared.SealPlan.{SealPlan}
 use Rattle.sim_seal.specs.Cuts.{cut_at, cut_test}
 use Rattle.sim_seal.specs.CutLaws.{fits_cut, cut_is}
-use Rattle.sim_seal.specs.Seals.{given_kind, given_leader, sealed_numbers, args_given, crashes_at, sealing_at, outcome_at, seal_test, SealPlanned}
+use Rattle.sim_seal.specs.Seals.{given_kind, given_leader, sealed_numbers, args_given, crashes_at, sealing_at, ended_at, seal_test, SyncPlanned, SealPlanned}
 use Rattle.units.specs.declared.NodeId.{NodeId}
 
 -- ---- the verdict in numbers
@@ -122,16 +127,16 @@ unfolding server_state_at crashes_at
 crashes_read b F slot x q = record { to = λ s h ef. ap (λ (y : ServerState). y.crash_on_next_input) (q.to s h ef) }
 
 module _ (b : List ℕ) (F : Capacity) (slot : ℕ) (told : SyncTold) (q : Reads b F told (unsynced_at slot)) where
-  pub outcome_synced : told.wrote ≡ true → Reads b F 1 (outcome_at slot)
-  unfolding unsynced_at outcome_at sealing_at
+  pub outcome_synced : told.wrote ≡ true → Reads b F Synced (ended_at slot)
+  unfolding unsynced_at ended_at
   outcome_synced t = record {
-    to = λ s h ef. sym (ap (λ (u : Bool). sealing_number (pick u synced nothing_to_sync)) (sym (ap (λ (x : SyncTold). x.wrote) (q.to s h ef)) ∙ t));
+    to = λ s h ef. sym (ap (λ (u : Bool). pick u Synced NothingToSync) (sym (ap (λ (x : SyncTold). x.wrote) (q.to s h ef)) ∙ t));
   }
 
-  pub outcome_none : told.wrote ≡ false → Reads b F 2 (outcome_at slot)
-  unfolding unsynced_at outcome_at sealing_at
+  pub outcome_none : told.wrote ≡ false → Reads b F NothingToSync (ended_at slot)
+  unfolding unsynced_at ended_at
   outcome_none t = record {
-    to = λ s h ef. sym (ap (λ (u : Bool). sealing_number (pick u synced nothing_to_sync)) (sym (ap (λ (x : SyncTold). x.wrote) (q.to s h ef)) ∙ t));
+    to = λ s h ef. sym (ap (λ (u : Bool). pick u Synced NothingToSync) (sym (ap (λ (x : SyncTold). x.wrote) (q.to s h ef)) ∙ t));
   }
 
 module _ (b : List ℕ) (F : Capacity) (o : OpenInput) (cuts r : Bool) where
@@ -232,14 +237,17 @@ code_two true u e = refl
 code_two false u e = absurd (let z : ◌≡◌ {A = ℕ} 9 0 = e in omega arith)
 
 -- the place, the kind and the numbers of an open input
-module _ (b : List ℕ) (F : Capacity) (refusal present leader : ℕ) (n o : OpenInput) (cuts fits args : Bool) (outcome code : ℕ) (q : Passed b F) (w : Fits w64 leader) (rn : Reads b F n (λ s. open_of (phase_of s)))
-    (eo : o ≡ sealed_numbers n refusal present leader) (rc : Reads b F cuts (crashes_at o.slot)) (rf : Reads b F fits (seal_test o cuts)) (ro : Reads b F outcome (outcome_at o.slot))
-    (ea : args ≡ args_given n.input refusal present) (ec : code ≡ asks_code 9 10 (eqb n.phase 1) args fits) where
+module _ (b : List ℕ) (F : Capacity) (refusal present leader : ℕ) (n o : OpenInput) (cuts fits args : Bool) (outcome : Ended) (r : Result (Unit {0}) Refusal) (q : Passed b F) (w : Fits w64 leader) (rn : Reads b F n (λ s. open_of (phase_of s)))
+    (eo : o ≡ sealed_numbers n refusal present leader) (rc : Reads b F cuts (crashes_at o.slot)) (rf : Reads b F fits (seal_test o cuts)) (ro : Reads b F outcome (ended_at o.slot))
+    (ea : args ≡ args_given n.input refusal present) (ec : answer_number r ≡ asks_code 9 10 (eqb n.phase 1) args fits) where
+  abbrev code : ℕ
+  code = answer_number r
+
   abbrev s : State
   s = decode b
 
   abbrev plan : SealPlan
-  plan = record { code = code; cuts = cuts; outcome = outcome; input = o }
+  plan = record { cuts = cuts; outcome = outcome; input = o }
 
   whole : state_fits s ≡ true
   whole = area_fits q.area
@@ -256,17 +264,28 @@ module _ (b : List ℕ) (F : Capacity) (refusal present leader : ℕ) (n o : Ope
   below : o.slot < F.servers
   below = open_below b F n o refusal present leader q rn eo
 
-  -- no input is open, or it is sealed already
-  shut : seal refusal present leader s ≡ refused 6 → (phase_kind s.phase ≡ 1 → ⊥) → SealPlanned b F refusal present leader plan
-  unfolding judged
-  shut e z =
-      let six : code ≡ 6 = ec ∙ code_six n.phase args fits (λ y. z (sym (ap (λ (x : OpenInput). x.phase) here) ∙ y)) in
-      record {
-        code = six ∙ sym (ap judged e);
-        cuts = λ c. absurd (let y : ◌≡◌ {A = ℕ} 6 0 = sym six ∙ c in omega arith);
-        syncs = λ c. absurd (let y : ◌≡◌ {A = ℕ} 6 0 = sym six ∙ c in omega arith);
-        below = below;
-      }
+  -- what is planned: nothing but `plan`, where the call's number is 0
+  module _ (x : Result SealPlan Refusal) (ex : answer_number x ≡ code) (same : (p : SealPlan) → x ≡ Ok p → plan ≡ p) where
+    made : code ≡ judged (seal refusal present leader s)
+        → (code ≡ 0 → cuts ≡ true → seal refusal present leader s ≡ done (record { sealing = cut; opening = (cut_at o s).opening }) (cut_at o s).state)
+        → (code ≡ 0 → cuts ≡ false → SyncPlanned s refusal present leader plan) → SealPlanned b F refusal present leader x
+    made c k y = record {
+      code = ex ∙ c;
+      cuts = λ p t.
+          subst (λ (v : SealPlan). v.cuts ≡ true
+          → seal refusal present leader s ≡ done (record { sealing = cut; opening = (cut_at v.input s).opening }) (cut_at v.input s).state)
+          (same p t) (k (sym ex ∙ ap answer_number t));
+      syncs = λ p t. subst (λ (v : SealPlan). v.cuts ≡ false → SyncPlanned s refusal present leader v) (same p t) (y (sym ex ∙ ap answer_number t));
+      below = λ p t. subst (λ (v : SealPlan). v.input.slot < F.servers) (same p t) below;
+    }
+
+    -- no input is open, or it is sealed already
+    shut : seal refusal present leader s ≡ refused 6 → (phase_kind s.phase ≡ 1 → ⊥) → SealPlanned b F refusal present leader x
+    unfolding judged
+    shut e z =
+        let six : code ≡ 6 = ec ∙ code_six n.phase args fits (λ y. z (sym (ap (λ (x : OpenInput). x.phase) here) ∙ y)) in
+        made (six ∙ sym (ap judged e)) (λ c. absurd (let y : ◌≡◌ {A = ℕ} 6 0 = sym six ∙ c in omega arith))
+        (λ c. absurd (let y : ◌≡◌ {A = ℕ} 6 0 = sym six ∙ c in omega arith))
 
   module _ (slot : ℕ) (input : Input) (owed : Owed) (ep : s.phase ≡ writing slot input owed) where
     is_open : n ≡ open_of (writing slot input owed)
@@ -301,28 +320,30 @@ module _ (b : List ℕ) (F : Capacity) (refusal present leader : ℕ) (n o : Ope
         gives s whole few refusal present leader named slot input owed ep
         ∙ rw (args_yes z, sym cuts_is, e, sym is_sealed, sym slot_is) refl
 
-    opened : SealPlanned b F refusal present leader plan
-    opened = record {
-      code = code_is ∙ sym (number s whole few refusal present leader named slot input owed ep);
-      cuts = λ z c. goes z true c;
-      syncs = λ z c. record {
-        phase = sending slot input (verdict_of refusal present leader) owed;
-        input = is_sealed;
-        outcome = ro.to s q.area q.capacity;
-        gives = goes z false c;
-      };
-      below = below;
-    }
+    opened : (x : Result SealPlan Refusal) → answer_number x ≡ code → ((p : SealPlan) → x ≡ Ok p → plan ≡ p) → SealPlanned b F refusal present leader x
+    opened x ex same =
+        made x ex same (code_is ∙ sym (number s whole few refusal present leader named slot input owed ep)) (λ z c. goes z true c)
+        (λ z c. record {
+          phase = sending slot input (verdict_of refusal present leader) owed;
+          input = is_sealed;
+          outcome = ro.to s q.area q.capacity;
+          gives = goes z false c;
+        })
 
-  pub seal_planned : SealPlanned b F refusal present leader plan
+  planned : (x : Result SealPlan Refusal) → answer_number x ≡ code → ((p : SealPlan) → x ≡ Ok p → plan ≡ p) → SealPlanned b F refusal present leader x
   unfolding seal
-  seal_planned = by s.phase refl
+  planned x ex same = by s.phase refl
     where
-      by : (p : Phase) → s.phase ≡ p → SealPlanned b F refusal present leader plan
-      by closed e =
-          shut (ap (λ (p : Phase). while_writing p (λ slot input owed. ask (is_flag refusal and (pick (eqb refusal 1) (is_flag present and can_be_refused input) true)) 9 (sealed s slot input owed (verdict_of refusal present leader)))) e) (λ z. let y : ◌≡◌ {A = ℕ} 0 1 = sym (ap phase_kind e) ∙ z in omega arith)
-      by (writing slot input owed) e = opened slot input owed e
-      by (sending slot input verdict owed) e = shut (ap (λ (p : Phase). while_writing p (λ slot input owed. ask (is_flag refusal and (pick (eqb refusal 1) (is_flag present and can_be_refused input) true)) 9 (sealed s slot input owed (verdict_of refusal present leader)))) e) (λ z. let y : ◌≡◌ {A = ℕ} 2 1 = sym (ap phase_kind e) ∙ z in omega arith)
+      by : (p : Phase) → s.phase ≡ p → SealPlanned b F refusal present leader x
+      by closed e = shut x ex same (ap (λ (p : Phase). while_writing p (λ slot input owed. ask (is_flag refusal and (pick (eqb refusal 1) (is_flag present and can_be_refused input) true)) 9 (sealed s slot input owed (verdict_of refusal present leader)))) e) (λ z. let y : ◌≡◌ {A = ℕ} 0 1 = sym (ap phase_kind e) ∙ z in omega arith)
+      by (writing slot input owed) e = opened slot input owed e x ex same
+      by (sending slot input verdict owed) e = shut x ex same (ap (λ (p : Phase). while_writing p (λ slot input owed. ask (is_flag refusal and (pick (eqb refusal 1) (is_flag present and can_be_refused input) true)) 9 (sealed s slot input owed (verdict_of refusal present leader)))) e) (λ z. let y : ◌≡◌ {A = ℕ} 2 1 = sym (ap phase_kind e) ∙ z in omega arith)
+
+  pub seal_stops : (e : Refusal) → r ≡ Err e → SealPlanned b F refusal present leader (Err e)
+  seal_stops e t = planned (Err e) (sym (ap answer_number t)) (λ p u. absurd cc)
+
+  pub seal_planned : (u : Unit {0}) → r ≡ Ok u → SealPlanned b F refusal present leader (Ok (record { cuts = cuts; outcome = outcome; input = o }))
+  seal_planned u t = planned (Ok plan) (sym (ap answer_number t)) (λ p v. ok_same v)
 
 -- ---- the exits
 
@@ -330,42 +351,47 @@ fitting : (t : Bool) → ◌≡◌ {A = ℕ} (pick t 0 10) 0 → t ≡ true
 fitting true z = refl
 fitting false z = absurd (omega arith)
 
--- a plan for the state that lies there is one for every state that could
-planned_here : {A : Type 0} {b : List ℕ} {F : Capacity} {c : ℕ} {f : State → Out A} {a : A} (op : State → State) → c ≡ judged (f (decode b))
-    → (c ≡ 0 → f (decode b) ≡ done a (op (decode b))) → Planned b F c f a op
-planned_here {A} {b} {F} {c} {f} {a} op e g = record {
-  code = λ s h ef. e ∙ ap (λ (u : State). judged (f u)) (area_decode h);
-  gives = λ s h ef z. subst (λ (u : State). f u ≡ done a (op u)) (area_decode h) (g z);
-}
+-- how a seal that does not cut is told
+ended_told : (s : State) (slot : ℕ) → sealing_told (ended_at slot s) ≡ sealed_yes (record { sealing = sealing_at slot s; opening = no_input })
+unfolding ended_at sealing_at
+ended_told s slot = by (unsynced (server_at s slot).storage)
+  where
+    by : (t : Bool) → sealing_told (pick t Synced NothingToSync) ≡ sealed_yes (record { sealing = pick t synced nothing_to_sync; opening = no_input })
+    by true = refl
+    by false = refl
 
-module _ (b : List ℕ) (g : Gate) (refusal present leader : ℕ) (p : SealPlan) (q : Gated b g) (y : g.refusal ≤ 0) (k : SealPlanned b g.capacity refusal present leader p) where
-  pub seal_no : (r : SealedAnswer) → 0 < p.code → r ≡ sealed_no p.code → (r, b) ≡ call sealed_no sealed_yes b (seal refusal present leader)
-  seal_no r n e =
-      call_refused sealed_no sealed_yes b (seal refusal present leader) g q y p.code (record { sealing = cut; opening = no_input }) (λ s. s)
-      (planned_here (λ s. s) k.code (λ z. absurd (omega arith))) r n e
+module _ (b : List ℕ) (g : Result Capacity Refusal) (refusal present leader : ℕ) (q : Gated b g) (F : Capacity) (y : g ≡ Ok F) (p : Result SealPlan Refusal)
+    (k : SealPlanned b F refusal present leader p) where
+  -- the number, of every state that could lie there
+  told : (s : State) → Area b s → F ≡ capacity_of s → answer_number p ≡ judged (seal refusal present leader s)
+  told s h ef = k.code ∙ ap (λ (u : State). judged (seal refusal present leader u)) (area_decode h)
 
-  pub seal_cut : (b' : List ℕ) (i : InputNumbers) (r : SealedAnswer) → p.code ≤ 0 → p.cuts ≡ true
-      → Opens b b' g.capacity i (cut_at p.input) → r ≡ sealed_of 3 i
-      → (r, b') ≡ call sealed_no sealed_yes b (seal refusal present leader)
-  unfolding judged
-  seal_cut b' i r n c o e =
-      let zero : p.code ≡ 0 = omega arith in
-      let is : g.refusal ≡ 0 = omega arith in
-      let gives = k.cuts zero c in
-      call_done sealed_no sealed_yes b (seal refusal present leader) g q y p.code _ (λ s. (cut_at p.input s).state)
-      (planned_here (λ s. (cut_at p.input s).state) k.code (λ z. gives)) b' r n o.changes
-      (e ∙ ap (sealed_of 3) (o.input (decode b) (q.area is) (q.capacity is) (fitting _ (sym (k.code ∙ ap judged gives) ∙ zero))))
+  pub seal_no : (e : Refusal) → p ≡ Err e → (sealed_no (refusal_number e), b) ≡ call sealed_no sealed_yes b (seal refusal present leader)
+  seal_no e t =
+      code_refused sealed_no sealed_yes b (seal refusal present leader) g q F y e (λ s h ef. sym (ap answer_number t) ∙ told s h ef) (sealed_no (refusal_number e)) refl
 
-  pub seal_synced : (b' : List ℕ) (i : InputNumbers) (r : SealedAnswer) → p.code ≤ 0 → p.cuts ≡ false
-      → SyncsInput b b' g.capacity p.input → i ≡ no_input_numbers → r ≡ sealed_of p.outcome i
-      → (r, b') ≡ call sealed_no sealed_yes b (seal refusal present leader)
-  unfolding outcome_at
-  seal_synced b' i r n c o ei e =
-      let zero : p.code ≡ 0 = omega arith in
-      let d = k.syncs zero c in
-      call_done sealed_no sealed_yes b (seal refusal present leader) g q y p.code _ (sync_at p.input.slot d.phase)
-      (planned_here (sync_at p.input.slot d.phase) k.code (λ z. d.gives)) b' r n (o.to d.phase d.input)
-      (e ∙ ap₂ sealed_of d.outcome ei)
+  module _ (v : SealPlan) (t : p ≡ Ok v) where
+    -- the call done, by what the definition gives of the state that lies there
+    does : (a : Sealed) (op : State → State) → seal refusal present leader (decode b) ≡ done a (op (decode b)) → (b' : List ℕ) (r : SealedAnswer) → Changes b b' F op → r ≡ sealed_yes a
+        → (r, b') ≡ call sealed_no sealed_yes b (seal refusal present leader)
+    does a op gives b' r c e =
+        code_done sealed_no sealed_yes b (seal refusal present leader) g q F y a op (λ s h ef. sym (ap answer_number t) ∙ told s h ef)
+        (λ s h ef. subst (λ (u : State). seal refusal present leader u ≡ done a (op u)) (area_decode h) gives) b' r c e
 
-  pub seal_below : p.input.slot < g.capacity.servers
-  seal_below = k.below
+    pub seal_cut : (b' : List ℕ) (i : InputNumbers) → v.cuts ≡ true → Opens b b' F i (cut_at v.input)
+        → (sealed_answer (Ok (Cut i)), b') ≡ call sealed_no sealed_yes b (seal refusal present leader)
+    unfolding judged
+    seal_cut b' i c o =
+        let gives = k.cuts v t c in
+        let zero : ◌≡◌ {A = ℕ} 0 (judged (seal refusal present leader (decode b))) = sym (ap answer_number t) ∙ k.code in
+        does _ (λ s. (cut_at v.input s).state) gives b' _ o.changes
+        (ap (sealed_of 3) (o.input (decode b) (q.area F y) (q.capacity F y) (fitting _ (sym (zero ∙ ap judged gives)))))
+
+    pub seal_synced : (b' : List ℕ) → v.cuts ≡ false → SyncsInput b b' F v.input
+        → (sealed_answer (Ok v.outcome), b') ≡ call sealed_no sealed_yes b (seal refusal present leader)
+    seal_synced b' c o =
+        let d = k.syncs v t c in
+        does _ (sync_at v.input.slot d.phase) d.gives b' _ (o.to d.phase d.input) (ap sealing_told d.outcome ∙ ended_told (decode b) v.input.slot)
+
+    pub seal_below : v.input.slot < F.servers
+    seal_below = k.below v t

@@ -1,15 +1,19 @@
 -- The seal of an open input: what the contracts of lib.rt cite. Assumes nothing.
-use Rattle.std.specs.Prelude.{◌≡◌, Bool, true, false, List, ℕ, ◌<◌, leb, eqb}
+use Rattle.std.specs.Prelude.{◌≡◌, Bool, true, false, List, ℕ, ◌<◌, leb, eqb, Result, Ok}
 use Rattle.laws.specs.Bools.{pick, ◌and◌}
+use Rattle.units.specs.declared.refusal.Refusal.{Refusal}
+use Rattle.units.specs.Refusals.{answer_number}
 use Rattle.storage.specs.Storage.{unsynced}
 use Rattle.model.specs.State.{State, Phase, server_at}
 use Rattle.model.specs.Simulation.{no_input}
-use Rattle.model.specs.Calls.{done, is_flag, Sealing, synced, nothing_to_sync, cut, sealing_number, seal}
+use Rattle.model.specs.Calls.{done, is_flag, Sealing, synced, nothing_to_sync, cut, seal}
 use Rattle.state.specs.declared.Capacity.{Capacity}
 use Rattle.state.specs.declared.OpenInput.{OpenInput}
 use Rattle.state.specs.Parts.{open_of}
 use Rattle.state.specs.Decode.{decode}
 use Rattle.state.specs.Changes.{judged}
+use Rattle.answers.specs.declared.opened.Sealing.{Sealing as Ended}
+use Rattle.answers.specs.declared.opened.Sealing.TheVariants.{Synced, NothingToSync}
 use Rattle.sim_seal_sync.specs.Syncs.{sync_at, sync_test}
 use Rattle.sim_seal.specs.declared.SealPlan.{SealPlan}
 use Rattle.sim_seal.specs.Cuts.{cut_at, cut_test}
@@ -53,9 +57,9 @@ crashes_at slot s = (server_at s slot).crash_on_next_input
 unfoldable pub sealing_at : ℕ → State → Sealing
 sealing_at slot s = pick (unsynced (server_at s slot).storage) synced nothing_to_sync
 
--- In numbers.
-unfoldable pub outcome_at : ℕ → State → ℕ
-outcome_at slot s = sealing_number (sealing_at slot s)
+-- The same, as the code has it.
+unfoldable pub ended_at : ℕ → State → Ended
+ended_at slot s = pick (unsynced (server_at s slot).storage) Synced NothingToSync
 
 -- Question 10, by whether the seal cuts.
 unfoldable pub seal_test : OpenInput → Bool → State → Bool
@@ -67,13 +71,13 @@ seal_test o cuts s = pick cuts (cut_test o s) (sync_test o.slot s)
 pub record SyncPlanned (s : State) (refusal present leader : ℕ) (p : SealPlan) : Type 0 where
   pub phase : Phase
   pub input : p.input ≡ open_of phase
-  pub outcome : p.outcome ≡ outcome_at p.input.slot s
+  pub outcome : p.outcome ≡ ended_at p.input.slot s
   pub gives : seal refusal present leader s ≡ done (record { sealing = sealing_at p.input.slot s; opening = no_input }) (sync_at p.input.slot phase s)
 
--- What a seal will do with the state that lies there: p has the refusal, whether it cuts, and the numbers of the sealed input.
-pub record SealPlanned (b : List ℕ) (F : Capacity) (refusal present leader : ℕ) (p : SealPlan) : Type 0 where
-  pub code : p.code ≡ judged (seal refusal present leader (decode b))
-  pub cuts : p.code ≡ 0 → p.cuts ≡ true
+-- What a seal will do with the state that lies there: the refusal, or whether it cuts, and the numbers of the sealed input.
+pub record SealPlanned (b : List ℕ) (F : Capacity) (refusal present leader : ℕ) (r : Result SealPlan Refusal) : Type 0 where
+  pub code : answer_number r ≡ judged (seal refusal present leader (decode b))
+  pub cuts : (p : SealPlan) → r ≡ Ok p → p.cuts ≡ true
       → seal refusal present leader (decode b) ≡ done (record { sealing = cut; opening = (cut_at p.input (decode b)).opening }) (cut_at p.input (decode b)).state
-  pub syncs : p.code ≡ 0 → p.cuts ≡ false → SyncPlanned (decode b) refusal present leader p
-  pub below : p.input.slot < F.servers
+  pub syncs : (p : SealPlan) → r ≡ Ok p → p.cuts ≡ false → SyncPlanned (decode b) refusal present leader p
+  pub below : (p : SealPlan) → r ≡ Ok p → p.input.slot < F.servers

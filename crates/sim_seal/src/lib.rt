@@ -6,22 +6,23 @@ ghost use Rattle.std.specs.Prelude.{◌≡◌, ◌<◌};
 ghost use Rattle.model.specs.Calls.{seal};
 ghost use Rattle.state.specs.Changes.{Inside, Gated, Reads};
 ghost use Rattle.state.specs.Call.{call};
-ghost use Rattle.answers.specs.Answers.{sealed_no, sealed_yes};
+ghost use Rattle.answers.specs.Answers.{sealed_no, sealed_yes, sealed_answer};
 ghost use Rattle.sim_outputs.specs.Outputs.{Passed};
-ghost use Rattle.sim_seal.specs.Seals.{given_kind, given_leader, sealed_numbers, args_given, crashes_at, outcome_at, seal_test, SealPlanned};
+ghost use Rattle.sim_seal.specs.Seals.{given_kind, given_leader, sealed_numbers, args_given, crashes_at, ended_at, seal_test, SealPlanned};
 
-use answers::{SealedAnswer, opened};
-use sim_outputs::asks_code;
-use state::{Capacity, Gate, OpenInput};
+use answers::SealedAnswer;
+use answers::opened::Sealing;
+use sim_outputs::first_no;
+use state::{Capacity, OpenInput};
+use units::refusal::Refusal;
 
 pub mod cuts; // a seal that cuts
 
-// What a seal will do, or its refusal: whether it cuts, how it ends if it does not, and the numbers of the sealed input.
+// What a seal will do: whether it cuts, how it ends if it does not, and the numbers of the sealed input.
 #[derive(Clone, Copy)]
 pub struct SealPlan {
-    pub code: u64,
     pub cuts: bool,
-    pub outcome: u64,
+    pub outcome: Sealing,
     pub input: OpenInput,
 }
 
@@ -90,17 +91,18 @@ fn crashes(area: &[u8], f: Capacity, slot: u64) -> bool
     x.crash_on_next_input
 }
 
-// How a seal that does not cut ends: 1 it syncs writes, 2 it has nothing to sync.
-fn outcome_of(area: &[u8], f: Capacity, slot: u64) -> u64
+// How a seal that does not cut ends.
+fn outcome_of(area: &[u8], f: Capacity, slot: u64) -> Sealing
     requires inside { Inside area.now f }
     requires slot_lt_servers { slot < f.servers }
-    ensures { Reads area.now f result (outcome_at slot) }
+    ensures { Reads area.now f result (ended_at slot) }
 {
     let told = state_disk::unsynced_of(area, f, slot as usize);
     if told.wrote {
-        return 1;
+        Sealing::Synced
+    } else {
+        Sealing::NothingToSync
     }
-    2
 }
 
 // Whether the state after the seal fits.
@@ -116,7 +118,13 @@ fn seal_fits(area: &[u8], f: Capacity, input: OpenInput, cuts: bool) -> bool
 }
 
 // What a seal will do, or the refusal.
-fn seal_plan(area: &[u8], f: Capacity, refusal: u64, present: u64, leader: u64) -> SealPlan
+fn seal_plan(
+    area: &[u8],
+    f: Capacity,
+    refusal: u64,
+    present: u64,
+    leader: u64,
+) -> Result<SealPlan, Refusal>
     requires { Passed area.now f }
     ensures { SealPlanned area.now f refusal present leader result }
 {
@@ -126,38 +134,53 @@ fn seal_plan(area: &[u8], f: Capacity, refusal: u64, present: u64, leader: u64) 
     let fits = seal_fits(area, f, input, cuts);
     let outcome = outcome_of(area, f, input.slot);
     let args = seal_args(open.input, refusal, present);
-    let code = asks_code(9, 10, open.phase == 1, args, fits);
-    SealPlan {
-        code,
+    first_no(
+        Refusal::Argument,
+        Refusal::Room,
+        open.phase == 1,
+        args,
+        fits,
+    )?;
+    Ok(SealPlan {
         cuts,
         outcome,
         input,
-    }
+    })
 }
 
 // ---- the call
 
+// How the seal of the open input ends, or the refusal.
+fn ended(
+    area: &mut [u8],
+    g: Result<Capacity, Refusal>,
+    refusal: u64,
+    present: u64,
+    leader: u64,
+) -> Result<Sealing, Refusal>
+    requires { Gated area.old g }
+    ensures { (sealed_answer result, area.new) ≡ call sealed_no sealed_yes area.old (seal refusal present leader) }
+{
+    let f = g?;
+    let p = seal_plan(area, f, refusal, present, leader)?;
+    if p.cuts {
+        let start = cuts::cut_input(area, f, p.input);
+        return Ok(Sealing::Cut(start));
+    }
+    sim_seal_sync::sync_input(area, f, p.input);
+    Ok(p.outcome)
+}
+
 // The seal of the open input, told whether the node refused and which leader it named.
-pub fn seal_in(area: &mut [u8], g: Gate, refusal: u64, present: u64, leader: u64) -> SealedAnswer
+pub fn seal_in(
+    area: &mut [u8],
+    g: Result<Capacity, Refusal>,
+    refusal: u64,
+    present: u64,
+    leader: u64,
+) -> SealedAnswer
     requires { Gated area.old g }
     ensures { (result, area.new) ≡ call sealed_no sealed_yes area.old (seal refusal present leader) }
 {
-    let shut = g.refusal;
-    let f = g.capacity;
-    if 0 < shut {
-        return opened::sealed_no(shut);
-    }
-    let p = seal_plan(area, f, refusal, present, leader);
-    let code = p.code;
-    let cuts = p.cuts;
-    let input = p.input;
-    if 0 < code {
-        return opened::sealed_no(code);
-    }
-    if cuts {
-        let start = cuts::cut_input(area, f, input);
-        return opened::sealed(3, start);
-    }
-    sim_seal_sync::sync_input(area, f, input);
-    opened::sealed(p.outcome, answers::no_input())
+    SealedAnswer::from(ended(area, g, refusal, present, leader))
 }

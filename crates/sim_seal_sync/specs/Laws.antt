@@ -1,5 +1,5 @@
 -- What the proofs of a seal that does not cut cite, and question 10 of it. Assumes nothing.
-use Rattle.std.specs.Prelude.{◌≡◌, refl, Bool, not, ◌&&◌, List, ◌∷◌, ℕ, ◌+◌, ◌≤◌, ◌<◌, eqb, length, drop, get_or, Option, None, Some}
+use Rattle.std.specs.Prelude.{◌≡◌, refl, Bool, ◌&&◌, List, ◌∷◌, ℕ, ◌+◌, ◌≤◌, ◌<◌, eqb, length, drop, get_or, Option, None, Some, Ok, Err}
 use Rattle.std.proofs.Math.Path.{sym, ap, ap₂}
 use Rattle.std.proofs.Common.{subst, ◌∙◌, add-one, arith, drop_of_length-le, drop-cons}
 use Rattle.std.proofs.Math.Bool.{true, false}
@@ -33,14 +33,18 @@ use Rattle.state.specs.Changes.{Inside, AreaOf, Changes, Reads}
 use Rattle.state.specs.Exits.{inside_after}
 use Rattle.state_header.specs.Header.{metrics_of, metrics_set, phase_set, SetsPhase}
 use Rattle.state_header.specs.Laws.{fits_metrics, fits_phase}
-use Rattle.state_disk.specs.declared.SyncTold.{SyncTold}
+use Rattle.storage.specs.StoresLaws.{synced_told, synced_nothing}
+use Rattle.std.specs.Result.{is_ok}
+use Rattle.std.specs.declared.result.Result.{Result}
+use Rattle.units.specs.declared.refusal.Refusal.{Refusal}
+use Rattle.units.specs.declared.refusal.Refusal.TheVariants.{Room}
 use Rattle.state_disk.specs.Disks.{unsynced_at, synced_at, SyncsAt}
 use Rattle.state_disk.specs.DiskLaws.{fits_synced}
 use Rattle.state_checks.specs.Checked.{entry_of}
 use Rattle.state_checks.specs.Acts.{ChangesWhere, WriteFlags, write_checked, writes_checked}
 use Rattle.state_checks.specs.FitLaws.{fits_checks}
 use Rattle.state_checks.specs.LoopLaws.{writes_done, writes_turn, before_writes}
-use Rattle.state_asks.specs.Asks.{Asks, log_of, waiting_of, write_count_of, written_index_of, write_asked_of, after_writes, checker_code, WritesTold}
+use Rattle.state_asks.specs.Asks.{Asks, log_of, waiting_of, write_count_of, written_index_of, write_asked_of, after_writes, WritesTold}
 use Rattle.sim_seal_sync.specs.Syncs.{write_checked_at, rest_checked, writes_checked_at, Waits, Checking, metrics_after, count_test, CountsSync, sync_counted, sync_at, sync_test, SyncsInput}
 
 -- ---- a written index
@@ -134,14 +138,6 @@ module _ (b : List ℕ) (F : Capacity) (k n : ℕ) (b₁ : List ℕ) (i : ℕ) (
 
 -- ---- the metrics
 
-not_wrote : (t : Bool) → not t ≡ true → t ≡ false
-not_wrote true e = absurd (false_true e)
-not_wrote false e = refl
-
-wrote : (t : Bool) → not t ≡ false → t ≡ true
-wrote true e = refl
-wrote false e = absurd (false_true (sym e))
-
 inner : (m x : Metrics) → Some m ≡ Some x → x ≡ m
 inner m x e = cc
 
@@ -149,8 +145,8 @@ given : (r : Option Metrics) → is_some r ≡ true → (m : Metrics) × (r ≡ 
 given None e = absurd (false_true e)
 given (Some m) e = (m, refl)
 
-module _ (b : List ℕ) (F : Capacity) (k : ℕ) (told : SyncTold) (m : Metrics) (qt : Reads b F told (unsynced_at k)) (qm : Reads b F m metrics_of) where
-  pub count_none : not told.wrote ≡ true → CountsSync b F k (Some m)
+module _ (b : List ℕ) (F : Capacity) (k : ℕ) (told : Option ℕ) (m : Metrics) (qt : Reads b F told (unsynced_at k)) (qm : Reads b F m metrics_of) where
+  pub count_none : told ≡ None → CountsSync b F k (Some m)
   unfolding unsynced_at metrics_of count_test metrics_after
   count_none w = record {
     fits =
@@ -162,30 +158,31 @@ module _ (b : List ℕ) (F : Capacity) (k : ℕ) (told : SyncTold) (m : Metrics)
   }
     where
       no : (s : State) → Area b s → F ≡ capacity_of s → unsynced (server_at s k).storage ≡ false
-      no s h ef = sym (ap (λ (x : SyncTold). x.wrote) (qt.to s h ef)) ∙ not_wrote told.wrote w
+      no s h ef = sym (synced_nothing (server_at s k).storage (sym w ∙ qt.to s h ef)).0
 
-  pub count_some : (r : Option Metrics) → not told.wrote ≡ false → Counting (record_sync m told.bytes) r → CountsSync b F k r
+  pub count_some : (r : Option Metrics) (bytes : ℕ) → told ≡ Some bytes → Counting (record_sync m bytes) r → CountsSync b F k r
   unfolding unsynced_at metrics_of count_test metrics_after
-  count_some r w e = record {
+  count_some r bytes w e = record {
     fits = record {
       to = λ s h ef.
-          ap is_some e.value ∙ counted_fits (record_sync m told.bytes) ∙ ap counters_fit (next s h ef)
+          ap is_some e.value ∙ counted_fits (record_sync m bytes) ∙ ap counters_fit (next s h ef)
           ∙ sym (ap (λ (t : Bool). pick t (counters_fit (record_sync s.metrics (unsynced_bytes (server_at s k).storage.waiting))) true) (yes s h ef));
     };
     metrics = λ x t. record {
       to = λ s h ef.
-          given_is counters_fit (record_sync m told.bytes) x (sym t ∙ e.value)
+          given_is counters_fit (record_sync m bytes) x (sym t ∙ e.value)
           ∙ next s h ef
           ∙ sym (ap (λ (t : Bool). pick t (record_sync s.metrics (unsynced_bytes (server_at s k).storage.waiting)) s.metrics) (yes s h ef));
     };
   }
     where
       yes : (s : State) → Area b s → F ≡ capacity_of s → unsynced (server_at s k).storage ≡ true
-      yes s h ef = sym (ap (λ (x : SyncTold). x.wrote) (qt.to s h ef)) ∙ wrote told.wrote w
+      yes s h ef = sym (synced_told (server_at s k).storage bytes (sym w ∙ qt.to s h ef)).0
 
       next : (s : State) → Area b s → F ≡ capacity_of s
-          → record_sync m told.bytes ≡ record_sync s.metrics (unsynced_bytes (server_at s k).storage.waiting)
-      next s h ef = ap₂ (λ (x : Metrics) (y : SyncTold). record_sync x y.bytes) (qm.to s h ef) (qt.to s h ef)
+          → record_sync m bytes ≡ record_sync s.metrics (unsynced_bytes (server_at s k).storage.waiting)
+      next s h ef = ap₂ (λ (x : Metrics) (n : ℕ). record_sync x n) (qm.to s h ef)
+          (synced_told (server_at s k).storage bytes (sym w ∙ qt.to s h ef)).1
 
 -- ---- question 10
 
@@ -249,23 +246,23 @@ sync_is s k input verdict owed = cases (unsynced (server_at s k).storage) (λ t.
 
 -- ---- what is asked
 
-is_zero : (t : Bool) → eqb (pick t 0 10) 0 ≡ t
-is_zero true = refl
-is_zero false = refl
+answered_if : (t : Bool) (a : WritesAsked) (r : Result WritesAsked Refusal) → r ≡ pick t (Ok a) (Err Room) → is_ok r ≡ t
+answered_if true a r e = ap is_ok e
+answered_if false a r e = ap is_ok e
 
-pub sync_asked : (b : List ℕ) (F : Capacity) (k : ℕ) (asked : WritesAsked) (c : Option Metrics) (fits : Bool) → Asks b F (WritesTold k asked)
-    → CountsSync b F k c → fits ≡ is_some c
-    → Reads b F (eqb asked.code 0 && fits) (sync_test k)
-unfolding sync_test checker_code
-sync_asked b F k asked c fits q p e = record {
+pub sync_asked : (b : List ℕ) (F : Capacity) (k : ℕ) (asked : Result WritesAsked Refusal) (c : Option Metrics) (kept fits : Bool)
+    → Asks b F (WritesTold k asked) → CountsSync b F k c → kept ≡ is_ok asked → fits ≡ is_some c → Reads b F (kept && fits) (sync_test k)
+unfolding sync_test
+sync_asked b F k asked c kept fits q p ey e = record {
   to = λ s h ef.
-      code_and (eqb asked.code 0) fits
-      ∙ ap₂ (λ (t u : Bool). t and u) (ap (λ (n : ℕ). eqb n 0) (q.to s h ef).code ∙ is_zero (checker_fits s.config s.limits (after_writes k s))) (e ∙ p.fits.to s h ef);
+      let w = q.to s h ef in
+      code_and kept fits
+      ∙ ap₂ (λ (t u : Bool). t and u) (ey ∙ answered_if (checker_fits s.config s.limits (after_writes k s)) w.asked asked w.is) (e ∙ p.fits.to s h ef);
 }
 
 -- ---- what is done
 
-pub counted_synced : (b b₁ b₂ : List ℕ) (F : Capacity) (k : ℕ) (c : Option Metrics) (old next : Metrics) (told : SyncTold) → k < F.servers → CountsSync b F k c
+pub counted_synced : (b b₁ b₂ : List ℕ) (F : Capacity) (k : ℕ) (c : Option Metrics) (old next : Metrics) (told : Option ℕ) → k < F.servers → CountsSync b F k c
     → next ≡ unwrap_or c old → Changes b b₁ F (metrics_set next) → SyncsAt b₁ b₂ F k told → Changes b b₂ F (sync_counted k)
 unfolding sync_counted
 counted_synced b b₁ b₂ F k c old next told i q en p y = record {

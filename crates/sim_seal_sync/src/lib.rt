@@ -48,10 +48,10 @@ fn count_sync(area: &[u8], f: Capacity, slot: usize) -> Option<Metrics>
 {
     let told = state_disk::unsynced_of(area, f, slot);
     let m = state_header::metrics_of(area, f);
-    if !told.wrote {
+    let Some(bytes) = told else {
         return Some(m);
-    }
-    m.record_sync(told.bytes)
+    };
+    m.record_sync(bytes)
 }
 
 // The waiting writes are made durable, and the sync is counted where it writes something.
@@ -74,9 +74,9 @@ pub fn sync_fits(area: &[u8], f: Capacity, slot: u64) -> bool
     requires slot_lt_servers { slot < f.servers }
     ensures { Reads area.now f result (sync_test slot) }
 {
-    let asked = writes::writes_asked(area, f, slot as usize);
+    let kept = writes::writes_asked(area, f, slot as usize).is_ok();
     let fits = count_sync(area, f, slot as usize).is_some();
-    (asked.code == 0) & fits
+    kept & fits
 }
 
 // The open input is sealed by a sync; `input` are its numbers then.

@@ -1,5 +1,6 @@
 -- What the proof of output_send_in cites: question 10 of a message sent, the definition, and the exits. Assumes nothing.
-use Rattle.std.specs.Prelude.{◌≡◌, Bool, List, [], ◌∷◌, ℕ, suc, ◌+◌, ◌^◌, ◌≤◌, ◌<◌, eqb, leb, length, get_or, set, None, Some}
+use Rattle.std.specs.Prelude.{◌≡◌, Bool, List, [], ◌∷◌, ℕ, suc, ◌+◌, ◌^◌, ◌≤◌, ◌<◌, eqb, leb, length, get_or, set, None, Some, Result}
+use Rattle.std.specs.Prelude as Prelude
 use Rattle.std.proofs.Math.Path.{refl, sym, ap, ap₂}
 use Rattle.std.proofs.Common.{subst, ◌∙◌, arith}
 use Rattle.std.proofs.Math.Bool.{true, false}
@@ -11,6 +12,8 @@ use Rattle.words.specs.Words.{Bytes}
 use Rattle.rng.specs.declared.Rng.{Rng}
 use Rattle.rng.specs.Rng.{under, next_u64, moved}
 use Rattle.units.specs.declared.NodeId.{NodeId}
+use Rattle.units.specs.declared.refusal.Refusal.{Refusal}
+use Rattle.units.specs.Refusals.{refusal_number, answer_number}
 use Rattle.faults.specs.Fault as faults
 use Rattle.network.specs.declared.Network.{Network}
 use Rattle.network.specs.declared.Routed.{Routed}
@@ -27,26 +30,23 @@ use Rattle.model.specs.Simulation.{send, push_routed}
 use Rattle.model.specs.Calls.{done, in_cluster, output_send}
 use Rattle.model.specs.Fits.{state_fits, state_tests}
 use Rattle.state.specs.declared.Capacity.{Capacity}
-use Rattle.state.specs.declared.Gate.{Gate}
 use Rattle.state.specs.Parts.{phase_slot}
 use Rattle.state.specs.Area.{Area, capacity_of}
 use Rattle.state.specs.Fitting.{area_fits, laid_limits}
 use Rattle.state.specs.FitsBy.{fits_test}
 use Rattle.state.specs.Call.{call}
-use Rattle.state.specs.Changes.{Gated, Changes, Planned, judged}
-use Rattle.state.specs.Exits.{call_refused, call_done}
-use Rattle.answers.specs.declared.DoneAnswer.{DoneAnswer}
+use Rattle.state.specs.Changes.{Gated, Changes, judged}
+use Rattle.state.specs.Exits.{refusal_above, code_refused, code_done}
 use Rattle.answers.specs.Answers.{done_no, done_yes}
 use Rattle.state_header.specs.Header.{network_set, metrics_set}
 use Rattle.state_header.specs.Laws.{fits_metrics}
 use Rattle.state_queue.specs.Events.{queue_room, event_in_range, pushed, pushed_all}
 use Rattle.state_queue.specs.Fits.{fits_push_all}
 use Rattle.sim_outputs.specs.Laws.{refused_two, done_two}
-use Rattle.sim_send.specs.declared.SendAsked.{SendAsked}
 use Rattle.sim_send.specs.declared.SendPlan.{SendPlan}
 use Rattle.sim_send.specs.declared.Mail.{Mail}
 use Rattle.sim_send.specs.declared.Mail.TheVariants as mail
-use Rattle.sim_send.specs.Sends.{send_code, from_of, AsksSend, mail_of, mail_fits, mail_count, mail_due, mail_on_time, bytes_counted, counters_room, ten_if, send_ten, SendDrawn, send_routed, send_counted, letter, letters, mailed, sent}
+use Rattle.sim_send.specs.Sends.{send_code, from_of, Sending, AsksSend, mail_of, mail_fits, mail_count, mail_due, mail_on_time, bytes_counted, counters_room, ten_if, send_ten, SendDrawn, send_routed, send_counted, letter, letters, mailed, sent}
 
 -- ---- the network's draws keep it in range
 
@@ -206,27 +206,26 @@ send_is : (s : State) (k to entries : ℕ) (message : List ℕ)
 unfolding send sent send_counted send_routed mail_due bytes_counted
 send_is s k to entries message = pushed_mail (send_counted (k + 1) (bytes_counted (length message) s) entries (send_routed (k + 1) to s)) (id_of k) (record { 0 = to }) entries message (route s.network (id_of k) (record { 0 = to })).route
 
--- ---- the plans
+-- ---- what the call gives
 
-module _ (b : List ℕ) (F : Capacity) (to entries : ℕ) (message : List ℕ) (a : SendAsked) (q : AsksSend b F to (length message) entries a) where
-  asked_planned : 0 < a.code → Planned b F a.code (output_send to message entries) tt (λ s. s)
+module _ (b : List ℕ) (F : Capacity) (to entries : ℕ) (message : List ℕ) (a : Result ℕ Refusal) (q : AsksSend b F to (length message) entries a) where
+  asked_told : (refusal : Refusal) → a ≡ Prelude.Err refusal → (s : State) → Area b s → F ≡ capacity_of s → refusal_number refusal ≡ judged (output_send to message entries s)
   unfolding output_send send_code
-  asked_planned l = record {
-    code = λ s h ef. refused_two tt s.phase 7 9 (in_cluster s to) (leb (length message) s.limits.message and ltb entries (2 ^ 32)) (λ k. send s k (record { 0 = to }) message entries) a.code (q.code.to s h ef) l;
-    gives = λ s h ef z. absurd (omega arith);
-  }
+  asked_told refusal e s h ef =
+      refused_two tt s.phase 7 9 (in_cluster s to) (leb (length message) s.limits.message and ltb entries (2 ^ 32)) (λ k. send s k (record { 0 = to }) message entries)
+      (refusal_number refusal) (sym (ap answer_number e) ∙ q.code.to s h ef) (refusal_above refusal)
 
-  module _ (y : a.code ≤ 0) (p : SendPlan) (r : SendDrawn b F a.from to (length message) entries p) (each : Bytes message) where
-    zero_is : a.code ≡ 0
-    zero_is = omega arith
+  module _ (from : ℕ) (y : a ≡ Prelude.Ok from) (p : Result SendPlan Refusal) (r : SendDrawn b F from to (length message) entries p) (each : Bytes message) where
+    k : Sending b F to (length message) entries from
+    k = q.sending from y
 
     module _ (s : State) (h : Area b s) (ef : F ≡ capacity_of s) where
-      gives_send : output_send to message entries s ≡ done tt (sent (mail_due a.from to s) a.from to (bytes_counted (length message) s) entries message s)
+      gives_send : output_send to message entries s ≡ done tt (sent (mail_due from to s) from to (bytes_counted (length message) s) entries message s)
       unfolding output_send send_code from_of
       gives_send =
-          done_two tt s.phase 7 9 (in_cluster s to) (leb (length message) s.limits.message and ltb entries (2 ^ 32)) (λ k. send s k (record { 0 = to }) message entries) (sym (q.code.to s h ef) ∙ zero_is) (omega arith) (omega arith)
+          done_two tt s.phase 7 9 (in_cluster s to) (leb (length message) s.limits.message and ltb entries (2 ^ 32)) (λ k. send s k (record { 0 = to }) message entries) (sym (q.code.to s h ef) ∙ ap answer_number y) (omega arith) (omega arith)
           ∙ ap (λ (x : State). done tt x) (send_is s (phase_slot s.phase) to entries message
-          ∙ ap (λ (n : ℕ). sent (mail_due n to s) n to (bytes_counted (length message) s) entries message s) (sym (q.sender.to s h ef)))
+          ∙ ap (λ (n : ℕ). sent (mail_due n to s) n to (bytes_counted (length message) s) entries message s) (sym (k.sender.to s h ef)))
 
       servers_is : F.servers ≡ s.config.servers
       servers_is = ap (λ (G : Capacity). G.servers) ef
@@ -234,32 +233,36 @@ module _ (b : List ℕ) (F : Capacity) (to entries : ℕ) (message : List ℕ) (
       message_is : F.limits.message ≡ s.limits.message
       message_is = ap (λ (G : Capacity). G.limits.message) ef
 
-      fits_is : state_fits (sent (mail_due a.from to s) a.from to (bytes_counted (length message) s) entries message s)
-          ≡ (counters_room a.from (bytes_counted (length message) s) entries s and (mail_fits (mail_due a.from to s) and queue_room (mail_count (mail_due a.from to s)) s))
+      fits_is : state_fits (sent (mail_due from to s) from to (bytes_counted (length message) s) entries message s)
+          ≡ (counters_room from (bytes_counted (length message) s) entries s and (mail_fits (mail_due from to s) and queue_room (mail_count (mail_due from to s)) s))
       fits_is =
-          fits_sent h (mail_due a.from to s) a.from to (bytes_counted (length message) s) entries message q.from_low (omega (arith, q.from_most, servers_is)) (q.to_low zero_is)
-          (omega (arith, q.to_most zero_is, servers_is)) (q.few zero_is) (omega (arith, q.short zero_is, message_is)) each
+          fits_sent h (mail_due from to s) from to (bytes_counted (length message) s) entries message k.from_low (omega (arith, k.from_most, servers_is)) k.to_low
+          (omega (arith, k.to_most, servers_is)) k.few (omega (arith, k.short, message_is)) each
 
-      told : p.code ≡ judged (output_send to message entries s)
+      told : answer_number p ≡ judged (output_send to message entries s)
       unfolding judged send_ten ten_if mail_on_time
       told = r.code.to s h ef ∙ ap (λ (t : Bool). pick t 0 10) (sym fits_is) ∙ sym (ap judged gives_send)
 
-      made : p.code ≡ 0 → output_send to message entries s ≡ done tt (sent p.mail a.from to p.bytes entries message s)
-      made z = gives_send ∙ ap₂ (λ (m : Mail) (n : ℕ). done tt (sent m a.from to n entries message s)) (sym ((r.mail z).to s h ef)) (sym (r.bytes.to s h ef))
-
-    drawn_planned : Planned b F p.code (output_send to message entries) tt (sent p.mail a.from to p.bytes entries message)
-    drawn_planned = record { code = told; gives = made }
+      made : (v : SendPlan) → p ≡ Prelude.Ok v → output_send to message entries s ≡ done tt (sent v.mail from to v.bytes entries message s)
+      made v z = gives_send ∙ ap₂ (λ (m : Mail) (n : ℕ). done tt (sent m from to n entries message s)) (sym ((r.mail v z).to s h ef)) (sym ((r.bytes v z).to s h ef))
 
 -- ---- the exits
 
-module _ (b : List ℕ) (g : Gate) (to entries : ℕ) (message : List ℕ) (a : SendAsked) (o : Gated b g) (y : g.refusal ≤ 0) (q : AsksSend b g.capacity to (length message) entries a) where
-  pub send_no : (r : DoneAnswer) → 0 < a.code → r ≡ done_no a.code → (r, b) ≡ call done_no done_yes b (output_send to message entries)
-  send_no r n e = call_refused done_no done_yes b _ g o y a.code tt (λ s. s) (asked_planned b g.capacity to entries message a q n) r n e
+module _ (b : List ℕ) (g : Result Capacity Refusal) (to entries : ℕ) (message : List ℕ) (o : Gated b g) (F : Capacity) (y : g ≡ Prelude.Ok F) (a : Result ℕ Refusal)
+    (q : AsksSend b F to (length message) entries a) where
+  pub send_no : (refusal : Refusal) → a ≡ Prelude.Err refusal → (done_no (refusal_number refusal), b) ≡ call done_no done_yes b (output_send to message entries)
+  send_no refusal e =
+      code_refused done_no done_yes b (output_send to message entries) g o F y refusal (asked_told b F to entries message a q refusal e) (done_no (refusal_number refusal)) refl
 
-  module _ (z : a.code ≤ 0) (p : SendPlan) (k : SendDrawn b g.capacity a.from to (length message) entries p) (each : Bytes message) where
-    pub send_ten_lem : (r : DoneAnswer) → 0 < p.code → r ≡ done_no p.code → (r, b) ≡ call done_no done_yes b (output_send to message entries)
-    send_ten_lem r n e = call_refused done_no done_yes b _ g o y p.code tt _ (drawn_planned b g.capacity to entries message a q z p k each) r n e
+  module _ (from : ℕ) (z : a ≡ Prelude.Ok from) (p : Result SendPlan Refusal) (k : SendDrawn b F from to (length message) entries p) (each : Bytes message) where
+    pub send_ten_lem : (refusal : Refusal) → p ≡ Prelude.Err refusal → (done_no (refusal_number refusal), b) ≡ call done_no done_yes b (output_send to message entries)
+    send_ten_lem refusal e =
+        code_refused done_no done_yes b (output_send to message entries) g o F y refusal (λ s h ef. sym (ap answer_number e) ∙ told b F to entries message a q from z p k each s h ef)
+        (done_no (refusal_number refusal)) refl
 
-    pub send_yes : (b' : List ℕ) (r : DoneAnswer) → p.code ≤ 0 → Changes b b' g.capacity (sent p.mail a.from to p.bytes entries message) → r ≡ done_no 0
-        → (r, b') ≡ call done_no done_yes b (output_send to message entries)
-    send_yes b' r n c e = call_done done_no done_yes b _ g o y p.code tt _ (drawn_planned b g.capacity to entries message a q z p k each) b' r n c e
+    pub send_yes : (b' : List ℕ) (v : SendPlan) → p ≡ Prelude.Ok v → Changes b b' F (sent v.mail from to v.bytes entries message)
+        → (done_no 0, b') ≡ call done_no done_yes b (output_send to message entries)
+    send_yes b' v e c =
+        code_done done_no done_yes b (output_send to message entries) g o F y tt (sent v.mail from to v.bytes entries message)
+        (λ s h ef. sym (ap answer_number e) ∙ told b F to entries message a q from z p k each s h ef)
+        (λ s h ef. made b F to entries message a q from z p k each s h ef v e) b' (done_no 0) c refl

@@ -1,7 +1,9 @@
 -- What sending a message asks, draws and does (lib.rt): what its contracts cite. Assumes nothing.
-use Rattle.std.specs.Prelude.{◌≡◌, Bool, true, List, [], ◌∷◌, ℕ, ◌+◌, ◌^◌, ◌≤◌, ◌<◌, leb, ltb, eqb, None, Some}
+use Rattle.std.specs.Prelude.{◌≡◌, Bool, true, List, [], ◌∷◌, ℕ, ◌+◌, ◌^◌, ◌≤◌, ◌<◌, leb, ltb, eqb, Option, None, Some, is_some, Result, Ok}
 use Rattle.laws.specs.Bools.{pick, ◌and◌}
 use Rattle.units.specs.declared.NodeId.{NodeId}
+use Rattle.units.specs.declared.refusal.Refusal.{Refusal}
+use Rattle.units.specs.Refusals.{answer_number}
 use Rattle.network.specs.declared.Route.{Route}
 use Rattle.network.specs.declared.Route.TheVariants.{Dropped, Delivered}
 use Rattle.network.specs.Network.{route}
@@ -16,10 +18,8 @@ use Rattle.state.specs.Parts.{phase_slot}
 use Rattle.state.specs.Changes.{Reads}
 use Rattle.state_queue.specs.Events.{queue_room, pushed_all}
 use Rattle.sim_outputs.specs.Outputs.{sends, asks_code}
-use Rattle.sim_send.specs.declared.SendAsked.{SendAsked}
 use Rattle.sim_send.specs.declared.Mail.{Mail}
 use Rattle.sim_send.specs.declared.Mail.TheVariants as mail
-use Rattle.sim_send.specs.declared.MailPlan.{MailPlan}
 use Rattle.sim_send.specs.declared.SendPlan.{SendPlan}
 
 -- ---- what is asked
@@ -33,17 +33,21 @@ send_code to size entries s = asks_code 7 9 (sends s.phase) (in_cluster s to) (l
 unfoldable pub from_of : State → ℕ
 from_of s = phase_slot s.phase + 1
 
--- What was asked: the refusal, who sends, and where nothing is refused the ranges of the arguments.
-pub record AsksSend (b : List ℕ) (F : Capacity) (to size entries : ℕ) (r : SendAsked) : Type 0 where
-  pub code : Reads b F r.code (send_code to size entries)
-  pub sender : Reads b F r.from from_of
-  pub from_low : 1 ≤ r.from
-  pub from_most : r.from ≤ F.servers
-  pub to_low : r.code ≡ 0 → 1 ≤ to
-  pub to_most : r.code ≡ 0 → to ≤ F.servers
-  pub short : r.code ≡ 0 → size ≤ F.limits.message
-  pub few : r.code ≡ 0 → entries < 2 ^ 32
+-- Who sends, and the ranges of the arguments.
+pub record Sending (b : List ℕ) (F : Capacity) (to size entries from : ℕ) : Type 0 where
+  pub sender : Reads b F from from_of
+  pub from_low : 1 ≤ from
+  pub from_most : from ≤ F.servers
+  pub to_low : 1 ≤ to
+  pub to_most : to ≤ F.servers
+  pub short : size ≤ F.limits.message
+  pub few : entries < 2 ^ 32
   pub servers : F.servers ≤ 8
+
+-- What was asked: the refusal, or who sends.
+pub record AsksSend (b : List ℕ) (F : Capacity) (to size entries : ℕ) (r : Result ℕ Refusal) : Type 0 where
+  pub code : Reads b F (answer_number r) (send_code to size entries)
+  pub sending : (from : ℕ) → r ≡ Ok from → Sending b F to size entries from
 
 -- Two ids of servers.
 pub record Between (from to : ℕ) : Type 0 where
@@ -72,10 +76,10 @@ mail_count mail.Dropped = 0
 mail_count (mail.Once at) = 1
 mail_count (mail.Twice at copy) = 2
 
--- Whether the times of a route have 64 bits, and where they have, the mail.
-pub record MailPlanned (now : ℕ) (r : Route) (p : MailPlan) : Type 0 where
-  pub fits : p.fits ≡ mail_fits (mail_of now r)
-  pub mail : p.fits ≡ true → p.mail ≡ mail_of now r
+-- The mail of a route where its times have 64 bits, else none.
+pub record MailPlanned (now : ℕ) (r : Route) (p : Option Mail) : Type 0 where
+  pub fits : is_some p ≡ mail_fits (mail_of now r)
+  pub mail : (m : Mail) → p ≡ Some m → m ≡ mail_of now r
 
 -- The mail that the network draws for a message from one server to another.
 unfoldable pub mail_due : ℕ → ℕ → State → Mail
@@ -85,10 +89,10 @@ mail_due from to s = mail_of s.now.0 (route s.network (record { 0 = from }) (rec
 unfoldable pub mail_on_time : ℕ → ℕ → State → Bool
 mail_on_time from to s = mail_fits (mail_due from to s)
 
--- Whether those times have 64 bits was answered, and where they have, the mail.
-pub record MailDrawn (b : List ℕ) (F : Capacity) (from to : ℕ) (p : MailPlan) : Type 0 where
-  pub fits : Reads b F p.fits (mail_on_time from to)
-  pub mail : p.fits ≡ true → Reads b F p.mail (mail_due from to)
+-- That mail where its times have 64 bits, else none.
+pub record MailDrawn (b : List ℕ) (F : Capacity) (from to : ℕ) (p : Option Mail) : Type 0 where
+  pub fits : Reads b F (is_some p) (mail_on_time from to)
+  pub mail : (m : Mail) → p ≡ Some m → Reads b F m (mail_due from to)
 
 -- The bytes that are counted of a message of so many.
 unfoldable pub bytes_counted : ℕ → State → ℕ
@@ -107,11 +111,11 @@ unfoldable pub send_ten : ℕ → ℕ → ℕ → ℕ → State → ℕ
 send_ten from to size entries s =
     ten_if (counters_room from (bytes_counted size s) entries s and mail_on_time from to s and queue_room (mail_count (mail_due from to s)) s)
 
--- What will be counted and pushed, or question 10's number.
-pub record SendDrawn (b : List ℕ) (F : Capacity) (from to size entries : ℕ) (p : SendPlan) : Type 0 where
-  pub code : Reads b F p.code (send_ten from to size entries)
-  pub bytes : Reads b F p.bytes (bytes_counted size)
-  pub mail : p.code ≡ 0 → Reads b F p.mail (mail_due from to)
+-- What will be counted and pushed, or the refusal.
+pub record SendDrawn (b : List ℕ) (F : Capacity) (from to size entries : ℕ) (r : Result SendPlan Refusal) : Type 0 where
+  pub code : Reads b F (answer_number r) (send_ten from to size entries)
+  pub bytes : (p : SendPlan) → r ≡ Ok p → Reads b F p.bytes (bytes_counted size)
+  pub mail : (p : SendPlan) → r ≡ Ok p → Reads b F p.mail (mail_due from to)
 
 -- ---- what is done
 

@@ -7,12 +7,11 @@ ghost use Rattle.network.specs.declared.Route.TheVariants.{Delivered};
 ghost use Rattle.model.specs.Calls.{output_send};
 ghost use Rattle.state.specs.Changes.{Inside, Gated, Reads, Changes};
 ghost use Rattle.state.specs.Call.{call};
-ghost use Rattle.answers.specs.Answers.{done_no, done_yes};
+ghost use Rattle.answers.specs.Answers.{done_no, done_yes, done_answer};
 ghost use Rattle.sim_outputs.specs.Outputs.{Passed};
 ghost use Rattle.sim_send.specs.Sends.{
   AsksSend,
   Between,
-  ten_if,
   MailPlanned,
   mail_count,
   MailDrawn,
@@ -28,15 +27,9 @@ ghost use Rattle.sim_send.specs.Sends.{
 use answers::DoneAnswer;
 use network::{Link, Route};
 use queue::Event;
-use state::{Capacity, Gate};
+use state::Capacity;
+use units::refusal::Refusal;
 use units::{Duration, NodeId, SimTime};
-
-// What a sending asks before anything is drawn: 0, or the refusal; the sender's id.
-#[derive(Clone, Copy)]
-pub struct SendAsked {
-    pub code: u64,
-    pub from: u64,
-}
 
 // When a message arrives, and its second copy.
 #[derive(Clone, Copy)]
@@ -46,25 +39,17 @@ pub enum Mail {
     Twice { at: u64, copy: u64 },
 }
 
-// The mail, if its times have 64 bits.
-#[derive(Clone, Copy)]
-pub struct MailPlan {
-    pub fits: bool,
-    pub mail: Mail,
-}
-
-// What a sending will push and count, or question 10's number.
+// What a sending will push and count.
 #[derive(Clone, Copy)]
 pub struct SendPlan {
-    pub code: u64,
     pub bytes: u64,
     pub mail: Mail,
 }
 
 // ---- what is asked
 
-// The questions before the draws, and who sends.
-fn send_asked(area: &[u8], f: Capacity, to: u64, size: u64, entries: u64) -> SendAsked
+// The questions before the draws, and the id of who sends.
+fn send_asked(area: &[u8], f: Capacity, to: u64, size: u64, entries: u64) -> Result<u64, Refusal>
     requires { Passed area.now f }
     ensures { AsksSend area.now f to size entries result }
 {
@@ -72,47 +57,38 @@ fn send_asked(area: &[u8], f: Capacity, to: u64, size: u64, entries: u64) -> Sen
     let sender = sim_outputs::sender_of(area, f);
     let here = (1 <= to) & (to <= f.servers);
     let args = (size <= limits.message) & (entries < 4294967296);
-    let code = sim_outputs::asks_code(7, 9, sender.ready, here, args);
-    SendAsked {
-        code,
-        from: sender.slot + 1,
-    }
+    sim_outputs::first_no(
+        Refusal::UnknownServer,
+        Refusal::Argument,
+        sender.ready,
+        here,
+        args,
+    )?;
+    Ok(sender.slot + 1)
 }
 
 // ---- what is drawn
 
-// When a message arrives, from its delays.
-fn mail_within(at: u64, delay: Duration, duplicate: Option<Duration>) -> MailPlan
+// When a message arrives, from its delays, if its times have 64 bits.
+fn mail_within(at: u64, delay: Duration, duplicate: Option<Duration>) -> Option<Mail>
     ensures { MailPlanned at (Delivered delay duplicate) result }
 {
-    let first = sim_outputs::sum64(at, delay.0);
+    let first = at.checked_add(delay.0)?;
     match duplicate {
-        None => MailPlan {
-            fits: first.fits,
-            mail: Mail::Once { at: first.value },
-        },
+        None => Some(Mail::Once { at: first }),
         Some(later) => {
-            let second = sim_outputs::sum64(at, later.0);
-            MailPlan {
-                fits: first.fits & second.fits,
-                mail: Mail::Twice {
-                    at: first.value,
-                    copy: second.value,
-                },
-            }
+            let copy = at.checked_add(later.0)?;
+            Some(Mail::Twice { at: first, copy })
         }
     }
 }
 
-// When a routed message arrives.
-fn mail_of(at: u64, route: Route) -> MailPlan
+// When a routed message arrives, if its times have 64 bits.
+fn mail_of(at: u64, route: Route) -> Option<Mail>
     ensures { MailPlanned at route result }
 {
     match route {
-        Route::Dropped => MailPlan {
-            fits: true,
-            mail: Mail::Dropped,
-        },
+        Route::Dropped => Some(Mail::Dropped),
         Route::Delivered { delay, duplicate } => mail_within(at, delay, duplicate),
     }
 }
@@ -128,8 +104,8 @@ fn mail_count(mail: Mail) -> u64
     }
 }
 
-// When a message from one server to another arrives.
-fn mail_drawn(area: &[u8], f: Capacity, from: u64, to: u64) -> MailPlan
+// When a message from one server to another arrives, if its times have 64 bits.
+fn mail_drawn(area: &[u8], f: Capacity, from: u64, to: u64) -> Option<Mail>
     requires passed { Passed area.now f }
     requires between { Between from to }
     ensures { MailDrawn area.now f from to result }
@@ -163,27 +139,30 @@ fn counters_room(area: &[u8], f: Capacity, from: u64, to: u64, bytes: u64, entri
     m.record_send(NodeId(from), bytes, entries).is_some()
 }
 
-// Question 10's number where something does not fit, else 0.
-fn ten_if(fits: bool) -> u64
-    ensures { result ≡ ten_if fits }
-{
-    if fits { 0 } else { 10 }
-}
-
-// What sending a message of so many bytes will push and count.
-fn send_plan(area: &[u8], f: Capacity, from: u64, to: u64, size: u64, entries: u64) -> SendPlan
+// What sending a message of so many bytes will push and count, or the refusal.
+fn send_plan(
+    area: &[u8],
+    f: Capacity,
+    from: u64,
+    to: u64,
+    size: u64,
+    entries: u64,
+) -> Result<SendPlan, Refusal>
     requires passed { Passed area.now f }
     requires between { Between from to }
     ensures { SendDrawn area.now f from to size entries result }
 {
     let bytes = bytes_counted(area, f, size);
     let fits = counters_room(area, f, from, to, bytes, entries);
-    let p = mail_drawn(area, f, from, to);
-    let mail = p.mail;
-    let count = mail_count(mail);
-    let room = state_queue::queue_room(area, f, count);
-    let code = ten_if(fits & p.fits & room);
-    SendPlan { code, bytes, mail }
+    let Some(mail) = mail_drawn(area, f, from, to) else {
+        return Err(Refusal::Room);
+    };
+    let room = state_queue::queue_room(area, f, mail_count(mail));
+    if fits & room {
+        Ok(SendPlan { bytes, mail })
+    } else {
+        Err(Refusal::Room)
+    }
 }
 
 // ---- what is done
@@ -263,29 +242,35 @@ fn send_act(
     push_mail(area, f, mail, NodeId(from), NodeId(to), entries, message);
 }
 
+// A message sent to a server, with so many log entries, or the refusal.
+fn output_sent(
+    area: &mut [u8],
+    g: Result<Capacity, Refusal>,
+    to: u64,
+    message: &[u8],
+    entries: u64,
+) -> Result<(), Refusal>
+    requires { Gated area.old g }
+    ensures { (done_answer result, area.new) ≡ call done_no done_yes area.old (output_send to message.now entries) }
+{
+    let f = g?;
+    let size = message.len() as u64;
+    let from = send_asked(area, f, to, size, entries)?;
+    let SendPlan { bytes, mail } = send_plan(area, f, from, to, size, entries)?;
+    send_act(area, f, mail, from, to, bytes, entries, message);
+    Ok(())
+}
+
 // A message sent to a server, with so many log entries.
-pub fn output_send_in(area: &mut [u8], g: Gate, to: u64, message: &[u8], entries: u64) -> DoneAnswer
+pub fn output_send_in(
+    area: &mut [u8],
+    g: Result<Capacity, Refusal>,
+    to: u64,
+    message: &[u8],
+    entries: u64,
+) -> DoneAnswer
     requires { Gated area.old g }
     ensures { (result, area.new) ≡ call done_no done_yes area.old (output_send to message.now entries) }
 {
-    let refusal = g.refusal;
-    let f = g.capacity;
-    if 0 < refusal {
-        return answers::done(refusal);
-    }
-    let size = message.len() as u64;
-    let asked = send_asked(area, f, to, size, entries);
-    let code = asked.code;
-    let from = asked.from;
-    if 0 < code {
-        return answers::done(code);
-    }
-    let p = send_plan(area, f, from, to, size, entries);
-    let ten = p.code;
-    if 0 < ten {
-        return answers::done(ten);
-    }
-    let mail = p.mail;
-    send_act(area, f, mail, from, to, p.bytes, entries, message);
-    answers::done(0)
+    DoneAnswer::from(output_sent(area, g, to, message, entries))
 }

@@ -6,7 +6,7 @@ use mathlib.Core.List.{List, [], ◌∷◌, ◌++◌}
 use Prim.Native.Nat.{ℕ, zero, suc, ◌+◌, ◌^◌, ◌≤◌, ◌<◌}
 use Rattle.std.proofs.Math.Dec.{eqb, leb, ltb}
 use Rattle.std.proofs.Math.ListN.{length, drop}
-use Rattle.std.specs.Prelude.{get_or}
+use Rattle.std.specs.Prelude.{get_or, Ok, Err}
 use borrow.Author.Tests.{eq-eqb, ne_eqb, le-leb, lt-leb, lt-ltb, le-ltb, eqb-true, leb-true}
 use Rattle.std.specs.Int.{w64}
 use Rattle.laws.specs.Bools.{pick, cases, ◌and◌}
@@ -19,6 +19,9 @@ use Rattle.config.specs.declared.SimConfig.{SimConfig}
 use Rattle.config.specs.declared.Limits.{Limits}
 use Rattle.std.specs.declared.result.Result.{Result}
 use Rattle.units.specs.declared.refusal.Refusal.{Refusal}
+use Rattle.units.specs.declared.refusal.Refusal.TheVariants.{AreaLength, Room}
+use Rattle.units.specs.Refusals.{refusal_number, answer_number}
+use Rattle.units.specs.RefusalLaws.{refusal_positive}
 use Rattle.config.specs.Limits.{judge, judged_number, area_length, InLimits}
 use Rattle.queue.specs.Queue.{Scheduled}
 use Rattle.model.specs.State.{State, Phase, closed, writing, start_input, construction, new_server}
@@ -35,6 +38,7 @@ use Rattle.state.specs.Fitting.{area_fits}
 use Rattle.state.specs.FitsBy.{fits_test}
 use Rattle.state.specs.Call.{finish, starting}
 use Rattle.state.specs.Changes.{Inside, AreaOf, Changes}
+use Rattle.state.specs.Exits.{refusal_above}
 use Rattle.answers.specs.declared.OpenedAnswer.{OpenedAnswer}
 use Rattle.answers.specs.declared.InputNumbers.{InputNumbers}
 use Rattle.answers.specs.Answers.{no_input_numbers, input_of, opened_no, opened_of, opened_yes}
@@ -48,19 +52,21 @@ use Rattle.sim_start.specs.Fits.{accepted_limits, spread_fits, fits_unstarted}
 
 -- ---- the questions
 
-module _ (size : ℕ) (config : SimConfig) (limits : Limits) (j : Result (Unit {0}) Refusal) (n : ℕ) (ej : j ≡ judge config limits) (en : n ≡ judged_number j) where
-  number : n ≡ judged_number (judge config limits)
-  number = en ∙ ap judged_number ej
+module _ (size : ℕ) (config : SimConfig) (limits : Limits) (j : Result (Unit {0}) Refusal) (ej : j ≡ judge config limits) where
+  -- a question that is answered no
+  stops : (refusal : Refusal) → refusal_number refusal ≡ start_code size config limits → StartAsked size config limits (Err refusal)
+  stops refusal e = record { code = e; within = λ u o. absurd cc; long = λ u o. absurd cc }
 
-  pub plan_judged : 0 < n → StartAsked size config limits n
+  pub plan_judged : (refusal : Refusal) → j ≡ Err refusal → StartAsked size config limits (Err refusal)
   unfolding start_code
-  plan_judged l =
-      let f : eqb (judged_number (judge config limits)) 0 ≡ false = ne_eqb (judged_number (judge config limits)) 0 (λ z. let o : n ≡ 0 = number ∙ z in omega arith) in
-      record { code = number ∙ sym (rw f); within = λ z. absurd (omega arith); long = λ z. absurd (omega arith) }
+  plan_judged refusal e =
+      let n : refusal_number refusal ≡ judged_number (judge config limits) = sym (ap judged_number e) ∙ ap judged_number ej in
+      let f : eqb (judged_number (judge config limits)) 0 ≡ false = subst (λ (m : ℕ). eqb m 0 ≡ false) n (refusal_positive refusal) in
+      stops refusal (n ∙ sym (rw f))
 
-  module _ (z : n ≤ 0) where
+  module _ (u : Unit {0}) (z : j ≡ Ok u) where
     accepted : judged_number (judge config limits) ≡ 0
-    accepted = sym number ∙ (let o : n ≡ 0 = omega arith in o)
+    accepted = sym (ap judged_number ej) ∙ ap judged_number z
 
     pub plan_limits : InLimits config.servers config.clients limits
     plan_limits = accepted_limits config limits accepted
@@ -72,40 +78,32 @@ module _ (size : ℕ) (config : SimConfig) (limits : Limits) (j : Result (Unit {
       yes : eqb (judged_number (judge config limits)) 0 ≡ true
       yes = eq-eqb (judged_number (judge config limits)) 0 accepted
 
-      pub plan_short : size < m → StartAsked size config limits 4
+      pub plan_short : size < m → StartAsked size config limits (Err AreaLength)
       unfolding start_code
-      plan_short l = record {
-        code = sym (rw (yes, lt-ltb size (bytes_of (counts_for config limits)) (omega (arith, em.0))));
-        within = λ e. absurd (omega arith);
-        long = λ e. absurd (omega arith);
-      }
+      plan_short l = stops AreaLength (sym (rw (yes, lt-ltb size (bytes_of (counts_for config limits)) (omega (arith, em.0)))))
 
       module _ (l : m ≤ size) where
         enough : ltb size (bytes_of (counts_for config limits)) ≡ false
         enough = le-ltb size (bytes_of (counts_for config limits)) (omega (arith, em.0))
 
-        goes : start_fits config limits ≡ true → StartAsked size config limits 0
+        goes : start_fits config limits ≡ true → StartAsked size config limits (Ok tt)
         unfolding start_code
         goes t = record {
           code = sym (rw (yes, enough, t));
-          within = λ e. record { limits = plan_limits };
-          long = λ e. omega (arith, em.0);
+          within = λ v e. record { limits = plan_limits };
+          long = λ v e. omega (arith, em.0);
         }
 
-        pub plan_together : config.start_spread.0 ≡ 0 → StartAsked size config limits 0
+        pub plan_together : config.start_spread.0 ≡ 0 → StartAsked size config limits (Ok tt)
         unfolding start_fits
         plan_together e = goes (rw (eq-eqb config.start_spread.0 0 e))
 
         module _ (n₀ : config.start_spread.0 ≡ 0 → ⊥) where
-          pub plan_full : limits.events < config.servers + config.clients → StartAsked size config limits 10
+          pub plan_full : limits.events < config.servers + config.clients → StartAsked size config limits (Err Room)
           unfolding start_code start_fits
-          plan_full k = record {
-            code = sym (rw (yes, enough, ne_eqb config.start_spread.0 0 n₀, lt-leb (config.servers + config.clients) limits.events k));
-            within = λ e. absurd (omega arith);
-            long = λ e. absurd (omega arith);
-          }
+          plan_full k = stops Room (sym (rw (yes, enough, ne_eqb config.start_spread.0 0 n₀, lt-leb (config.servers + config.clients) limits.events k)))
 
-          pub plan_spread : config.servers + config.clients ≤ limits.events → StartAsked size config limits 0
+          pub plan_spread : config.servers + config.clients ≤ limits.events → StartAsked size config limits (Ok tt)
           unfolding start_fits
           plan_spread k = goes (rw (ne_eqb config.start_spread.0 0 n₀, le-leb (config.servers + config.clients) limits.events k))
 
@@ -273,11 +271,9 @@ limits_pushed (e ∷ es) u = limits_pushed es (pushed e u)
 capacity_pushed : (es : List Scheduled) (u : State) → capacity_of (pushed_all es u) ≡ capacity_of u
 capacity_pushed es u = ap₂ (λ (c : SimConfig) (l : Limits). record { servers = c.servers; clients = c.clients; limits = l }) (config_pushed es u) (limits_pushed es u)
 
-pub start_inside : (b : List ℕ) (config : SimConfig) (limits : Limits) (code : ℕ) → StartAsked (length b) config limits code → code ≤ 0
+pub start_inside : (b : List ℕ) (config : SimConfig) (limits : Limits) (r : Result (Unit {0}) Refusal) (u : Unit {0}) → StartAsked (length b) config limits r → r ≡ Ok u
     → Inside b (counts_for config limits)
-start_inside b config limits code q y =
-    let z : code ≡ 0 = omega arith in
-    record { within = q.within z; head = omega (arith, at_least (counts_for config limits), q.long z); long = q.long z }
+start_inside b config limits r u q z = record { within = q.within u z; head = omega (arith, at_least (counts_for config limits), q.long u z); long = q.long u z }
 
 codes : (t u v : Bool) (j : ℕ) → eqb j 0 ≡ t → ◌≡◌ {A = ℕ} (pick t (pick u 4 (pick v 0 10)) j) 0 → (t ≡ true) × (u ≡ false) × (v ≡ true)
 codes true true v j e h = absurd (omega arith)
@@ -286,12 +282,12 @@ codes true false false j e h = absurd (omega arith)
 codes false u v j e h = absurd (not_both (eqb j 0) (eq-eqb j 0 h) e)
 
 -- each question is answered yes where none is answered no
-answered : (size : ℕ) (config : SimConfig) (limits : Limits) (code : ℕ) → StartAsked size config limits code → code ≤ 0
+answered : (size : ℕ) (config : SimConfig) (limits : Limits) (r : Result (Unit {0}) Refusal) (u : Unit {0}) → StartAsked size config limits r → r ≡ Ok u
     → (eqb (judged_number (judge config limits)) 0 ≡ true) × (ltb size (bytes_of (counts_for config limits)) ≡ false) × (start_fits config limits ≡ true)
 unfolding start_code
-answered size config limits code q l =
+answered size config limits r u q l =
     codes (eqb (judged_number (judge config limits)) 0) (ltb size (bytes_of (counts_for config limits))) (start_fits config limits) (judged_number (judge config limits)) refl
-    (sym q.code ∙ (let z : code ≡ 0 = omega arith in z))
+    (sym q.code ∙ ap answer_number l)
 
 module _ (config : SimConfig) (limits : Limits) (seed : ℕ) where
   abbrev s₁ : State
@@ -331,12 +327,14 @@ module _ (config : SimConfig) (limits : Limits) (seed : ℕ) where
         rw (e, capacity_begin h, fits_begin config limits seed h (new_fits h)))
         (λ e. rw e)
 
-    module _ (b : List ℕ) (code : ℕ) (q : StartAsked (length b) config limits code) where
-      pub start_no : (r : OpenedAnswer) → 0 < code → r ≡ opened_no code → (r, b) ≡ starting opened_no opened_yes b (start config limits seed)
+    module _ (b : List ℕ) (j : Result (Unit {0}) Refusal) (q : StartAsked (length b) config limits j) where
+      pub start_no : (refusal : Refusal) → j ≡ Err refusal → (opened_no (refusal_number refusal), b) ≡ starting opened_no opened_yes b (start config limits seed)
       unfolding start_code
-      start_no r l e = ap (λ (x : OpenedAnswer). (x, b)) (e ∙ ap opened_no q.code) ∙ by q.code ∙ sym (start_by b)
+      start_no refusal e =
+          let n : refusal_number refusal ≡ start_code (length b) config limits = sym (ap answer_number e) ∙ q.code in
+          ap (λ (m : ℕ). (opened_no m, b)) n ∙ by n ∙ sym (start_by b)
         where
-          by : code ≡ start_code (length b) config limits
+          by : refusal_number refusal ≡ start_code (length b) config limits
               → ◌≡◌ {A = OpenedAnswer × List ℕ} (opened_no (start_code (length b) config limits), b)
               (pick (eqb (judged_number (judge config limits)) 0)
               (pick (ltb (length b) (bytes_of (counts_for config limits))) (opened_no 4, b)
@@ -347,15 +345,15 @@ module _ (config : SimConfig) (limits : Limits) (seed : ℕ) where
               (λ e. cases (ltb (length b) (bytes_of (counts_for config limits)))
               (λ f. rw (e, f))
               (λ f. cases (start_fits config limits)
-              (λ t. let o : code ≡ 0 = z ∙ rw (e, f, t) in absurd (omega arith))
+              (λ t. let o : refusal_number refusal ≡ 0 = z ∙ rw (e, f, t) in absurd (omega (arith, refusal_above refusal)))
               (λ t. rw (e, f, t))))
               (λ e. rw e)
 
-      pub start_yes : (b₁ b₂ : List ℕ) (i : InputNumbers) (r : OpenedAnswer) → code ≤ 0 → Lays b b₁ (counts_for config limits) config seed
-          → Begins b₁ b₂ (counts_for config limits) config seed i → r ≡ opened_of i
-          → (r, b₂) ≡ starting opened_no opened_yes b (start config limits seed)
-      start_yes b₁ b₂ i r l p k e =
-          let a = answered (length b) config limits code q l in
+      pub start_yes : (u : Unit {0}) (b₁ b₂ : List ℕ) (i : InputNumbers) → j ≡ Ok u → Lays b b₁ (counts_for config limits) config seed
+          → Begins b₁ b₂ (counts_for config limits) config seed i
+          → (opened_of i, b₂) ≡ starting opened_no opened_yes b (start config limits seed)
+      start_yes u b₁ b₂ i l p k =
+          let a = answered (length b) config limits j u q l in
           let h : judged_number (judge config limits) ≡ 0 = eqb-true (judged_number (judge config limits)) 0 a.0 in
           let fit : state_fits s₁ ≡ true = fits_begin config limits seed h (new_fits h) ∙ a.2 in
           let area : AreaOf b₂ (drop (bytes_of (counts_for config limits)) b) (counts_for config limits) s₁ =
@@ -363,5 +361,5 @@ module _ (config : SimConfig) (limits : Limits) (seed : ℕ) where
           let is : b₂ ≡ encode s₁ ++ drop (bytes_of (counts_for config limits)) b =
           area_is area.area
           ∙ ap (λ (x : List ℕ). encode s₁ ++ x) (ap (λ (G : Capacity). drop (bytes_of G) b₂) (sym area.capacity) ∙ area.rest) in
-          ap₂ (λ (x : OpenedAnswer) (y : List ℕ). (x, y)) (e ∙ ap opened_of (k.input (omega (arith, (accepted_limits config limits h).servers_low)))) is
+          ap₂ (λ (x : OpenedAnswer) (y : List ℕ). (x, y)) (ap opened_of (k.input (omega (arith, (accepted_limits config limits h).servers_low)))) is
           ∙ sym (start_by b ∙ rw (a.0, a.1, a.2))

@@ -1,9 +1,11 @@
 -- A simulation that begins, in its area: what the contracts of lib.rt cite. Assumes nothing.
-use Rattle.std.specs.Prelude.{◌≡◌, Bool, true, List, [], ◌∷◌, ◌++◌, ℕ, ◌+◌, ◌*◌, ◌≤◌, ◌<◌, eqb, leb, ltb, drop}
+use Rattle.std.specs.Prelude.{◌≡◌, Bool, true, List, [], ◌∷◌, ◌++◌, ℕ, ◌+◌, ◌*◌, ◌≤◌, ◌<◌, eqb, leb, ltb, drop, Result, Ok}
 use Rattle.laws.specs.Bools.{pick}
 use Rattle.rng.specs.declared.Rng.{Rng}
 use Rattle.seeds.specs.Seeds.{stream_rng}
 use Rattle.seeds.specs.declared.Stream.TheVariants.{Workload, Network}
+use Rattle.units.specs.declared.refusal.Refusal.{Refusal}
+use Rattle.units.specs.Refusals.{answer_number}
 use Rattle.config.specs.declared.SimConfig.{SimConfig}
 use Rattle.config.specs.declared.Limits.{Limits}
 use Rattle.config.specs.Limits.{judge, judged_number}
@@ -103,8 +105,8 @@ start_code size config limits =
     (pick (ltb size (bytes_of (counts_for config limits))) 4 (pick (start_fits config limits) 0 10))
     (judged_number (judge config limits))
 
--- The number of a start's refusal; where it is 0, the counts are within limits and the area has as many bytes as they ask.
-pub record StartAsked (size : ℕ) (config : SimConfig) (limits : Limits) (r : ℕ) : Type 0 where
-  pub code : r ≡ start_code size config limits
-  pub within : r ≡ 0 → Within (counts_for config limits)
-  pub long : r ≡ 0 → bytes_of (counts_for config limits) ≤ size
+-- A start's refusal; where there is none, the counts are within limits and the area has as many bytes as they ask.
+pub record StartAsked (size : ℕ) (config : SimConfig) (limits : Limits) (r : Result (Unit {0}) Refusal) : Type 0 where
+  pub code : answer_number r ≡ start_code size config limits
+  pub within : (u : Unit {0}) → r ≡ Ok u → Within (counts_for config limits)
+  pub long : (u : Unit {0}) → r ≡ Ok u → bytes_of (counts_for config limits) ≤ size

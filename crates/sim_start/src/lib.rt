@@ -6,7 +6,7 @@ ghost use Rattle.std.specs.Prelude.{◌≡◌, ◌≤◌, ◌<◌, length};
 ghost use Rattle.model.specs.Calls.{start};
 ghost use Rattle.state.specs.Call.{starting};
 ghost use Rattle.state.specs.Changes.{Inside, Changes};
-ghost use Rattle.answers.specs.Answers.{opened_no, opened_yes};
+ghost use Rattle.answers.specs.Answers.{opened_no, opened_yes, opened_answer};
 ghost use Rattle.sim_start.specs.Start.{first_open, Begins, StartAsked};
 
 use answers::{InputNumbers, OpenedAnswer, opened};
@@ -14,28 +14,28 @@ use config::{Limits, SimConfig};
 use seeds::Stream;
 use state::{Capacity, OpenInput};
 use units::NodeId;
-use units::refusal::answer_number;
+use units::refusal::Refusal;
 
 pub mod content; // the words of a new state
 
-// The first question of 1 to 4 and 10 that is answered no of an area of so many bytes, or 0.
-fn start_plan(size: u64, config: SimConfig, limits: Limits) -> u64
+// The first question of 1 to 4 and 10 that is answered no of an area of so many bytes.
+fn start_asked(size: u64, config: SimConfig, limits: Limits) -> Result<(), Refusal>
     ensures { StartAsked size config limits result }
 {
-    let judged = answer_number(config::judge(config, limits));
-    if 0 < judged {
-        return judged;
-    }
+    config::judge(config, limits)?;
     let n = config::area_length(config.servers, config.clients, limits);
     if size < n {
-        return 4;
+        return Err(Refusal::AreaLength);
     }
     let spread = config.start_spread.0;
     if spread == 0 {
-        return 0;
+        return Ok(());
     }
     let events = config.servers + config.clients;
-    if limits.events < events { 10 } else { 0 }
+    if limits.events < events {
+        return Err(Refusal::Room);
+    }
+    Ok(())
 }
 
 // The start of the first server opens, and that of the others is owed.
@@ -76,19 +76,28 @@ fn begin(area: &mut [u8], f: Capacity, config: SimConfig, seed: u64) -> InputNum
     answers::no_input()
 }
 
-// A simulation begins, whatever was in the area before; what lies behind its content stays.
-pub fn start_in(area: &mut [u8], config: SimConfig, limits: Limits, seed: u64) -> OpenedAnswer
-    ensures { (result, area.new) ≡ starting opened_no opened_yes area.old (start config limits seed) }
+// The input with which a simulation begins, or the refusal.
+fn started(
+    area: &mut [u8],
+    config: SimConfig,
+    limits: Limits,
+    seed: u64,
+) -> Result<InputNumbers, Refusal>
+    ensures { (opened_answer result, area.new) ≡ starting opened_no opened_yes area.old (start config limits seed) }
 {
-    let code = start_plan(area.len() as u64, config, limits);
-    if 0 < code {
-        return opened::opened_no(code);
-    }
+    start_asked(area.len() as u64, config, limits)?;
     let f = Capacity {
         servers: config.servers,
         clients: config.clients,
         limits,
     };
     content::lay_out(area, f, config, seed);
-    opened::opened(begin(area, f, config, seed))
+    Ok(begin(area, f, config, seed))
+}
+
+// A simulation begins, whatever was in the area before; what lies behind its content stays.
+pub fn start_in(area: &mut [u8], config: SimConfig, limits: Limits, seed: u64) -> OpenedAnswer
+    ensures { (result, area.new) ≡ starting opened_no opened_yes area.old (start config limits seed) }
+{
+    OpenedAnswer::from(started(area, config, limits, seed))
 }

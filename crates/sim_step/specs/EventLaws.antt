@@ -1,5 +1,6 @@
 -- What the proofs of events.rt cite. Assumes nothing.
-use Rattle.std.specs.Prelude.{◌≡◌, refl, Bool, true, false, not, ◌&&◌, List, [], ◌∷◌, ℕ, ◌+◌, ◌-◌, ◌≤◌, ◌<◌, length, Option, Some}
+use Rattle.std.specs.Option.{unwrap_or}
+use Rattle.std.specs.Prelude.{◌≡◌, refl, Bool, true, false, not, ◌&&◌, List, [], ◌∷◌, ℕ, ◌+◌, ◌-◌, ◌≤◌, ◌<◌, length, Option, Some, is_some}
 use Rattle.std.proofs.Math.Path.{sym, ap}
 use Rattle.std.proofs.Common.{ap₂, subst, ◌∙◌, arith}
 use Rattle.std.proofs.Math.Seq.{sets}
@@ -33,7 +34,6 @@ use Rattle.state_header.specs.Header.{now_set, events_set}
 use Rattle.state_header.specs.Laws.{fits_now, fits_events}
 use Rattle.state_queue.specs.Events.{queue_length, first_of, next_event, CopiesMessage, dequeued}
 use Rattle.answers.specs.declared.InputNumbers.{InputNumbers}
-use Rattle.sim_outputs.specs.declared.Sum.{Sum}
 use Rattle.sim_outputs.specs.Outputs.{Sums, Passed}
 use Rattle.sim_attempt.specs.Attempts.{room_of}
 use Rattle.sim_clients.specs.ClientEvents.{send_test, again_test}
@@ -160,13 +160,13 @@ module _ (b : List ℕ) (F : Capacity) (time room : ℕ) (e : Event) (r : Bool) 
 
 pub ruleset tests = (start_test, deliver_test_lem, timer_test, fault_test_lem, send_test_lem, arrive_test_lem, redirect_test_lem, retry_test, reply_test_lem, timeout_test)
 
-pub event_asked : (b : List ℕ) (F : Capacity) (e : Earliest) (run : Run) (count : Sum) (room : ℕ) (fits : Bool) → Reads b F run run_of → Sums run.events 1 count → Reads b F room room_after
-    → Reads b F fits (process_test e.time.0 room e.event) → Reads b F (count.fits && fits) (event_test e)
+pub event_asked : (b : List ℕ) (F : Capacity) (e : Earliest) (run : Run) (count : Option ℕ) (some : Bool) (room : ℕ) (fits : Bool) → Reads b F run run_of → Sums run.events 1 count → some ≡ is_some count → Reads b F room room_after
+    → Reads b F fits (process_test e.time.0 room e.event) → Reads b F (some && fits) (event_test e)
 unfolding event_test
-event_asked b F e run count room fits pr pc pm pf = record {
+event_asked b F e run count some room fits pr pc es pm pf = record {
   to = λ s h ef.
-      code_and count.fits fits
-      ∙ ap₂ (λ (x y : Bool). x and y) (pc.fits ∙ ap (λ (x : Run). word (x.events + 1)) (pr.to s h ef))
+      code_and some fits
+      ∙ ap₂ (λ (x y : Bool). x and y) (es ∙ pc.fits ∙ ap (λ (x : Run). word (x.events + 1)) (pr.to s h ef))
       (pf.to s h ef ∙ ap (λ (n : ℕ). process_test e.time.0 n e.event s) (pm.to s h ef));
 }
 
@@ -244,10 +244,10 @@ kept_now : (s : State) → state_fits s ≡ true → word (dequeued s).now.0 ≡
 unfolding dequeued
 kept_now s t = fits_test s t 2
 
-pub event_popped : (b b₁ b₂ b₃ : List ℕ) (F : Capacity) (time : SimTime) (run : Run) (count : Sum) → Reads b F run run_of → Sums run.events 1 count → Changes b b₁ F dequeued → Changes b₁ b₂ F (now_set time)
-    → Changes b₂ b₃ F (events_set count.value) → Changes b b₃ F (popped time)
+pub event_popped : (b b₁ b₂ b₃ : List ℕ) (F : Capacity) (time : SimTime) (run : Run) (count : Option ℕ) (v : ℕ) → Reads b F run run_of → Sums run.events 1 count → v ≡ unwrap_or count 0 → Changes b b₁ F dequeued → Changes b₁ b₂ F (now_set time)
+    → Changes b₂ b₃ F (events_set v) → Changes b b₃ F (popped time)
 unfolding popped
-event_popped b b₁ b₂ b₃ F time run count pr pc p₁ p₂ p₃ = record {
+event_popped b b₁ b₂ b₃ F time run count v pr pc ev p₁ p₂ p₃ = record {
   to = λ s l h t.
       let s₁ : State = dequeued s in
       let s₂ : State = now_set time s₁ in
@@ -255,7 +255,7 @@ event_popped b b₁ b₂ b₃ F time run count pr pc p₁ p₂ p₃ = record {
       let t₂ : state_fits s₂ ≡ true = and_right _ _ fits in
       let t₁ : state_fits s₁ ≡ true = and_right _ _ (sym (fits_now s₁ time (kept_now s (area_fits h.area))) ∙ t₂) in
       let n : run.events + 1 ≡ s.events + 1 = ap (λ (x : Run). x.events + 1) (pr.to s h.area h.capacity) in
-      let e : count.value ≡ s.events + 1 = pc.value (pc.fits ∙ ap word n ∙ and_left _ _ fits) ∙ n in
+      let e : v ≡ s.events + 1 = ev ∙ pc.value (pc.fits ∙ ap word n ∙ and_left _ _ fits) ∙ n in
       subst (λ (m : ℕ). AreaOf b₃ l F (events_set m s₂)) e
       (p₃.to s₂ l (p₂.to s₁ l (p₁.to s l h t₁) t₂) (ap (λ (m : ℕ). state_fits (events_set m s₂)) e ∙ t));
 }

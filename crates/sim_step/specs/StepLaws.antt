@@ -1,7 +1,7 @@
 -- What the proofs of lib.rt cite: questions 6 and 9, the definition, and the exits. Assumes nothing.
 use Rattle.std.proofs.Math.Path.{◌≡◌, refl, sym, ap, subst}
 use Rattle.std.proofs.Common.{◌∙◌}
-use Rattle.std.specs.Prelude.{Bool, not, length, Option, None, Some}
+use Rattle.std.specs.Prelude.{Bool, not, length, Option, None, Some, Result, Ok, Err}
 use Rattle.std.proofs.Math.Bool.{true, false}
 use mathlib.Core.List.{List, [], ◌∷◌, ◌++◌}
 use Prim.Native.Nat.{ℕ, ◌+◌, ◌^◌, ◌≤◌, ◌<◌, max}
@@ -13,6 +13,8 @@ use borrow.Author.Tests.{lt-ltb, le-leb, lt-leb, leb-true, ltb-true, eq-eqb, not
 use Rattle.laws.specs.Bools.{pick, ◌and◌, and_left, no_and}
 use Rattle.laws.proofs.BoolLaws.{and_right, and_both, and_no}
 use Rattle.laws.specs.Decides.{false_true}
+use Rattle.units.specs.declared.refusal.Refusal.{Refusal}
+use Rattle.units.specs.Refusals.{refusal_number, answer_number}
 use Rattle.queue.specs.Queue.{Scheduled, Queue, pop}
 use Rattle.queue.specs.Range.{word}
 use Rattle.queue.specs.Table.{rest}
@@ -26,7 +28,6 @@ use Rattle.model.specs.Outcome as calls
 use Rattle.model.specs.Fits.{state_fits}
 use Rattle.claims.specs.OnArea.{on_area, same}
 use Rattle.state.specs.declared.Capacity.{Capacity}
-use Rattle.state.specs.declared.Gate.{Gate}
 use Rattle.state.specs.declared.OpenInput.{OpenInput}
 use Rattle.state.specs.declared.Run.{Run}
 use Rattle.state.specs.Parts.{open_of, phase_kind}
@@ -40,14 +41,14 @@ use Rattle.state.specs.FitsBy.{fits_test}
 use Rattle.state.specs.Lens.{area_of}
 use Rattle.state.specs.Call.{finish, call}
 use Rattle.state.specs.Changes.{Inside, Gated, AreaOf, Changes, Reads}
-use Rattle.state.specs.Exits.{inside_after, call_shut}
+use Rattle.state.specs.Exits.{refusal_above, inside_after, call_shut}
 use Rattle.state_header.specs.Header.{phase_of, now_set, events_set}
 use Rattle.state_header.specs.Laws.{fits_now, kind_closed, kind_open}
 use Rattle.state_queue.specs.Events.{first_of, next_event, dequeued}
 use Rattle.state_queue.specs.Laws.{first_in_range}
 use Rattle.answers.specs.declared.InputNumbers.{InputNumbers}
 use Rattle.answers.specs.declared.SteppedAnswer.{SteppedAnswer}
-use Rattle.answers.specs.Answers.{input_of, no_input_numbers, stepped_no, stepped_of, stepped_yes}
+use Rattle.answers.specs.Answers.{input_of, no_input_numbers, stepped_no, stepped_of, stepped_yes, stepped_answer}
 use Rattle.answers.specs.Numbers.{input_bytes, bytes_of as answerBytes}
 use Rattle.sim_outputs.specs.Outputs.{Passed}
 use Rattle.sim_owed.specs.Servers.{Opens}
@@ -254,27 +255,29 @@ module _ (b : List ℕ) (F : Capacity) (deadline : ℕ) (z : List ℕ) where
     here : AreaOf b (drop (bytes_of F) b) F s
     here = area_of p.area p.capacity
 
-    pub step_no : (c : ℕ) (r : SteppedAnswer) → Reads b F c (step_code deadline (length z)) → 0 < c → r ≡ stepped_no c → StepDone b b deadline z z r
-    step_no c r q l e =
-        subst (λ (x : SteppedAnswer). StepDone b b deadline z z x) (sym e) (refuses c (step_refused s deadline (length z) c (q.to s p.area p.capacity) l))
+    pub step_no : (c : Result (Unit {0}) Refusal) (refusal : Refusal) → Reads b F (answer_number c) (step_code deadline (length z)) → c ≡ Err refusal
+        → StepDone b b deadline z z (stepped_no (refusal_number refusal))
+    step_no c refusal q e =
+        refuses (refusal_number refusal) (step_refused s deadline (length z) (refusal_number refusal) (sym (ap answer_number e) ∙ q.to s p.area p.capacity) (refusal_above refusal))
 
     -- nothing was due, and the time rose
-    rested : (b' : List ℕ) (i : InputNumbers) (r : SteppedAnswer) → step_code deadline (length z) s ≡ 0 → wanted ≡ rests s deadline (length z) → Changes b b' F (now_raised deadline)
-        → i ≡ no_input_numbers → r ≡ stepped_of 0 i → StepDone b b' deadline z z r
-    rested b' i r c e k ei er =
+    rested : (b' : List ℕ) → step_code deadline (length z) s ≡ 0 → wanted ≡ rests s deadline (length z) → Changes b b' F (now_raised deadline)
+        → StepDone b b' deadline z z (stepped_of 0 no_input_numbers)
+    rested b' c e k =
         let t = raised_fits s deadline (length z) (area_fits p.area) c in
-        acts (record { due = false; opening = no_input }) (now_raised deadline s) b' z r e t (k.to s (drop (bytes_of F) b) here t) refl (er ∙ ap (stepped_of 0) ei)
+        acts (record { due = false; opening = no_input }) (now_raised deadline s) b' z (stepped_of 0 no_input_numbers) e t (k.to s (drop (bytes_of F) b) here t) refl refl
 
-    pub step_rested : (c : ℕ) (o : Option Earliest) (b' : List ℕ) (i : InputNumbers) (r : SteppedAnswer) → Reads b F c (step_code deadline (length z)) → c ≤ 0 → Reads b F o next_event → o ≡ None → Changes b b' F (now_raised deadline)
-        → i ≡ no_input_numbers → r ≡ stepped_of 0 i → StepDone b b' deadline z z r
+    pub step_rested : (c : Result (Unit {0}) Refusal) (u : Unit {0}) (o : Option Earliest) (b' : List ℕ) → Reads b F (answer_number c) (step_code deadline (length z)) → c ≡ Ok u
+        → Reads b F o next_event → o ≡ None → Changes b b' F (now_raised deadline) → StepDone b b' deadline z z (stepped_of 0 no_input_numbers)
     unfolding next_event
-    step_rested c o b' i r q l n e k ei er =
-        let code : step_code deadline (length z) s ≡ 0 = sym (q.to s p.area p.capacity) ∙ (let y : c ≡ 0 = omega arith in y) in
-        rested b' i r code (step_empty s deadline (length z) code (none_queued s.queue (sym (sym e ∙ n.to s p.area p.capacity)))) k ei er
+    step_rested c u o b' q l n e k =
+        let code : step_code deadline (length z) s ≡ 0 = sym (q.to s p.area p.capacity) ∙ ap answer_number l in
+        rested b' code (step_empty s deadline (length z) code (none_queued s.queue (sym (sym e ∙ n.to s p.area p.capacity)))) k
 
-pub asked_of : (b : List ℕ) (F : Capacity) (deadline size c : ℕ) → Passed b F → Reads b F c (step_code deadline size) → c ≤ 0 → Asked b F deadline size
-asked_of b F deadline size c p q l =
-    let y : c ≡ 0 = omega arith in
+pub asked_of : (b : List ℕ) (F : Capacity) (deadline size : ℕ) (c : Result (Unit {0}) Refusal) (u : Unit {0}) → Passed b F → Reads b F (answer_number c) (step_code deadline size) → c ≡ Ok u
+    → Asked b F deadline size
+asked_of b F deadline size c u p q l =
+    let y : answer_number c ≡ 0 = ap answer_number l in
     let code : step_code deadline size (decode b) ≡ 0 = sym (q.to (decode b) p.area p.capacity) ∙ y in
     record {
       code = subst (λ (n : ℕ). Reads b F n (step_code deadline size)) y q;
@@ -335,9 +338,9 @@ module _ (b : List ℕ) (F : Capacity) (deadline : ℕ) (e : Earliest) (z : List
   time_is : e.time.0 ≡ top.first.time.0
   time_is = ap (λ (y : Earliest). y.time.0) top.numbers
 
-  pub next_later : (b' : List ℕ) (i : InputNumbers) (r : SteppedAnswer) → deadline < e.time.0 → Changes b b' F (now_raised deadline) → i ≡ no_input_numbers → r ≡ stepped_of 0 i → StepDone b b' deadline z z r
-  next_later b' i r l k ei er =
-      rested b F deadline z n.passed b' i r code_is (step_later (decode b) deadline (length z) top.first top.others top.is code_is (subst (λ (m : ℕ). deadline < m) time_is l)) k ei er
+  pub next_later : (b' : List ℕ) → deadline < e.time.0 → Changes b b' F (now_raised deadline) → StepDone b b' deadline z z (stepped_of 0 no_input_numbers)
+  next_later b' l k =
+      rested b F deadline z n.passed b' code_is (step_later (decode b) deadline (length z) top.first top.others top.is code_is (subst (λ (m : ℕ). deadline < m) time_is l)) k
 
   module _ (l : e.time.0 ≤ deadline) where
     -- The state and the input that the first event gives.
@@ -347,15 +350,13 @@ module _ (b : List ℕ) (F : Capacity) (deadline : ℕ) (e : Earliest) (z : List
     due : step (record { 0 = deadline }) (length z) (decode b) ≡ done (record { due = true; opening = after.opening }) after.state
     due = step_due (decode b) deadline (length z) top.first top.others top.is code_is (subst (λ (m : ℕ). m ≤ deadline) time_is l)
 
-    pub next_ten : (u : Bool) (r : SteppedAnswer) → Reads b F u (event_test e) → not u ≡ true → r ≡ stepped_no 10 → StepDone b b deadline z z r
-    next_ten u r q t er =
-        subst (λ (x : SteppedAnswer). StepDone b b deadline z z x) (sym er)
-        (no_room b F deadline z _ _ due (fits_of b F e n ∙ sym (q.to (decode b) n.passed.area n.passed.capacity) ∙ not-true u t))
+    pub next_ten : (u : Bool) → Reads b F u (event_test e) → not u ≡ true → StepDone b b deadline z z (stepped_no 10)
+    next_ten u q t = no_room b F deadline z _ _ due (fits_of b F e n ∙ sym (q.to (decode b) n.passed.area n.passed.capacity) ∙ not-true u t)
 
-    pub next_done : (u : Bool) (b' z' : List ℕ) (i : InputNumbers) (r : SteppedAnswer) → Reads b F u (event_test e) → not u ≡ false → Taken b b' F e z z' i → r ≡ stepped_of 1 i → StepDone b b' deadline z z' r
-    next_done u b' z' i r q t k er =
-        acts b F deadline z _ _ b' z' r due (fits_of b F e n ∙ sym (q.to (decode b) n.passed.area n.passed.capacity) ∙ not-false u t) (k.area top.first top.others top.is) (k.buffer top.first top.others top.is)
-        (er ∙ ap (stepped_of 1) (k.input top.first top.others top.is))
+    pub next_done : (u : Bool) (b' z' : List ℕ) (i : InputNumbers) → Reads b F u (event_test e) → not u ≡ false → Taken b b' F e z z' i → StepDone b b' deadline z z' (stepped_of 1 i)
+    next_done u b' z' i q t k =
+        acts b F deadline z _ _ b' z' (stepped_of 1 i) due (fits_of b F e n ∙ sym (q.to (decode b) n.passed.area n.passed.capacity) ∙ not-false u t) (k.area top.first top.others top.is) (k.buffer top.first top.others top.is)
+        (ap (stepped_of 1) (k.input top.first top.others top.is))
 
 -- ---- the first event is taken and happens
 
@@ -421,18 +422,19 @@ module _ (b b₁ b₂ : List ℕ) (F : Capacity) (e : Earliest) (z z' : List ℕ
 
 -- ---- the gate
 
-module _ (b : List ℕ) (g : Gate) (deadline : ℕ) (z : List ℕ) (q : Gated b g) where
-  pub made_shut : (r : SteppedAnswer) → 0 < g.refusal → r ≡ stepped_no g.refusal → StepMade b b deadline z z r
+module _ (b : List ℕ) (g : Result Capacity Refusal) (deadline : ℕ) (z : List ℕ) (q : Gated b g) where
+  pub made_shut : (refusal : Refusal) → g ≡ Err refusal → StepMade b b deadline z z (stepped_no (refusal_number refusal))
   unfolding on_area answerBytes
-  made_shut r n e = record {
-    answer = call_shut stepped_no stepped_yes b (step (record { 0 = deadline }) (length z)) g q r n e;
-    buffer = ap (λ (w : Answer × List ℕ). sets z 0 (answerBytes w.0)) (call_shut no same b (outcome (calls.step (record { 0 = deadline }) (length z))) g q (no g.refusal) n refl);
+  made_shut refusal e = record {
+    answer = call_shut stepped_no stepped_yes b (step (record { 0 = deadline }) (length z)) g q (stepped_no (refusal_number refusal)) refusal e refl;
+    buffer = ap (λ (w : Answer × List ℕ). sets z 0 (answerBytes w.0))
+        (call_shut no same b (outcome (calls.step (record { 0 = deadline }) (length z))) g q (no (refusal_number refusal)) refusal e refl);
   }
 
-  pub made_done : (b' z' : List ℕ) (r : SteppedAnswer) → g.refusal ≤ 0 → StepDone b b' deadline z z' r → StepMade b b' deadline z z' r
+  pub made_done : (F : Capacity) (b' z' : List ℕ) (r : SteppedAnswer) → g ≡ Ok F → StepDone b b' deadline z z' r → StepMade b b' deadline z z' r
   unfolding on_area call
-  made_done b' z' r y d =
-      let e : eqb (gate b) 0 ≡ true = eq-eqb (gate b) 0 (sym q.code ∙ (let w : g.refusal ≡ 0 = omega arith in w)) in
+  made_done F b' z' r y d =
+      let e : eqb (gate b) 0 ≡ true = eq-eqb (gate b) 0 (sym q.code ∙ ap answer_number y) in
       let f : State → Out Stepped = step (record { 0 = deadline }) (length z) in
       let f' : State → Out Answer = outcome (calls.step (record { 0 = deadline }) (length z)) in
       record {

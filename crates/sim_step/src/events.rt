@@ -85,10 +85,10 @@ pub fn event_fits(area: &[u8], f: Capacity, e: Earliest) -> bool
     let time = e.time;
     let event = e.event;
     let run = state_header::run_of(area, f);
-    let count = sim_outputs::sum64(run.events, 1);
+    let count = run.events.checked_add(1);
     let room = room_after(area, f);
     let fits = process_fits(area, f, time.0, room, event);
-    count.fits & fits
+    count.is_some() & fits
 }
 
 // ---- what is done
@@ -126,10 +126,10 @@ pub fn pop_event(area: &mut [u8], f: Capacity, time: SimTime)
     ensures { Changes area.old area.new f (popped time) }
 {
     let run = state_header::run_of(area, f);
-    let count = sim_outputs::sum64(run.events, 1);
+    let count = run.events.checked_add(1);
     state_queue::take_event(area, f);
     state_header::set_now(area, f, time);
-    state_header::set_events(area, f, count.value);
+    state_header::set_events(area, f, count.unwrap_or(0));
 }
 
 // An event happens; its message has so many bytes.

@@ -3,6 +3,8 @@
 
 ghost use Rattle.std.specs.Prelude.{◌≤◌, ◌<◌, length};
 ghost use Rattle.state.specs.Changes.{Inside, Gated, Reads, Changes};
+ghost use Rattle.units.specs.Refusals.{answer_number};
+ghost use Rattle.answers.specs.Answers.{stepped_answer};
 ghost use Rattle.sim_outputs.specs.Outputs.{Passed};
 ghost use Rattle.sim_step.specs.Steps.{
   StepMade,
@@ -15,30 +17,31 @@ ghost use Rattle.sim_step.specs.Steps.{
   Taken,
 };
 
-use answers::{InputNumbers, SteppedAnswer, opened};
+use answers::{InputNumbers, SteppedAnswer};
 use queue::table::Earliest;
-use state::{Capacity, Gate};
+use state::Capacity;
 use units::SimTime;
+use units::refusal::Refusal;
 
 pub mod events; // the first event: whether the state after it fits, and what it does
 
-// Questions 6 and 9 of a step, into a buffer of so many bytes, or 0.
-fn step_code(area: &[u8], f: Capacity, deadline: u64, size: u64) -> u64
+// Questions 6 and 9 of a step, into a buffer of so many bytes.
+fn step_asked(area: &[u8], f: Capacity, deadline: u64, size: u64) -> Result<(), Refusal>
     requires { Inside area.now f }
-    ensures { Reads area.now f result (step_code deadline size) }
+    ensures { Reads area.now f (answer_number result) (step_code deadline size) }
 {
     let limits = f.limits;
     let open = state_header::open_of(area, f);
     if open.phase != 0 {
-        return 6;
+        return Err(Refusal::Phase);
     }
     if 4611686018427387904 < deadline {
-        return 9;
+        return Err(Refusal::Argument);
     }
     if size < limits.message {
-        return 9;
+        return Err(Refusal::Argument);
     }
-    0
+    Ok(())
 }
 
 // The time is raised to the deadline.
@@ -66,60 +69,76 @@ fn take_step(area: &mut [u8], f: Capacity, e: Earliest, buffer: &mut [u8]) -> In
     events::process(area, f, event, e.length)
 }
 
-// The first event, if it is due, happens; else the time rises.
+// The first event, if it is due, happens, and the input that it opens is given; else the time rises.
 fn step_next(
     area: &mut [u8],
     f: Capacity,
     deadline: u64,
     e: Earliest,
     buffer: &mut [u8],
-) -> SteppedAnswer
+) -> Result<Option<InputNumbers>, Refusal>
     requires next { Next area.old f e }
     requires asked { Asked area.old f deadline (length buffer.old) }
-    ensures { StepDone area.old area.new deadline buffer.old buffer.new result }
+    ensures { StepDone area.old area.new deadline buffer.old buffer.new (stepped_answer result) }
 {
     let time = e.time;
     if deadline < time.0 {
         raise_now(area, f, deadline);
-        return opened::stepped(0, answers::no_input());
+        return Ok(None);
     }
     if !events::event_fits(area, f, e) {
-        return opened::stepped_no(10);
+        return Err(Refusal::Room);
     }
     let input = take_step(area, f, e, buffer);
-    opened::stepped(1, input)
+    Ok(Some(input))
 }
 
 // A step behind the gate.
-fn step_passed(area: &mut [u8], f: Capacity, deadline: u64, buffer: &mut [u8]) -> SteppedAnswer
+fn step_passed(
+    area: &mut [u8],
+    f: Capacity,
+    deadline: u64,
+    buffer: &mut [u8],
+) -> Result<Option<InputNumbers>, Refusal>
     requires { Passed area.old f }
-    ensures { StepDone area.old area.new deadline buffer.old buffer.new result }
+    ensures { StepDone area.old area.new deadline buffer.old buffer.new (stepped_answer result) }
 {
     let size = buffer.len() as u64;
-    let code = step_code(area, f, deadline, size);
-    if 0 < code {
-        return opened::stepped_no(code);
-    }
+    step_asked(area, f, deadline, size)?;
     let next = state_queue::first_event(area, f);
     match next {
         None => {
             raise_now(area, f, deadline);
-            opened::stepped(0, answers::no_input())
+            Ok(None)
         }
         Some(e) => step_next(area, f, deadline, e, buffer),
     }
 }
 
+// The input that a step opens, none where no event was due, or the refusal.
+fn stepped(
+    area: &mut [u8],
+    g: Result<Capacity, Refusal>,
+    deadline: u64,
+    buffer: &mut [u8],
+) -> Result<Option<InputNumbers>, Refusal>
+    requires { Gated area.old g }
+    ensures { StepMade area.old area.new deadline buffer.old buffer.new (stepped_answer result) }
+{
+    let f = g?;
+    step_passed(area, f, deadline, buffer)
+}
+
 // The first event at or before the deadline happens; where there is none, the time rises to the deadline. The bytes of a message that opens
 // go to the front of the buffer.
-pub fn step_in(area: &mut [u8], g: Gate, deadline: u64, buffer: &mut [u8]) -> SteppedAnswer
+pub fn step_in(
+    area: &mut [u8],
+    g: Result<Capacity, Refusal>,
+    deadline: u64,
+    buffer: &mut [u8],
+) -> SteppedAnswer
     requires { Gated area.old g }
     ensures { StepMade area.old area.new deadline buffer.old buffer.new result }
 {
-    let refusal = g.refusal;
-    let f = g.capacity;
-    if 0 < refusal {
-        return opened::stepped_no(refusal);
-    }
-    step_passed(area, f, deadline, buffer)
+    SteppedAnswer::from(stepped(area, g, deadline, buffer))
 }

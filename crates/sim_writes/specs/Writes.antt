@@ -1,7 +1,9 @@
 -- What the writes of an input ask (lib.rt): what their contracts cite. Assumes nothing.
-use Rattle.std.specs.Prelude.{◌≡◌, List, ℕ, ◌*◌, ◌≤◌, ◌<◌, eqb, leb}
+use Rattle.std.specs.Prelude.{◌≡◌, List, ℕ, ◌*◌, ◌≤◌, ◌<◌, eqb, leb, Result, Ok}
 use Rattle.laws.specs.Bools.{pick, ◌and◌}
 use Rattle.units.specs.Types.{payload_of}
+use Rattle.units.specs.declared.refusal.Refusal.{Refusal}
+use Rattle.units.specs.Refusals.{answer_number}
 use Rattle.storage.specs.Storage.{write_put}
 use Rattle.storage.specs.declared.HardState.{HardState}
 use Rattle.model.specs.State.{State}
@@ -12,17 +14,16 @@ use Rattle.state.specs.Parts.{phase_kind}
 use Rattle.state.specs.Area.{Area, capacity_of}
 use Rattle.state.specs.Changes.{Changes, Planned, Reads}
 use Rattle.state_disk.specs.Disks.{written}
-use Rattle.sim_writes.specs.declared.WritingAsked.{WritingAsked}
 use Rattle.state_header.specs.Header.{open_slot}
 
 -- Question 6 of a write: 0 in the phase of writing, else 6.
 unfoldable pub writing_code : State → ℕ
 writing_code s = pick (eqb (phase_kind s.phase) 1) 0 6
 
--- What was asked of the phase: the refusal; where it is 0, the place of the open input's server.
-pub record AsksWriting (b : List ℕ) (F : Capacity) (r : WritingAsked) : Type 0 where
-  pub code : Reads b F r.code writing_code
-  pub slot : r.code ≡ 0 → Reads b F r.slot open_slot
+-- What was asked of the phase: the refusal, or the place of the open input's server.
+pub record AsksWriting (b : List ℕ) (F : Capacity) (r : Result ℕ Refusal) : Type 0 where
+  pub code : Reads b F (answer_number r) writing_code
+  pub slot : (slot : ℕ) → r ≡ Ok slot → Reads b F slot open_slot
 
 -- The hard state of a term, a flag and a vote.
 unfoldable pub hard_state_given : ℕ → ℕ → ℕ → HardState
@@ -44,8 +45,8 @@ put_of k index term kind bytes s =
 unfoldable pub entry_put : ℕ → ℕ → ℕ → ℕ → List ℕ → State → State
 entry_put k index term kind bytes = written k (write_put (record { 0 = index }) (record { term = record { 0 = term }; payload = payload_of kind bytes }))
 
--- r is what such a put answers; where it is 0 the entry is put, else nothing has changed.
-pub record PutsAt (b b' : List ℕ) (F : Capacity) (k index term kind : ℕ) (bytes : List ℕ) (r : ℕ) : Type 0 where
-  pub plan : Planned b F r (put_of k index term kind bytes) tt (entry_put k index term kind bytes)
-  pub changes : r ≡ 0 → Changes b b' F (entry_put k index term kind bytes)
-  pub kept : (s : State) → Area b s → F ≡ capacity_of s → 0 < r → b' ≡ b
+-- r is what such a put answers: the entry is put, or it is refused, and nothing has changed.
+pub record PutsAt (b b' : List ℕ) (F : Capacity) (k index term kind : ℕ) (bytes : List ℕ) (r : Result (Unit {0}) Refusal) : Type 0 where
+  pub plan : Planned b F r (put_of k index term kind bytes) (λ u. tt) (λ u. entry_put k index term kind bytes)
+  pub changes : (u : Unit {0}) → r ≡ Ok u → Changes b b' F (entry_put k index term kind bytes)
+  pub kept : (s : State) → Area b s → F ≡ capacity_of s → 0 < answer_number r → b' ≡ b

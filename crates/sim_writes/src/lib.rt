@@ -5,33 +5,25 @@ ghost use Rattle.std.specs.Prelude.{◌≡◌, ◌≤◌, ◌<◌};
 ghost use Rattle.model.specs.Calls.{write_hard_state_call, write_put_call, write_truncate_call};
 ghost use Rattle.state.specs.Changes.{Inside, Gated};
 ghost use Rattle.state.specs.Call.{call};
-ghost use Rattle.answers.specs.Answers.{done_no, done_yes};
+ghost use Rattle.answers.specs.Answers.{done_no, done_yes, done_answer};
 ghost use Rattle.sim_writes.specs.Writes.{AsksWriting, hard_state_given, MostBytes, PutsAt};
 
 use answers::DoneAnswer;
-use state::{Capacity, Gate};
+use state::Capacity;
 use storage::HardState;
+use units::refusal::Refusal;
 use units::{LogIndex, NodeId, Term};
 
-// What a write asks of the phase: 0, or 6; the place of the open input's server.
-#[derive(Clone, Copy)]
-pub struct WritingAsked {
-    pub code: u64,
-    pub slot: u64,
-}
-
-// Question 6 of a write.
-fn writing_asked(area: &[u8], f: Capacity) -> WritingAsked
+// Question 6 of a write, and the place of the open input's server.
+fn writing_slot(area: &[u8], f: Capacity) -> Result<u64, Refusal>
     requires { Inside area.now f }
     ensures { AsksWriting area.now f result }
 {
     let open = state_header::open_of(area, f);
-    let phase = open.phase;
-    let slot = open.slot;
-    if phase != 1 {
-        return WritingAsked { code: 6, slot: 0 };
+    if open.phase != 1 {
+        return Err(Refusal::Phase);
     }
-    WritingAsked { code: 0, slot }
+    Ok(open.slot)
 }
 
 // ---- term and vote
@@ -53,10 +45,30 @@ fn hard_state_given(term: u64, present: u64, vote: u64) -> HardState
     }
 }
 
+// Term and vote written, or the refusal.
+fn hard_state_written(
+    area: &mut [u8],
+    g: Result<Capacity, Refusal>,
+    term: u64,
+    present: u64,
+    vote: u64,
+) -> Result<(), Refusal>
+    requires { Gated area.old g }
+    ensures { (done_answer result, area.new) ≡ call done_no done_yes area.old (write_hard_state_call (record { 0 = term }) present vote) }
+{
+    let f = g?;
+    let slot = writing_slot(area, f)?;
+    if 1 < present {
+        return Err(Refusal::Argument);
+    }
+    let state = hard_state_given(term, present, vote);
+    state_disk::write_hard_state(area, f, slot as usize, state)
+}
+
 // Term and vote written.
 pub fn write_hard_state_in(
     area: &mut [u8],
-    g: Gate,
+    g: Result<Capacity, Refusal>,
     term: u64,
     present: u64,
     vote: u64,
@@ -64,23 +76,7 @@ pub fn write_hard_state_in(
     requires { Gated area.old g }
     ensures { (result, area.new) ≡ call done_no done_yes area.old (write_hard_state_call (record { 0 = term }) present vote) }
 {
-    let refusal = g.refusal;
-    let f = g.capacity;
-    if 0 < refusal {
-        return answers::done(refusal);
-    }
-    let w = writing_asked(area, f);
-    let code = w.code;
-    let slot = w.slot;
-    if 0 < code {
-        return answers::done(code);
-    }
-    if 1 < present {
-        return answers::done(9);
-    }
-    let state = hard_state_given(term, present, vote);
-    let wrote = state_disk::write_hard_state(area, f, slot as usize, state);
-    answers::done(wrote)
+    DoneAnswer::from(hard_state_written(area, g, term, present, vote))
 }
 
 // ---- an entry
@@ -93,7 +89,7 @@ fn most_bytes(kind: u64, limit: u64) -> u64
     if kind == 0 { 0 } else { limit }
 }
 
-// Questions 8 and 9 of an entry that is put, and its write: what is answered.
+// Questions 8 and 9 of an entry that is put, and its write.
 fn put_at(
     area: &mut [u8],
     f: Capacity,
@@ -102,33 +98,50 @@ fn put_at(
     term: u64,
     kind: u64,
     payload: &[u8],
-) -> u64
+) -> Result<(), Refusal>
     requires inside { Inside area.old f }
     requires k_lt_servers { k < f.servers }
     ensures { PutsAt area.old area.new f k index term kind payload.now result }
 {
     let limits = f.limits;
     if index < 1 {
-        return 8;
+        return Err(Refusal::LogIndex);
     }
     if limits.log_indexes < index {
-        return 8;
+        return Err(Refusal::LogIndex);
     }
     if 1 < kind {
-        return 9;
+        return Err(Refusal::Argument);
     }
     let most = most_bytes(kind, limits.payload);
     if most < (payload.len() as u64) {
-        return 9;
+        return Err(Refusal::Argument);
     }
     let given = units::payload_of(kind, payload);
     state_disk::write_put(area, f, k as usize, LogIndex(index), Term(term), given)
 }
 
+// An entry put at an index of the log, or the refusal.
+fn entry_put(
+    area: &mut [u8],
+    g: Result<Capacity, Refusal>,
+    index: u64,
+    term: u64,
+    kind: u64,
+    payload: &[u8],
+) -> Result<(), Refusal>
+    requires { Gated area.old g }
+    ensures { (done_answer result, area.new) ≡ call done_no done_yes area.old (write_put_call (record { 0 = index }) (record { 0 = term }) kind payload.now) }
+{
+    let f = g?;
+    let slot = writing_slot(area, f)?;
+    put_at(area, f, slot, index, term, kind, payload)
+}
+
 // An entry put at an index of the log.
 pub fn write_put_in(
     area: &mut [u8],
-    g: Gate,
+    g: Result<Capacity, Refusal>,
     index: u64,
     term: u64,
     kind: u64,
@@ -137,39 +150,25 @@ pub fn write_put_in(
     requires { Gated area.old g }
     ensures { (result, area.new) ≡ call done_no done_yes area.old (write_put_call (record { 0 = index }) (record { 0 = term }) kind payload.now) }
 {
-    let refusal = g.refusal;
-    let f = g.capacity;
-    if 0 < refusal {
-        return answers::done(refusal);
-    }
-    let w = writing_asked(area, f);
-    let code = w.code;
-    let slot = w.slot;
-    if 0 < code {
-        return answers::done(code);
-    }
-    let wrote = put_at(area, f, slot, index, term, kind, payload);
-    answers::done(wrote)
+    DoneAnswer::from(entry_put(area, g, index, term, kind, payload))
 }
 
 // ---- the log cut
 
+// The log truncated from an index on, or the refusal.
+fn log_truncated(area: &mut [u8], g: Result<Capacity, Refusal>, from: u64) -> Result<(), Refusal>
+    requires { Gated area.old g }
+    ensures { (done_answer result, area.new) ≡ call done_no done_yes area.old (write_truncate_call (record { 0 = from })) }
+{
+    let f = g?;
+    let slot = writing_slot(area, f)?;
+    state_disk::write_truncate(area, f, slot as usize, LogIndex(from))
+}
+
 // The log truncated from an index on.
-pub fn write_truncate_in(area: &mut [u8], g: Gate, from: u64) -> DoneAnswer
+pub fn write_truncate_in(area: &mut [u8], g: Result<Capacity, Refusal>, from: u64) -> DoneAnswer
     requires { Gated area.old g }
     ensures { (result, area.new) ≡ call done_no done_yes area.old (write_truncate_call (record { 0 = from })) }
 {
-    let refusal = g.refusal;
-    let f = g.capacity;
-    if 0 < refusal {
-        return answers::done(refusal);
-    }
-    let w = writing_asked(area, f);
-    let code = w.code;
-    let slot = w.slot;
-    if 0 < code {
-        return answers::done(code);
-    }
-    let wrote = state_disk::write_truncate(area, f, slot as usize, LogIndex(from));
-    answers::done(wrote)
+    DoneAnswer::from(log_truncated(area, g, from))
 }

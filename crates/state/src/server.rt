@@ -8,7 +8,8 @@ use protocol::{Role, Status};
 use storage::{HardState, StorageState};
 use units::{LogIndex, NodeId, Term};
 
-// ---- what may be absent: a flag and a number
+// ---- what may be absent: a flag and a number, two words of a row. The definitions by which the area is read (`node_flag`, `term_flag` and the
+// numbers, specs/Parts) are by cases, and contracts cite them; so the code has the same cases.
 
 // A vote or a leader from its flag and number.
 pub fn node_of(flag: u64, id: u64) -> Option<NodeId>

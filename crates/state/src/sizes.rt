@@ -14,13 +14,21 @@ fn product(rows: u64, words: usize) -> usize
     rows as usize * words
 }
 
+// So many rows of `more` words and the words of so many bytes.
+fn padded_rows(rows: u64, more: usize, bytes: u64) -> usize
+    requires { (rows ≤ 65536) × (more ≤ 7) × (bytes ≤ 65536) }
+    ensures { Product rows (more + words_for bytes) result }
+{
+    product(rows, more + (bytes as usize + 7) / 8)
+}
+
 // The words of a log.
 pub fn log_words(f: Capacity) -> usize
     requires { Within f }
     ensures { Counted result (log_words f) }
 {
     let limits = f.limits;
-    product(limits.log_indexes, 2 + (limits.payload as usize + 7) / 8)
+    padded_rows(limits.log_indexes, 2, limits.payload)
 }
 
 // The words of the waiting writes.
@@ -29,7 +37,7 @@ pub fn waiting_words(f: Capacity) -> usize
     ensures { Counted result (waiting_words f) }
 {
     let limits = f.limits;
-    product(limits.writes, 3 + (limits.payload as usize + 7) / 8)
+    padded_rows(limits.writes, 3, limits.payload)
 }
 
 // The words of a server's block.
@@ -49,7 +57,7 @@ pub fn queue_words(f: Capacity) -> usize
     ensures { Counted result (queue_words f) }
 {
     let limits = f.limits;
-    product(limits.events, 7 + (limits.message as usize + 7) / 8)
+    padded_rows(limits.events, 7, limits.message)
 }
 
 // The words of the entries seen.
@@ -58,7 +66,7 @@ pub fn seen_words(f: Capacity) -> usize
     ensures { Counted result (seen_words f) }
 {
     let limits = f.limits;
-    product(limits.history, 3 + (limits.payload as usize + 7) / 8)
+    padded_rows(limits.history, 3, limits.payload)
 }
 
 // The words of the applied payloads.
@@ -67,7 +75,7 @@ pub fn applied_words(f: Capacity) -> usize
     ensures { Counted result (applied_words f) }
 {
     let limits = f.limits;
-    product(limits.log_indexes, 1 + (limits.payload as usize + 7) / 8)
+    padded_rows(limits.log_indexes, 1, limits.payload)
 }
 
 // The word at which the queue begins.

@@ -4,14 +4,14 @@ use Rattle.std.proofs.Math.Path.{refl}
 use Rattle.std.proofs.Common.{sym, ap, subst, ◌∙◌, arith, leb-true, lt-ltb}
 use Rattle.laws.proofs.BoolLaws.{and_both}
 use Rattle.words.specs.Words.{Bytes}
-use Rattle.units.specs.Types.{Payload, payload_of}
+use Rattle.units.specs.Types.{Payload}
 use Rattle.units.specs.declared.LogIndex.{LogIndex}
 use Rattle.layout.specs.Tables.{Holds, Held}
 use Rattle.layout.specs.Parts.{lent_row}
 use Rattle.layout.specs.Marked.{words_for, sounds}
-use Rattle.layout.specs.Payload.{payload, payload_marking}
+use Rattle.layout.specs.Payload.{body_of, payload, payload_marking}
 use Rattle.layout.specs.MarkedCalls.{Puts}
-use Rattle.layout.specs.MarkedLaws.{kind_sound}
+use Rattle.layout.specs.MarkedLaws.{payload_sound}
 use Rattle.layout.specs.Applied.{applied}
 use Rattle.checks.specs.declared.Check.TheVariants.{ApplyOrder, StateMachineSafety}
 use Rattle.checks.specs.Checks.{Checker, report_if, on_apply}
@@ -197,13 +197,8 @@ row_asked {b} {F} {k} {index} {content} {expected} {n} {at} {w} {counts} {r} f i
 
 -- ---- payload_asked
 
-pub payload_asked : {b : List ℕ} {F : Capacity} {k : ℕ} {index : LogIndex} (kind : ℕ)
-    (src : List ℕ) {content content' : List ℕ} {r : Result ApplyAsked Refusal} → Inside b F → kind ≤ 1
-    → length src ≤ 256 * kind → length src ≤ F.limits.payload → Bytes src → length content ≡ 8 * (1 + words_for F.limits.payload)
-    → Puts payload_marking (payload_of kind src) content content' → AsksRow b F k index content' r
-    → Asks b F (ApplyTold k index (payload_of kind src) r)
-payload_asked {F = F} kind src i hk hl hp hb lc p q =
-    q.to (payload_of kind src)
-    (p.to F.limits.payload lc
-    (sounds payload_marking F.limits.payload (payload_of kind src)
-    (kind_sound kind src hk hl F.limits.payload hp i.within.limits.payload hb)))
+pub payload_asked : {b : List ℕ} {F : Capacity} {k : ℕ} {index : LogIndex} (y : Payload) {content content' : List ℕ} {r : Result ApplyAsked Refusal}
+    → Inside b F → length (body_of y) ≤ F.limits.payload → Bytes (body_of y) → length content ≡ 8 * (1 + words_for F.limits.payload)
+    → Puts payload_marking y content content' → AsksRow b F k index content' r → Asks b F (ApplyTold k index y r)
+payload_asked {F = F} y i hp hb lc p q =
+    q.to y (p.to F.limits.payload lc (sounds payload_marking F.limits.payload y (payload_sound F.limits.payload y hp i.within.limits.payload hb)))

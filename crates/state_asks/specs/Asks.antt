@@ -1,7 +1,7 @@
 -- The questions of checks.rs over the state that an area holds: what is asked, and what the answers say. Assumes nothing.
 use Rattle.std.specs.Prelude.{◌≡◌, Bool, true, false, not, List, map, ℕ, ◌+◌, ◌-◌, ◌*◌, ◌≤◌, eqb, length, Option, None, Some, Ok, Err}
 use Rattle.laws.specs.Bools.{pick}
-use Rattle.laws.specs.Lists.{at}
+use Rattle.laws.specs.Lists.{at, is_some}
 use Rattle.laws.specs.Order.{numbers, lookup}
 use Rattle.units.specs.Types.{Payload, Entry}
 use Rattle.units.specs.declared.LogIndex.{LogIndex}
@@ -11,6 +11,7 @@ use Rattle.layout.specs.Payload.{payload}
 use Rattle.raft_log.specs.Log.{Log, entry_at}
 use Rattle.storage.specs.Storage.{Write, written}
 use Rattle.checks.specs.declared.Mismatch.{Mismatch}
+use Rattle.checks.specs.Compared.{is_new}
 use Rattle.checks.specs.Checks.{Checker, Led, Acknowledged, leader_key, on_apply, on_writes, on_status, log_matching_failure}
 use Rattle.checks.specs.Checks.{check_log_matching, highest_of, check_durability}
 use Rattle.std.specs.declared.result.Result.{Result}
@@ -98,18 +99,19 @@ log_of k s = (server_at s k).storage.current.log
 unfoldable pub after_status : ℕ → Status → State → Led
 after_status k status s = on_status (raft_checks_of s) s.checker s.now (id_of k) status (log_of k s) (server_at s k).leading
 
--- The answer for a state: 10 exactly where what the definition gives does not fit; flags that say what it does, and whether the server
--- leads; and a leader to be kept is the first of its term.
-pub record StatusTold (k : ℕ) (status : Status) (r : StatusAsked) (s : State) : Type 0 where
-  pub code : r.code ≡ checker_code s (after_status k status s).checker
-  pub does : (after_status k status s).checker ≡ status_acts r s.checker s.now (id_of k) status.term
-  pub led : (after_status k status s).leading ≡ pick r.leads (Some status.term) None
-  pub absent : r.fresh ≡ true → lookup numbers leader_key status.term.0 s.checker.leaders ≡ None
+-- The answer for a state: what the definition does, and whether the server leads, exactly where what it gives fits, else question 10 is
+-- answered no; and a leader to be kept is the first of its term.
+pub record StatusTold (k : ℕ) (status : Status) (r : Result (Option StatusAsked) Refusal) (s : State) : Type 0 where
+  pub asked : Option StatusAsked
+  pub is : r ≡ pick (checker_fits s.config s.limits (after_status k status s).checker) (Ok asked) (Err Room)
+  pub does : (after_status k status s).checker ≡ status_acts asked s.checker s.now (id_of k) status.term
+  pub led : (after_status k status s).leading ≡ pick (is_some asked) (Some status.term) None
+  pub absent : (x : StatusAsked) → asked ≡ Some x → is_new x.seen ≡ true → lookup numbers leader_key status.term.0 s.checker.leaders ≡ None
 
 -- The same where the numbers are the state's: how many leaders and applied payloads there are, the total of violations, whether leader
 -- completeness is asked for, and the term that the server leads.
-pub record StatusGiven (leaders applied total : ℕ) (raft_checks : Bool) (leading : Option Term) (k : ℕ) (status : Status) (r : StatusAsked)
-    (s : State) : Type 0 where
+pub record StatusGiven (leaders applied total : ℕ) (raft_checks : Bool) (leading : Option Term) (k : ℕ) (status : Status)
+    (r : Result (Option StatusAsked) Refusal) (s : State) : Type 0 where
   pub to : leaders ≡ length s.checker.leaders → applied ≡ length s.checker.applied → total ≡ s.checker.total
       → raft_checks ≡ raft_checks_of s
       → leading ≡ leading_of k s → StatusTold k status r s
@@ -140,14 +142,16 @@ pub record PayloadTold (k : ℕ) (index : LogIndex) (content : List ℕ) (s : St
 unfoldable pub after_writes : ℕ → State → Checker
 after_writes k s = on_writes s.checker s.now (id_of k) (log_of k s) (written (waiting_of k s))
 
--- The answer for a state: 10 exactly where what the definition gives does not fit, how many entries are new, and how many reports are due.
-pub record WritesTold (k : ℕ) (r : WritesAsked) (s : State) : Type 0 where
-  pub code : r.code ≡ checker_code s (after_writes k s)
-  pub added : length (after_writes k s).entries ≡ length s.checker.entries + r.added
-  pub reports : (after_writes k s).total ≡ s.checker.total + r.reports
+-- The answer for a state: how many entries are new, and how many reports are due, exactly where what the definition gives fits; else
+-- question 10 is answered no.
+pub record WritesTold (k : ℕ) (r : Result WritesAsked Refusal) (s : State) : Type 0 where
+  pub asked : WritesAsked
+  pub is : r ≡ pick (checker_fits s.config s.limits (after_writes k s)) (Ok asked) (Err Room)
+  pub added : length (after_writes k s).entries ≡ length s.checker.entries + asked.added
+  pub reports : (after_writes k s).total ≡ s.checker.total + asked.reports
 
 -- The same where the numbers are the state's: how many writes wait, how many entries were seen, and the total of violations.
-pub record WritesGiven (writes seen total k : ℕ) (r : WritesAsked) (s : State) : Type 0 where
+pub record WritesGiven (writes seen total k : ℕ) (r : Result WritesAsked Refusal) (s : State) : Type 0 where
   pub to : writes ≡ write_count_of k s → seen ≡ length s.checker.entries → total ≡ s.checker.total → WritesTold k r s
 
 -- ---- log matching
@@ -214,16 +218,17 @@ acknowledged_of s = acknowledged_from s.config.command_bytes s.replies
 unfoldable pub after_durability : State → Checker
 after_durability s = check_durability s.checker s.now (acknowledged_of s) (applied_from 0 s.servers)
 
--- The answer for a state: 10 exactly where what the definition gives does not fit, how many reports are due, and the highest acknowledged
--- index.
-pub record DurabilityTold (r : DurabilityAsked) (s : State) : Type 0 where
-  pub code : r.code ≡ checker_code s (after_durability s)
-  pub reports : (after_durability s).total ≡ s.checker.total + r.reports
-  pub highest : r.highest ≡ highest_of (acknowledged_of s)
+-- The answer for a state: how many reports are due, and the highest acknowledged index, exactly where what the definition gives fits; else
+-- question 10 is answered no.
+pub record DurabilityTold (r : Result DurabilityAsked Refusal) (s : State) : Type 0 where
+  pub asked : DurabilityAsked
+  pub is : r ≡ pick (checker_fits s.config s.limits (after_durability s)) (Ok asked) (Err Room)
+  pub reports : (after_durability s).total ≡ s.checker.total + asked.reports
+  pub highest : asked.highest ≡ highest_of (acknowledged_of s)
 
 -- The same where the numbers are the state's: how many replies and applied payloads there are, the total of violations, the bytes of a
 -- command, and how far each server has applied.
-pub record DurabilityGiven (replies applied total size : ℕ) (up_to : List ℕ) (r : DurabilityAsked) (s : State) : Type 0 where
+pub record DurabilityGiven (replies applied total size : ℕ) (up_to : List ℕ) (r : Result DurabilityAsked Refusal) (s : State) : Type 0 where
   pub to : replies ≡ length s.replies → applied ≡ length s.checker.applied → total ≡ s.checker.total → size ≡ command_bytes_of s
       → up_to ≡ up_to_of s
       → DurabilityTold r s

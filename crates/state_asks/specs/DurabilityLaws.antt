@@ -8,8 +8,12 @@ use Prim.Native.Nat.{ℕ, zero, suc, ◌+◌, ◌-◌, ◌*◌, ◌^◌, ◌≤�
 use Rattle.std.proofs.Math.ListN.{length, take, length-set}
 use Rattle.std.proofs.Math.Seq.{take-suc-set, take_all}
 use borrow.Author.Tests.{leb-true, lt-ltb}
-use Rattle.laws.specs.Bools.{and_left, every}
-use Rattle.laws.proofs.BoolLaws.{allb_in, and_right, and_both}
+use Rattle.std.specs.declared.result.Result.{Result}
+use Rattle.laws.specs.Bools.{pick, and_left, every}
+use Rattle.laws.proofs.BoolLaws.{allb_in, and_right, and_both, true_and}
+use Rattle.units.specs.declared.refusal.Refusal.{Refusal}
+use Rattle.checks.specs.Asked.{counts_code, where_fits}
+use Rattle.checks.specs.AskedLaws.{where_coded}
 use Rattle.laws.specs.Lists.{at as at'}
 use Rattle.units.specs.declared.SimTime.{SimTime}
 use Rattle.words.specs.Words.{W}
@@ -29,14 +33,14 @@ use Rattle.checks.specs.Checks.{Checker, Acknowledged, AppliedUpTo, is_payload, 
 use Rattle.checks.specs.Checks.{check_durability}
 use Rattle.checks_durability.specs.declared.replies.Reply.{Reply}
 use Rattle.checks_durability.specs.declared.DurabilityAsked.{DurabilityAsked}
-use Rattle.checks_durability.specs.Durability.{total_code, AsksDurability}
+use Rattle.checks_durability.specs.Durability.{AsksDurability}
 use Rattle.checks_durability.specs.Replies as replied
 use Rattle.checks_durability.specs.Replies.{replies, Replied}
 use Rattle.checks_durability.specs.Acknowledged.{acknowledged_from, is_applied, Misses}
 use Rattle.checks_durability.specs.Servers.{servers_from}
 use Rattle.model.specs.State.{State, Server, new_server, id_of}
 use Rattle.model.specs.Calls.{applied_from}
-use Rattle.model.specs.Fits.{server_fits, server_tests, table_fits}
+use Rattle.model.specs.Fits.{server_fits, server_tests, table_fits, checker_fits}
 use Rattle.state.specs.declared.Capacity.{Capacity}
 use Rattle.state.specs.declared.TableCounts.{TableCounts}
 use Rattle.state.specs.Sizes.{replies_at, applied_at, applied_words, Counted}
@@ -46,7 +50,7 @@ use Rattle.state.specs.FitsBy.{fits_test, server_count}
 use Rattle.state.specs.Changes.{Reads}
 use Rattle.state_asks.specs.Asks.{AtMost, Rows, Begins, Asks, next_apply_of, command_bytes_of, applied_by, applied_of, up_to_of, index_in}
 use Rattle.state_asks.specs.Asks.{reply_index_of, missing_in, reply_missing_of, acknowledged_of, after_durability, DurabilityTold}
-use Rattle.state_asks.specs.Asks.{DurabilityGiven}
+use Rattle.state_asks.specs.Asks.{DurabilityGiven, checker_code}
 use Rattle.state_asks.specs.Lent.{settings_lent, replies_lent, applied_lent}
 use Rattle.state_asks.specs.Rows.{Sound, Reported, detail_fits, reported_none, reported_if_lem, reported_then, reported_code, area_sound}
 use Rattle.state_asks.specs.Rows.{few_applied, now_fits}
@@ -265,13 +269,13 @@ record Learnt (F : Capacity) (count payloads size n m bytes at from v : ℕ) : T
   applied_begins : from ≡ applied_at F
   applied_words_lem : v ≡ applied_words F
 
-pub durability_given : {b : List ℕ} {F : Capacity} {count payloads total size n m bytes at from v : ℕ} {up_to : List ℕ} {r : DurabilityAsked}
+pub durability_given : {b : List ℕ} {F : Capacity} {count payloads total size n m bytes at from v : ℕ} {up_to : List ℕ} {r : Result DurabilityAsked Refusal}
     → Rows count F.limits.history 5 n → Rows payloads F.limits.log_indexes (1 + words_for F.limits.payload) m
     → AtMost size F.limits.payload bytes
     → Begins b at (replies_at F) (F.limits.history * 5) → Begins b from (applied_at F) (applied_words F) → Counted v (applied_words F)
     → AsksDurability F.limits.payload bytes n m up_to total r (lent_row at (F.limits.history * 5) b) (lent_row from v b)
     → Asks b F (DurabilityGiven count payloads total size up_to r)
-unfolding after_durability acknowledged_of command_bytes_of up_to_of total_code
+unfolding after_durability acknowledged_of command_bytes_of up_to_of counts_code checker_code
 durability_given {b} {F} {count} {payloads} {total} {size} {n} {m} {bytes} {at} {from} {v} {up_to} {r} rr ra short pr pa ca q = record {
   to = λ s h e. record {
     to = λ er ea et es eu.
@@ -299,14 +303,17 @@ durability_given {b} {F} {count} {payloads} {total} {size} {n} {m} {bytes} {at} 
         ap₂ (λ (k : ℕ) (u : List AppliedUpTo). check_durability s.checker s.now (acknowledged_from k s.replies) u) eb
         (ap (servers_from 1) eu ∙ applied_are 0 s.servers) in
         record {
-          code = z.code ∙ ap (λ (d : Checker). total_code d.total) same ∙ sym (reported_code h (durability_reported h));
+          asked = a.asked;
+          is = z.is ∙ ap (λ (d : Checker). where_fits 0 0 d.total a.asked) same
+              ∙ where_coded 0 0 (after_durability s).total (checker_fits s.config s.limits (after_durability s)) a.asked
+              (ap (λ (t : Bool). pick t 0 10) (true_and (ltb (after_durability s).total (2 ^ 64))) ∙ sym (reported_code h (durability_reported h)));
           reports = ap (λ (d : Checker). d.total) (sym same) ∙ z.counted;
           highest = z.highest ∙ ap (λ (k : ℕ). highest_of (acknowledged_from k s.replies)) eb;
         };
   };
 }
 
-pub durability_asked : {b : List ℕ} {F : Capacity} {size : ℕ} {counts : TableCounts} {up_to : List ℕ} {r : DurabilityAsked}
+pub durability_asked : {b : List ℕ} {F : Capacity} {size : ℕ} {counts : TableCounts} {up_to : List ℕ} {r : Result DurabilityAsked Refusal}
     → Reads b F up_to up_to_of → Reads b F size command_bytes_of → Reads b F counts counts_of
     → Asks b F (DurabilityGiven counts.replies counts.applied counts.total size up_to r) → Asks b F (DurabilityTold r)
 durability_asked ru rs rc q = record {

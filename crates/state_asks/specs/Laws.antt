@@ -1,5 +1,5 @@
 -- What the proofs of numbers.rt cite. Assumes nothing.
-use Rattle.std.specs.Prelude.{◌≡◌, refl, List, ℕ, ◌+◌, ◌-◌, ◌*◌, ◌≤◌, ◌<◌, length, get_or, take, drop}
+use Rattle.std.specs.Prelude.{◌≡◌, List, ℕ, ◌+◌, ◌-◌, ◌*◌, ◌≤◌, ◌<◌, min, length, get_or, take, drop}
 use Rattle.std.proofs.Common.{ap, subst, ◌∙◌, arith}
 use Rattle.words.specs.Words.{W}
 use Rattle.layout.specs.Contents.{holds_w}
@@ -11,16 +11,16 @@ use Rattle.state.specs.Sizes.{whole_words, Counted, BlockAt}
 use Rattle.state.specs.SizeLaws.{room}
 use Rattle.state.specs.Area.{capacity_of}
 use Rattle.state.specs.Changes.{Inside, Reads}
-use Rattle.state_asks.specs.Asks.{Rows, Begins, next_apply_of}
+use Rattle.state_asks.specs.Asks.{AtMost, Rows, Begins, next_apply_of}
 use Rattle.state_asks.specs.Lent.{state_lent}
 
 -- ---- rows_of
 
-pub rows_all : (n room w : ℕ) → n ≤ room → Rows n room w n
-rows_all n room w h = record { is = λ _. refl; few = h; bytes = omega (arith, row_start n room w h) }
+pub least_of : (n most r : ℕ) → r ≡ min n most → AtMost n most r
+least_of n most r e = record { is = λ h. omega arith; low = omega arith }
 
-pub rows_most : (n room w : ℕ) → room < n → Rows n room w room
-rows_most n room w h = record { is = λ q. absurd (omega arith); few = omega arith; bytes = omega arith }
+pub rows_counted : (n room w r : ℕ) → AtMost n room r → Rows n room w r
+rows_counted n room w r q = record { is = q.is; few = q.low; bytes = omega (arith, row_start r room w q.low) }
 
 -- ---- where regions begin
 

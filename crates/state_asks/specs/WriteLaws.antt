@@ -32,6 +32,10 @@ use Rattle.queue.specs.Range.{word}
 use Rattle.checks.specs.declared.Check.TheVariants.{UniqueEntries}
 use Rattle.checks.specs.Checks.{Checker, Seen, seen_key, compare_seen, written_entry, on_write, on_writes}
 use Rattle.checks.specs.Asked.{seen_of}
+use Rattle.checks.specs.AskedLaws.{where_coded}
+use Rattle.std.specs.declared.result.Result.{Result}
+use Rattle.units.specs.declared.refusal.Refusal.{Refusal}
+use Rattle.model.specs.Fits.{checker_fits}
 use Rattle.checks.specs.Entries.{seen as seenTable, seen_in, index_within}
 use Rattle.checks.specs.declared.TermLeader.{TermLeader}
 use Rattle.checks.specs.Reports.{leaders_if, applied_if_lem}
@@ -48,7 +52,7 @@ use Rattle.state.specs.Sizes.{block_words, log_words, waiting_words, seen_words,
 use Rattle.state.specs.Area.{Area, capacity_of, counts_of}
 use Rattle.state.specs.Fitting.{laid_limits}
 use Rattle.state.specs.Changes.{Reads}
-use Rattle.state_asks.specs.Asks.{Rows, Begins, Asks, log_of, waiting_of, write_count_of, written_index_of, write_asked_of, PayloadTold}
+use Rattle.state_asks.specs.Asks.{Rows, Begins, Asks, checker_code, log_of, waiting_of, write_count_of, written_index_of, write_asked_of, PayloadTold}
 use Rattle.state_asks.specs.Asks.{after_writes, WritesTold, WritesGiven}
 use Rattle.state_asks.specs.Lent.{lent_is, lent_lent, seen_lent, storage_lent, log_lent, waiting_lent}
 use Rattle.state_asks.specs.Rows.{Sound, detail_fits, sound_if, sound_seen, code_entries, area_sound, few_leaders, few_applied}
@@ -163,7 +167,7 @@ module _ {b : List ℕ} {s : State} (h : Area b s) (k : ℕ) (i : k < s.config.s
 -- ---- writes_given
 
 -- What the function has of an area of these counts when it asks.
-record Learnt (F : Capacity) (b : List ℕ) (k writes seen total m n to at l w v : ℕ) (r : WritesAsked) : Type 0 where
+record Learnt (F : Capacity) (b : List ℕ) (k writes seen total m n to at l w v : ℕ) (r : Result WritesAsked Refusal) : Type 0 where
   place : k < F.servers
   write_rows : Rows writes F.limits.writes (3 + words_for F.limits.payload) m
   seen_rows : Rows seen F.limits.history (3 + words_for F.limits.payload) n
@@ -185,10 +189,10 @@ record Learnt (F : Capacity) (b : List ℕ) (k writes seen total m n to at l w v
         total = total;
       }) r
 
-told : {b : List ℕ} {s : State} {k writes seen total m n to at l w v : ℕ} {r : WritesAsked} → Area b s
+told : {b : List ℕ} {s : State} {k writes seen total m n to at l w v : ℕ} {r : Result WritesAsked Refusal} → Area b s
     → Learnt (capacity_of s) b k writes seen total m n to at l w v r
     → WritesGiven writes seen total k r s
-unfolding after_writes log_of waiting_of write_count_of
+unfolding after_writes log_of waiting_of write_count_of checker_code
 told {b} {s} {k} {writes} {seen} {total} {m} {n} {to} {at} {l} {w} {v} {r} h q = record {
   to = λ ew es et.
       let G : Capacity = capacity_of s in
@@ -204,16 +208,18 @@ told {b} {s} {k} {writes} {seen} {total} {m} {n} {to} {at} {l} {w} {v} {r} h q =
       (now_fits h) (id_of k) (id_fits h k q.place) log (log_long h k q.place) (log_good h k q.place)
       s.checker (area_sound h) (written ws) in
       record {
-        code = a.code
-            ∙ sym (code_entries s d kept.sound
+        asked = q.asked.asked;
+        is = a.is
+            ∙ where_coded (length d.entries) s.limits.history d.total (checker_fits s.config s.limits d) q.asked.asked
+            (sym (code_entries s d kept.sound
             (ap (λ (x : List TermLeader). leb (length x) s.limits.history) kept.leaders ∙ few_leaders h)
-            (ap (λ (x : List Payload). leb (length x) s.limits.log_indexes) kept.applied ∙ few_applied h));
+            (ap (λ (x : List Payload). leb (length x) s.limits.log_indexes) kept.applied ∙ few_applied h)));
         added = a.added;
         reports = a.reports;
       };
 }
 
-pub writes_given : {b : List ℕ} {F : Capacity} {k writes seen total m n to at l w v : ℕ} {r : WritesAsked} → k < F.servers
+pub writes_given : {b : List ℕ} {F : Capacity} {k writes seen total m n to at l w v : ℕ} {r : Result WritesAsked Refusal} → k < F.servers
     → Rows writes F.limits.writes (3 + words_for F.limits.payload) m
     → Rows seen F.limits.history (3 + words_for F.limits.payload) n
     → Begins b to (512 + k * block_words F) (block_words F) → Begins b at (seen_at F) (seen_words F) → Counted l (log_words F)
@@ -247,7 +253,7 @@ writes_given {b} {F} {k} {writes} {seen} {total} {m} {n} {to} {at} {l} {w} {v} {
 
 -- ---- writes_asked
 
-pub writes_asked : {b : List ℕ} {F : Capacity} {k writes : ℕ} {counts : TableCounts} {r : WritesAsked}
+pub writes_asked : {b : List ℕ} {F : Capacity} {k writes : ℕ} {counts : TableCounts} {r : Result WritesAsked Refusal}
     → Reads b F writes (write_count_of k) → Reads b F counts counts_of
     → Asks b F (WritesGiven writes counts.seen counts.total k r) → Asks b F (WritesTold k r)
 writes_asked rw rc q = record {

@@ -1,7 +1,8 @@
 // A server applied a payload (on_apply of checks.rs).
 ghost use Rattle.std.specs.Prelude.{◌≡◌, ◌+◌, ◌*◌, ◌≤◌, ◌<◌, length};
-ghost use Rattle.units.specs.Types.{payload_of};
+ghost use Rattle.units.specs.Types.{payload_behind};
 ghost use Rattle.layout.specs.Marked.{words_for};
+ghost use Rattle.layout.specs.Payload.{body_of};
 ghost use Rattle.state.specs.Changes.{Inside, Reads};
 ghost use Rattle.state_asks.specs.Asks.{Asks, next_apply_of, ApplyTold, AsksRow};
 
@@ -9,8 +10,8 @@ use crate::numbers;
 use checks_on_apply::ApplyAsked;
 use layout::marked;
 use state::{Capacity, sizes};
-use units::LogIndex;
 use units::refusal::Refusal;
+use units::{LogIndex, PayloadRef};
 
 // The index that the server at a place is expected to apply next.
 pub fn next_apply_of(area: &[u8], f: Capacity, k: usize) -> u64
@@ -57,25 +58,22 @@ fn row_asked(
     )
 }
 
-// The same of a payload by its kind and bytes, whose words are written to `content`.
+// The same of a payload, whose words are written to `content`.
 fn payload_asked(
     area: &[u8],
     f: Capacity,
     k: usize,
     index: LogIndex,
-    kind: u64,
-    src: &[u8],
+    payload: PayloadRef<'_>,
     content: &mut [u8],
 ) -> Result<ApplyAsked, Refusal>
     requires inside { Inside area.now f }
     requires k_lt_servers { k < f.servers }
-    requires kind_bound { kind ≤ 1 }
-    requires src_len_bound { length src.now ≤ 256 * kind }
-    requires src_len_bound_2 { length src.now ≤ f.limits.payload }
+    requires payload_bound { length (body_of (payload_behind payload)) ≤ f.limits.payload }
     requires content_len { length content.old ≡ 8 * (1 + words_for f.limits.payload) }
-    ensures { Asks area.now f (ApplyTold k index (payload_of kind src.now) result) }
+    ensures { Asks area.now f (ApplyTold k index (payload_behind payload.entry) result) }
 {
-    marked::put_payload(content, kind, src);
+    marked::put_payload(content, payload);
     row_asked(area, f, k, index, content)
 }
 
@@ -85,18 +83,15 @@ pub fn apply_asked(
     f: Capacity,
     k: usize,
     index: LogIndex,
-    kind: u64,
-    src: &[u8],
+    payload: PayloadRef<'_>,
 ) -> Result<ApplyAsked, Refusal>
     requires inside { Inside area.now f }
     requires k_lt_servers { k < f.servers }
-    requires kind_bound { kind ≤ 1 }
-    requires src_len_bound { length src.now ≤ 256 * kind }
-    requires src_len_bound_2 { length src.now ≤ f.limits.payload }
-    ensures { Asks area.now f (ApplyTold k index (payload_of kind src.now) result) }
+    requires payload_bound { length (body_of (payload_behind payload)) ≤ f.limits.payload }
+    ensures { Asks area.now f (ApplyTold k index (payload_behind payload.entry) result) }
 {
     let limits = f.limits;
     let end = 8 * (1 + (limits.payload as usize + 7) / 8);
     let mut content = [0u8; 264];
-    payload_asked(area, f, k, index, kind, src, &mut content[0..end])
+    payload_asked(area, f, k, index, payload, &mut content[0..end])
 }

@@ -1,22 +1,16 @@
 // Durability (check_durability of checks.rs): every server has applied every acknowledged command.
 ghost use Rattle.std.specs.Prelude.{◌≡◌, ◌<◌, take};
 ghost use Rattle.state.specs.Changes.{Inside, Reads};
-ghost use Rattle.state_asks.specs.Asks.{AtMost, Asks, command_bytes_of, applied_of, up_to_of};
+ghost use Rattle.state_asks.specs.Asks.{Asks, command_bytes_of, applied_of, up_to_of};
 ghost use Rattle.state_asks.specs.Asks.{reply_index_of, reply_missing_of, DurabilityTold, DurabilityGiven};
 
 use crate::{apply, numbers};
 use checks_durability::{DurabilityAsked, acknowledged, replies};
 use state::{Capacity, sizes};
 use units::LogIndex;
+use units::refusal::Refusal;
 
 // ---- numbers
-
-// A number, or the greatest where that is less.
-fn at_most(n: u64, most: u64) -> usize
-    ensures { AtMost n most result }
-{
-    if most < n { most as usize } else { n as usize }
-}
 
 // The bytes of a client's command.
 fn command_bytes_of(area: &[u8], f: Capacity) -> u64
@@ -82,7 +76,7 @@ pub fn reply_missing_of(area: &[u8], f: Capacity, i: usize) -> bool
         return false;
     }
     let m = numbers::rows_of(counts.applied, limits.log_indexes, 1 + (p + 7) / 8);
-    let bytes = at_most(size, limits.payload);
+    let bytes = numbers::at_most(size, limits.payload);
     let at = numbers::replies_at(area, f);
     let from = numbers::applied_at(area, f);
     let a = 8 * at;
@@ -104,7 +98,7 @@ fn durability_given(
     total: u64,
     size: u64,
     up_to: [u64; 8],
-) -> DurabilityAsked
+) -> Result<DurabilityAsked, Refusal>
     requires { Inside area.now f }
     ensures { Asks area.now f (DurabilityGiven replies applied total size (take f.servers up_to) result) }
 {
@@ -112,7 +106,7 @@ fn durability_given(
     let p = limits.payload as usize;
     let n = numbers::rows_of(replies, limits.history, 5);
     let m = numbers::rows_of(applied, limits.log_indexes, 1 + (p + 7) / 8);
-    let bytes = at_most(size, limits.payload);
+    let bytes = numbers::at_most(size, limits.payload);
     let at = numbers::replies_at(area, f);
     let from = numbers::applied_at(area, f);
     let a = 8 * at;
@@ -134,7 +128,7 @@ fn durability_given(
 }
 
 // What durability gives to report, and the highest acknowledged index.
-pub fn durability_asked(area: &[u8], f: Capacity) -> DurabilityAsked
+pub fn durability_asked(area: &[u8], f: Capacity) -> Result<DurabilityAsked, Refusal>
     requires { Inside area.now f }
     ensures { Asks area.now f (DurabilityTold result) }
 {

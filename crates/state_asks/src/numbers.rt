@@ -1,16 +1,23 @@
-// How many rows a table has, and where the regions begin.
+// Numbers with a bound, how many rows a table has, and where the regions begin.
 ghost use Rattle.std.specs.Prelude.{◌≡◌, ◌+◌, ◌*◌, ◌<◌};
 ghost use Rattle.state.specs.Sizes.{block_words, queue_words, seen_words, applied_words, queue_at, seen_at, leaders_at, replies_at, applied_at};
 ghost use Rattle.state.specs.Changes.{Inside};
-ghost use Rattle.state_asks.specs.Asks.{Rows, Begins};
+ghost use Rattle.state_asks.specs.Asks.{AtMost, Rows, Begins};
 
 use state::{Capacity, sizes};
+
+// A number, or the greatest where that is less.
+pub fn at_most(n: u64, most: u64) -> usize
+    ensures { AtMost n most result }
+{
+    n.min(most) as usize
+}
 
 // So many rows of so many words, or as many as have room: a count that the header says.
 pub fn rows_of(n: u64, room: u64, w: usize) -> usize
     ensures { Rows n room w result }
 {
-    if room < n { room as usize } else { n as usize }
+    at_most(n, room)
 }
 
 // ---- where the regions begin, in words

@@ -7,6 +7,7 @@ use crate::numbers;
 use checks_on_status::StatusAsked;
 use protocol::Status;
 use state::{Capacity, server, sizes};
+use units::refusal::Refusal;
 use units::{NodeId, Term};
 
 // Whether leader completeness is asked for.
@@ -43,7 +44,7 @@ fn status_given(
     raft_checks: bool,
     leading: Option<Term>,
     status: Status,
-) -> StatusAsked
+) -> Result<Option<StatusAsked>, Refusal>
     requires inside { Inside area.now f }
     requires k_lt_servers { k < f.servers }
     ensures { Asks area.now f (StatusGiven leaders applied total raft_checks leading k status result) }
@@ -79,7 +80,12 @@ fn status_given(
 }
 
 // What a status of the server at a place gives to report and to keep.
-pub fn status_asked(area: &[u8], f: Capacity, k: usize, status: Status) -> StatusAsked
+pub fn status_asked(
+    area: &[u8],
+    f: Capacity,
+    k: usize,
+    status: Status,
+) -> Result<Option<StatusAsked>, Refusal>
     requires inside { Inside area.now f }
     requires k_lt_servers { k < f.servers }
     ensures { Asks area.now f (StatusTold k status result) }

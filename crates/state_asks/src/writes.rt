@@ -11,6 +11,7 @@ use layout::rows;
 use state::{Capacity, sizes};
 use storage::waiting;
 use units::LogIndex;
+use units::refusal::Refusal;
 
 // ---- the waiting writes
 
@@ -105,7 +106,7 @@ fn writes_given(
     writes: u64,
     seen: u64,
     total: u64,
-) -> WritesAsked
+) -> Result<WritesAsked, Refusal>
     requires inside { Inside area.now f }
     requires k_lt_servers { k < f.servers }
     ensures { Asks area.now f (WritesGiven writes seen total k result) }
@@ -137,7 +138,7 @@ fn writes_given(
 }
 
 // What all waiting writes of the server at a place give to report and to keep.
-pub fn writes_asked(area: &[u8], f: Capacity, k: usize) -> WritesAsked
+pub fn writes_asked(area: &[u8], f: Capacity, k: usize) -> Result<WritesAsked, Refusal>
     requires inside { Inside area.now f }
     requires k_lt_servers { k < f.servers }
     ensures { Asks area.now f (WritesTold k result) }

@@ -19,6 +19,9 @@ use Rattle.checks_on_write.specs.declared.WriteAsked.{WriteAsked}
 use Rattle.checks_on_write.specs.OnWrite.{write_asked, payload_of, write_acts}
 use Rattle.checks_on_write.specs.Laws.{write_does}
 use Rattle.checks_on_status.specs.declared.StatusAsked.{StatusAsked}
+use Rattle.checks_on_status.specs.OnStatus.{number_of}
+use Rattle.checks.specs.Compared.{is_other, is_new, first_of}
+use Rattle.laws.specs.Lists.{is_some}
 use Rattle.checks_log_matching.specs.Pairs.{reported_mismatch}
 use Rattle.model.specs.State.{State, server_at, id_of}
 use Rattle.model.specs.Fields.{with_checker}
@@ -75,64 +78,104 @@ module _ (r : ApplyAsked) (time : SimTime) (server : NodeId) (index : LogIndex) 
 module _ (r : StatusAsked) (time : SimTime) (server : NodeId) (status : Status) where
   -- The numbers of the first report's text.
   abbrev first : List ℕ
-  first = r.first ∷ server.0 ∷ status.term.0 ∷ []
+  first = first_of r.seen ∷ server.0 ∷ status.term.0 ∷ []
 
   -- Those of the second's.
   abbrev lacking : List ℕ
-  lacking = server.0 ∷ status.term.0 ∷ r.missing ∷ []
+  lacking = server.0 ∷ status.term.0 ∷ number_of r.missing ∷ []
 
   -- The state after the first report.
   abbrev elected : State → State
-  elected s = reported_if r.other time ElectionSafety first s
+  elected s = reported_if (is_other r.seen) time ElectionSafety first s
 
   -- The state with the leader added.
   abbrev seated : State → State
-  seated s = led_if r.fresh status.term server (elected s)
+  seated s = led_if (is_new r.seen) status.term server (elected s)
+
+  -- The state after both reports.
+  abbrev completed : State → State
+  completed s = reported_if (is_some r.missing) time LeaderCompleteness lacking (seated s)
 
   module _ (raft_checks : Bool) (log : Log) (leading : Option Term) where
-    status_is : (s : State) → StatusFlags r raft_checks time server status log leading s
-        → reported_if r.lacks time LeaderCompleteness lacking (seated s) ≡ status_checked raft_checks time server status log leading s
+    status_is : (s : State) → StatusFlags (Some r) raft_checks time server status log leading s
+        → completed s ≡ status_checked raft_checks time server status log leading s
     unfolding reported_if led_if status_checked StatusFlags
     status_is s e = ap (λ (c : Checker). with_checker s c) (sym e)
 
-    pub before_status : (s : State) → StatusFlags r raft_checks time server status log leading s
+    before_leader : (s : State) → StatusFlags (Some r) raft_checks time server status log leading s
         → state_fits (status_checked raft_checks time server status log leading s) ≡ true → state_fits s ≡ true
-    before_status s e u =
-        before_reported s time ElectionSafety first r.other
-        (before_led (elected s) status.term server r.fresh
-        (before_reported (seated s) time LeaderCompleteness lacking r.lacks (ap state_fits (status_is s e) ∙ u)))
+    before_leader s e u =
+        before_reported s time ElectionSafety first (is_other r.seen)
+        (before_led (elected s) status.term server (is_new r.seen)
+        (before_reported (seated s) time LeaderCompleteness lacking (is_some r.missing) (ap state_fits (status_is s e) ∙ u)))
 
-  pub status_acted : (b b₁ b₂ b₃ : List ℕ) (F : Capacity)
-      → Changes b b₁ F (reported_if r.other time ElectionSafety (r.first ∷ server.0 ∷ status.term.0 ∷ []))
-      → Changes b₁ b₂ F (led_if r.fresh status.term server)
-      → Changes b₂ b₃ F (reported_if r.lacks time LeaderCompleteness (server.0 ∷ status.term.0 ∷ r.missing ∷ []))
-      → ActsStatus b b₃ F r time server status
-  status_acted b b₁ b₂ b₃ F p q g = record {
+  leader_acted : (b b₁ b₂ b₃ : List ℕ) (F : Capacity)
+      → Changes b b₁ F (reported_if (is_other r.seen) time ElectionSafety (first_of r.seen ∷ server.0 ∷ status.term.0 ∷ []))
+      → Changes b₁ b₂ F (led_if (is_new r.seen) status.term server)
+      → Changes b₂ b₃ F (reported_if (is_some r.missing) time LeaderCompleteness (server.0 ∷ status.term.0 ∷ number_of r.missing ∷ []))
+      → ActsStatus b b₃ F (Some r) time server status
+  leader_acted b b₁ b₂ b₃ F p q g = record {
     to = λ raft_checks log leading.
         record {
           to = λ s l h e u.
-              let same : reported_if r.lacks time LeaderCompleteness lacking (seated s) ≡ status_checked raft_checks time server status log
-              leading s = status_is raft_checks log leading s e in
-              let t : state_fits (reported_if r.lacks time LeaderCompleteness lacking (seated s)) ≡ true = ap state_fits same ∙ u in
-              let t₂ : state_fits (seated s) ≡ true = before_reported (seated s) time LeaderCompleteness lacking r.lacks t in
-              let t₁ : state_fits (elected s) ≡ true = before_led (elected s) status.term server r.fresh t₂ in
+              let same : completed s ≡ status_checked raft_checks time server status log leading s = status_is raft_checks log leading s e in
+              let t : state_fits (completed s) ≡ true = ap state_fits same ∙ u in
+              let t₂ : state_fits (seated s) ≡ true =
+              before_reported (seated s) time LeaderCompleteness lacking (is_some r.missing) t in
+              let t₁ : state_fits (elected s) ≡ true = before_led (elected s) status.term server (is_new r.seen) t₂ in
               subst (λ (y : State). AreaOf b₃ l F y) same (g.to (seated s) l (q.to (elected s) l (p.to s l h t₁) t₂) t);
         };
   }
 
+module _ (time : SimTime) (server : NodeId) (status : Status) where
+  -- where the server does not lead, nothing changes
+  none_is : (raft_checks : Bool) (log : Log) (leading : Option Term) (s : State)
+      → StatusFlags None raft_checks time server status log leading s → s ≡ status_checked raft_checks time server status log leading s
+  unfolding status_checked StatusFlags
+  none_is raft_checks log leading s e = ap (λ (c : Checker). with_checker s c) (sym e)
+
+  pub before_status : (o : Option StatusAsked) (raft_checks : Bool) (log : Log) (leading : Option Term) (s : State)
+      → StatusFlags o raft_checks time server status log leading s
+      → state_fits (status_checked raft_checks time server status log leading s) ≡ true → state_fits s ≡ true
+  before_status None raft_checks log leading s e u = ap state_fits (none_is raft_checks log leading s e) ∙ u
+  before_status (Some r) raft_checks log leading s e u = before_leader r time server status raft_checks log leading s e u
+
+  pub status_kept : (b : List ℕ) (F : Capacity) {o : Option StatusAsked} → o ≡ None → ActsStatus b b F o time server status
+  status_kept b F e = subst (λ (x : Option StatusAsked). ActsStatus b b F x time server status) (sym e) (record {
+    to = λ raft_checks log leading. record {
+      to = λ s l h k u. subst (λ (y : State). AreaOf b l F y) (none_is raft_checks log leading s k) h;
+    };
+  })
+
+  pub status_acted : {b b₁ b₂ b₃ : List ℕ} {F : Capacity} {o : Option StatusAsked} {r : StatusAsked} {other fresh lacks : Bool} {first index : ℕ}
+      → o ≡ Some r → first ≡ first_of r.seen → index ≡ number_of r.missing → other ≡ is_other r.seen → fresh ≡ is_new r.seen
+      → lacks ≡ is_some r.missing
+      → Changes b b₁ F (reported_if other time ElectionSafety (first ∷ server.0 ∷ status.term.0 ∷ []))
+      → Changes b₁ b₂ F (led_if fresh status.term server)
+      → Changes b₂ b₃ F (reported_if lacks time LeaderCompleteness (server.0 ∷ status.term.0 ∷ index ∷ []))
+      → ActsStatus b b₃ F o time server status
+  status_acted {b} {b₁} {b₂} {b₃} {F} {o} {r} {other} {fresh} {lacks} {first} {index} e ef ei eo en el p q g =
+      subst (λ (x : Option StatusAsked). ActsStatus b b₃ F x time server status) (sym e)
+      (leader_acted r time server status b b₁ b₂ b₃ F
+      (subst (λ (t : Bool). Changes b b₁ F (reported_if t time ElectionSafety (first_of r.seen ∷ server.0 ∷ status.term.0 ∷ []))) eo
+      (subst (λ (n : ℕ). Changes b b₁ F (reported_if other time ElectionSafety (n ∷ server.0 ∷ status.term.0 ∷ []))) ef p))
+      (subst (λ (t : Bool). Changes b₁ b₂ F (led_if t status.term server)) en q)
+      (subst (λ (t : Bool). Changes b₂ b₃ F (reported_if t time LeaderCompleteness (server.0 ∷ status.term.0 ∷ number_of r.missing ∷ []))) el
+      (subst (λ (n : ℕ). Changes b₂ b₃ F (reported_if lacks time LeaderCompleteness (server.0 ∷ status.term.0 ∷ n ∷ []))) ei g)))
+
 -- ---- an index written
 
-none_fresh : (r : WriteAsked) (index : LogIndex) (xs : List Seen) → r ≡ write_asked None index xs → r.fresh ≡ false
+none_fresh : (r : WriteAsked) (index : LogIndex) (xs : List Seen) → r ≡ write_asked None index xs → is_new r.seen ≡ false
 unfolding write_asked
-none_fresh r index xs p = ap (λ (a : WriteAsked). a.fresh) p
+none_fresh r index xs p = ap (λ (a : WriteAsked). is_new a.seen) p
 
 module _ (k : ℕ) (time : SimTime) (index : LogIndex) where
   module _ (r : WriteAsked) where
     -- The state after the report.
     abbrev reported : State → State
-    reported s = reported_if r.other time UniqueEntries ((k + 1) ∷ index.0 ∷ r.term.0 ∷ []) s
+    reported s = reported_if (is_other r.seen) time UniqueEntries ((k + 1) ∷ index.0 ∷ r.term.0 ∷ []) s
 
-    write_is : (s : State) → WriteFlags r k index s → seen_of_if r.fresh k index r.term (reported s) ≡ write_checked k time index s
+    write_is : (s : State) → WriteFlags r k index s → seen_of_if (is_new r.seen) k index r.term (reported s) ≡ write_checked k time index s
     unfolding reported_if seen_of_if seen_if write_checked entry_of WriteFlags
     write_is s e =
         let log : Log = (server_at s k).storage.current.log in
@@ -142,24 +185,28 @@ module _ (k : ℕ) (time : SimTime) (index : LogIndex) where
         ∙ sym (write_does time (id_of k) log index s.checker))
       where
         c₁ : Checker
-        c₁ = report_if r.other s.checker time UniqueEntries ((k + 1) ∷ index.0 ∷ r.term.0 ∷ [])
+        c₁ = report_if (is_other r.seen) s.checker time UniqueEntries ((k + 1) ∷ index.0 ∷ r.term.0 ∷ [])
 
         by : (o : Option Entry) → r ≡ write_asked o index s.checker.entries
-            → seen_maybe o r.fresh index r.term (reported s) ≡ with_checker s
-            (insert_seen_if r.fresh (record { index = index; term = r.term; payload = payload_of o }) c₁)
+            → seen_maybe o (is_new r.seen) index r.term (reported s) ≡ with_checker s
+            (insert_seen_if (is_new r.seen) (record { index = index; term = r.term; payload = payload_of o }) c₁)
         by None q =
             ap (λ (z : Bool). with_checker s (insert_seen_if z (record { index = index; term = r.term; payload = payload_of None }) c₁))
             (sym (none_fresh r index s.checker.entries q))
         by (Some d) q = refl
 
-    pub write_acted : (b b₁ b₂ : List ℕ) (F : Capacity)
-        → Changes b b₁ F (reported_if r.other time UniqueEntries ((k + 1) ∷ index.0 ∷ r.term.0 ∷ []))
-        → Changes b₁ b₂ F (seen_of_if r.fresh k index r.term) → ChangesWhere b b₂ F (WriteFlags r k index) (write_checked k time index)
-    write_acted b b₁ b₂ F p q = record {
+    pub write_acted : (b b₁ b₂ : List ℕ) (F : Capacity) {other fresh : Bool} → other ≡ is_other r.seen → fresh ≡ is_new r.seen
+        → Changes b b₁ F (reported_if other time UniqueEntries ((k + 1) ∷ index.0 ∷ r.term.0 ∷ []))
+        → Changes b₁ b₂ F (seen_of_if fresh k index r.term) → ChangesWhere b b₂ F (WriteFlags r k index) (write_checked k time index)
+    write_acted b b₁ b₂ F {other} {fresh} eo en p q = record {
       to = λ s l h e u.
-          let t : state_fits (seen_of_if r.fresh k index r.term (reported s)) ≡ true = ap state_fits (write_is s e) ∙ u in
+          let p' : Changes b b₁ F reported =
+          subst (λ (x : Bool). Changes b b₁ F (reported_if x time UniqueEntries ((k + 1) ∷ index.0 ∷ r.term.0 ∷ []))) eo p in
+          let q' : Changes b₁ b₂ F (seen_of_if (is_new r.seen) k index r.term) =
+          subst (λ (x : Bool). Changes b₁ b₂ F (seen_of_if x k index r.term)) en q in
+          let t : state_fits (seen_of_if (is_new r.seen) k index r.term (reported s)) ≡ true = ap state_fits (write_is s e) ∙ u in
           subst (λ (y : State). AreaOf b₂ l F y) (write_is s e)
-          (q.to (reported s) l (p.to s l h (before_seen_of (reported s) k index r.term r.fresh t)) t);
+          (q'.to (reported s) l (p'.to s l h (before_seen_of (reported s) k index r.term (is_new r.seen) t)) t);
     }
 
   -- the state before fits where the state after does
@@ -167,8 +214,8 @@ module _ (k : ℕ) (time : SimTime) (index : LogIndex) where
   unfolding WriteFlags
   before_write s u =
       let r : WriteAsked = write_asked (entry_of k index s) index s.checker.entries in
-      before_reported s time UniqueEntries ((k + 1) ∷ index.0 ∷ r.term.0 ∷ []) r.other
-      (before_seen_of (reported r s) k index r.term r.fresh (ap state_fits (write_is r s refl) ∙ u))
+      before_reported s time UniqueEntries ((k + 1) ∷ index.0 ∷ r.term.0 ∷ []) (is_other r.seen)
+      (before_seen_of (reported r s) k index r.term (is_new r.seen) (ap state_fits (write_is r s refl) ∙ u))
 
 -- ---- a pair of logs
 

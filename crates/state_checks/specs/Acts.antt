@@ -49,7 +49,7 @@ write_checked k time index s = with_checker s (on_write s.checker time (id_of k)
 unfoldable pub writes_checked : ℕ → SimTime → List LogIndex → State → State
 writes_checked k time indexes s = with_checker s (on_writes s.checker time (id_of k) (server_at s k).storage.current.log indexes)
 
--- The flags are the answer about the entry there, against the entries seen.
+-- It is the answer about the entry there, against the entries seen.
 unfoldable pub WriteFlags : WriteAsked → ℕ → LogIndex → State → Type 0
 WriteFlags r k index s = r ≡ write_asked (entry_of k index s) index s.checker.entries
 
@@ -60,13 +60,13 @@ unfoldable pub status_checked : Bool → SimTime → NodeId → Status → Log �
 status_checked raft_checks time server status log leading s =
     with_checker s (on_status raft_checks s.checker time server status log leading).checker
 
--- The flags of an answer say what that does.
-unfoldable pub StatusFlags : StatusAsked → Bool → SimTime → NodeId → Status → Log → Option Term → State → Type 0
+-- An answer says what that does.
+unfoldable pub StatusFlags : Option StatusAsked → Bool → SimTime → NodeId → Status → Log → Option Term → State → Type 0
 StatusFlags r raft_checks time server status log leading s =
     (on_status raft_checks s.checker time server status log leading).checker ≡ status_acts r s.checker time server status.term
 
--- The status was checked by an answer's flags, whatever was asked that they answer.
-pub record ActsStatus (b b' : List ℕ) (F : Capacity) (r : StatusAsked) (time : SimTime) (server : NodeId) (status : Status) : Type 0 where
+-- The status was checked by an answer, whatever was asked that they answer.
+pub record ActsStatus (b b' : List ℕ) (F : Capacity) (r : Option StatusAsked) (time : SimTime) (server : NodeId) (status : Status) : Type 0 where
   pub to : (raft_checks : Bool) (log : Log) (leading : Option Term)
       → ChangesWhere b b' F (StatusFlags r raft_checks time server status log leading)
       (status_checked raft_checks time server status log leading)

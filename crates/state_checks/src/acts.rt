@@ -1,6 +1,7 @@
 // Each check acted on, where its question answered flags: violations reported in the order of the definition, and what is remembered.
 ghost use Rattle.std.specs.Prelude.{◌≡◌, ◌*◌, ◌≤◌, ◌<◌, length};
-ghost use Rattle.units.specs.Types.{payload_of};
+ghost use Rattle.units.specs.Types.{payload_behind};
+ghost use Rattle.layout.specs.Payload.{body_of};
 ghost use Rattle.state.specs.Changes.{Inside, Changes};
 ghost use Rattle.state_checks.specs.Acts.{ChangesWhere, ApplyFlags, apply_checked};
 ghost use Rattle.state_checks.specs.Acts.{WriteFlags, write_checked, ActsStatus, mismatch_reported, missing_reported};
@@ -12,7 +13,7 @@ use checks_on_status::StatusAsked;
 use checks_on_write::WriteAsked;
 use protocol::Status;
 use state::Capacity;
-use units::{LogIndex, NodeId, SimTime};
+use units::{LogIndex, NodeId, PayloadRef, SimTime};
 
 // A server applied a payload at an index, and was expected to apply another (on_apply): apply order first, then state machine safety.
 pub fn on_apply_act(
@@ -22,15 +23,14 @@ pub fn on_apply_act(
     server: NodeId,
     index: LogIndex,
     expected: u64,
-    kind: u64,
-    src: &[u8],
+    payload: PayloadRef<'_>,
     asked: ApplyAsked,
 )
     requires inside { Inside area.old f }
-    requires kind_bound { (kind ≤ 1) × (length src.now ≤ 256 * kind) × (length src.now ≤ f.limits.payload) }
+    requires payload_bound { length (body_of (payload_behind payload)) ≤ f.limits.payload }
     ensures { ChangesWhere area.old area.new f
-        (ApplyFlags asked time server index (payload_of kind src.now) expected)
-        (apply_checked time server index (payload_of kind src.now) expected) }
+        (ApplyFlags asked time server index (payload_behind payload.entry) expected)
+        (apply_checked time server index (payload_behind payload.entry) expected) }
 {
     let late = [server.0, index.0, expected];
     let other = [server.0, index.0];
@@ -43,34 +43,35 @@ pub fn on_apply_act(
         Check::StateMachineSafety,
         &other,
     );
-    crate::apply_payload(area, f, asked.next, kind, src);
+    crate::apply_payload(area, f, asked.next, payload);
 }
 
-// A server's status after an input (on_status): another leader of its term, the first leader of its term, and a payload that its log lacks.
+// A server's status after an input (on_status), where it leads: another leader of its term, the first leader of its term, and a payload that
+// its log lacks.
 pub fn on_status_act(
     area: &mut [u8],
     f: Capacity,
     time: SimTime,
     server: NodeId,
     status: Status,
-    asked: StatusAsked,
+    asked: Option<StatusAsked>,
 )
     requires { Inside area.old f }
     ensures { ActsStatus area.old area.new f asked time server status }
 {
+    let Some(asked) = asked else {
+        return;
+    };
     let term = status.term;
-    let other = [asked.first, server.0, term.0];
-    let lacks = [server.0, term.0, asked.missing];
-    crate::keep(area, f, asked.other, time, Check::ElectionSafety, &other);
-    crate::lead(area, f, asked.fresh, term, server);
-    crate::keep(
-        area,
-        f,
-        asked.lacks,
-        time,
-        Check::LeaderCompleteness,
-        &lacks,
-    );
+    let other = asked.seen.is_other();
+    let fresh = asked.seen.is_new();
+    let lacks = asked.missing.is_some();
+    let leaders = [asked.seen.first(), server.0, term.0];
+    let missing = checks_on_status::number_of(asked.missing);
+    let lacking = [server.0, term.0, missing];
+    crate::keep(area, f, other, time, Check::ElectionSafety, &leaders);
+    crate::lead(area, f, fresh, term, server);
+    crate::keep(area, f, lacks, time, Check::LeaderCompleteness, &lacking);
 }
 
 // The server at a place has written at an index (on_write): another payload under its index and term, or the first.
@@ -87,9 +88,11 @@ pub fn on_write_act(
     ensures { ChangesWhere area.old area.new f (WriteFlags asked k index) (write_checked k time index) }
 {
     let term = asked.term;
-    let other = [k as u64 + 1, index.0, term.0];
-    crate::keep(area, f, asked.other, time, Check::UniqueEntries, &other);
-    crate::see_entry_of(area, f, asked.fresh, k, index, term);
+    let other = asked.seen.is_other();
+    let fresh = asked.seen.is_new();
+    let detail = [k as u64 + 1, index.0, term.0];
+    crate::keep(area, f, other, time, Check::UniqueEntries, &detail);
+    crate::see_entry_of(area, f, fresh, k, index, term);
 }
 
 // How the logs of two servers break log matching (one pair of check_log_matching), if they do.

@@ -1,10 +1,11 @@
 // What the checks write, over the whole area: a violation kept, an entry seen, a leader of a term, an applied payload.
 #![tactic(auto)]
 
-ghost use Rattle.std.specs.Prelude.{◌≡◌, true, ◌+◌, ◌*◌, ◌≤◌, ◌<◌, length};
-ghost use Rattle.units.specs.Types.{payload_of};
+ghost use Rattle.std.specs.Prelude.{◌≡◌, true, ◌+◌, ◌*◌, ◌≤◌, ◌<◌, length, take};
+ghost use Rattle.units.specs.Types.{payload_behind};
 ghost use Rattle.layout.specs.Tables.{Becomes, append};
 ghost use Rattle.layout.specs.Marked.{words_for};
+ghost use Rattle.layout.specs.Payload.{body_of};
 ghost use Rattle.layout.specs.Applied.{applied};
 ghost use Rattle.checks.specs.Leaders.{InsertsLeader};
 ghost use Rattle.checks.specs.Entries.{InsertsSeen};
@@ -16,7 +17,7 @@ ghost use Rattle.state_checks.specs.Checked.{unseen, Sees, seen_of_if, CopiesRow
 use checks::{Check, entries, leaders, violations};
 use layout::{applied, rows};
 use state::{Capacity, sizes};
-use units::{LogIndex, NodeId, SimTime, Term};
+use units::{LogIndex, NodeId, PayloadRef, SimTime, Term};
 
 pub mod acts; // each check acted on
 
@@ -29,12 +30,11 @@ fn count_of(area: &[u8], f: Capacity, j: usize) -> u64
     words::load(&area[664..728], j)
 }
 
-// Counts a violation that is due, and keeps it while fewer than 32 are kept; `detail` has the numbers of its text. Nothing is written where
-// the total has no 64 bits.
+// Counts a violation that is due, and keeps it while fewer than 32 are kept; the first five of `detail` are the numbers of its text.
+// Nothing is written where the total has no 64 bits.
 pub fn keep(area: &mut [u8], f: Capacity, due: bool, time: SimTime, check: Check, detail: &[u64])
     requires inside { Inside area.old f }
-    requires few { length detail.now ≤ 5 }
-    ensures { Changes area.old area.new f (reported_if due time check detail.now) }
+    ensures { Changes area.old area.new f (reported_if due time check (take 5 detail.now)) }
 {
     if !due {
         return;
@@ -52,27 +52,27 @@ pub fn keep(area: &mut [u8], f: Capacity, due: bool, time: SimTime, check: Check
 // ---- applied payloads
 
 // One payload more in the table of n, and its count.
-fn append_payload(area: &mut [u8], f: Capacity, n: usize, kind: u64, src: &[u8])
+fn append_payload(area: &mut [u8], f: Capacity, n: usize, payload: PayloadRef<'_>)
     requires inside { Inside area.old f }
     requires n_bound { n < f.limits.log_indexes }
-    requires kind_bound { (kind ≤ 1) × (length src.now ≤ 256 * kind) × (length src.now ≤ f.limits.payload) }
+    requires payload_bound { length (body_of (payload_behind payload)) ≤ f.limits.payload }
     ensures { Stored area.old area.new (applied_at f) (applied_words f) 88 (n + 1)
-        (λ u v. Becomes (applied f.limits.payload) n (n + 1) u v (append (payload_of kind src.now))) }
+        (λ u v. Becomes (applied f.limits.payload) n (n + 1) u v (append (payload_behind payload.entry))) }
 {
     let limits = f.limits;
     let at = sizes::applied_at(f);
     let w = sizes::applied_words(f);
     let a = 8 * at;
     let e = 8 * (at + w);
-    applied::push(&mut area[a..e], n, limits.payload as usize, kind, src);
+    applied::push(&mut area[a..e], n, limits.payload as usize, payload);
     words::store(area, 88, n as u64 + 1);
 }
 
-// One applied payload more, where it is due, of a kind and the bytes of src; a noop has none. Nothing is written where no place is left.
-pub fn apply_payload(area: &mut [u8], f: Capacity, due: bool, kind: u64, src: &[u8])
+// One applied payload more, where it is due. Nothing is written where no place is left.
+pub fn apply_payload(area: &mut [u8], f: Capacity, due: bool, payload: PayloadRef<'_>)
     requires inside { Inside area.old f }
-    requires kind_bound { (kind ≤ 1) × (length src.now ≤ 256 * kind) × (length src.now ≤ f.limits.payload) }
-    ensures { Changes area.old area.new f (applied_if due (payload_of kind src.now)) }
+    requires payload_bound { length (body_of (payload_behind payload)) ≤ f.limits.payload }
+    ensures { Changes area.old area.new f (applied_if due (payload_behind payload.entry)) }
 {
     if !due {
         return;
@@ -82,12 +82,12 @@ pub fn apply_payload(area: &mut [u8], f: Capacity, due: bool, kind: u64, src: &[
     if limits.log_indexes <= n {
         return;
     }
-    append_payload(area, f, n as usize, kind, src);
+    append_payload(area, f, n as usize, payload);
 }
 
 // ---- leaders
 
-// Whether a term has no leader among the n of the table.
+// Whether a term has no leader among the n of the table: a search over the area with a contract of its own, which `lead` cites.
 fn is_leaderless(area: &[u8], f: Capacity, n: usize, term: Term, server: NodeId) -> bool
     requires inside { Inside area.now f }
     requires n_lt_history { n < f.limits.history }
@@ -137,7 +137,7 @@ pub fn lead(area: &mut [u8], f: Capacity, due: bool, term: Term, server: NodeId)
 
 // ---- entries seen
 
-// Whether no entry was seen under an index and a term among the n of the table.
+// Whether no entry was seen under an index and a term among the n of the table: a search over the area with a contract of its own.
 fn is_unseen(area: &[u8], f: Capacity, n: usize, index: LogIndex, term: Term) -> bool
     requires inside { Inside area.now f }
     requires n_lt_history { n < f.limits.history }

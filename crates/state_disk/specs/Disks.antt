@@ -1,6 +1,7 @@
 -- The storage of one server of a state: what is read of it, and the state after a write, a sync or a crash of it. Assumes nothing.
 use Rattle.std.specs.Prelude.{◌≡◌, List, ℕ, ◌+◌, ◌*◌, ◌≤◌, length, set, Option, Ok}
 use Rattle.std.proofs.lemmas.List.Edits.{sets}
+use Rattle.std.specs.Bool.{then_some}
 use Rattle.laws.specs.Bools.{pick}
 use Rattle.units.specs.declared.LogIndex.{LogIndex}
 use Rattle.words.specs.Words.{bytes}
@@ -9,6 +10,8 @@ use Rattle.raft_log.specs.Places.{place_at, bytes_in}
 use Rattle.raft_log.specs.declared.EntryShape.{EntryShape}
 use Rattle.storage.specs.declared.StorageState.{StorageState}
 use Rattle.std.specs.declared.result.Result.{Result}
+use Rattle.units.specs.declared.refusal.Refusal.{Refusal}
+use Rattle.units.specs.Refusals.{answer_number}
 use Rattle.storage.specs.declared.write.WriteError.{WriteError}
 use Rattle.storage.specs.Storage.{Write, sync, crash, unsynced, unsynced_bytes}
 use Rattle.storage.specs.Stores.{disk_bytes}
@@ -26,7 +29,6 @@ use Rattle.state.specs.Changes.{Changes, Reads}
 use Rattle.state.specs.Lens.{ServerCut}
 use Rattle.state_disk.specs.declared.DiskPlace.{DiskPlace}
 use Rattle.state_disk.specs.declared.LogPlace.{LogPlace}
-use Rattle.state_disk.specs.declared.SyncTold.{SyncTold}
 use Rattle.state_disk.specs.declared.LogNumbers.{LogNumbers}
 
 -- ---- where it lies
@@ -59,34 +61,34 @@ pub record StoresAt (b b' : List ℕ) (F : Capacity) (k : ℕ) (v : StorageState
 unfoldable pub written : ℕ → Write → State → State
 written k w s = write_at s k w
 
--- What it answers: 0, or 10 where the state with it does not fit.
+-- The number that it answers: 0, or 10 where the state with it does not fit.
 unfoldable pub write_answer : ℕ → Write → State → ℕ
 write_answer k w s = pick (state_fits (write_at s k w)) 0 10
 
 -- Where a disk's write was made its fixed part is stored; else nothing has changed.
-pub record Finishes (b b' : List ℕ) (F : Capacity) (k : ℕ) (r : Result StorageState WriteError) (c : ℕ) : Type 0 where
-  pub code : c ≡ written_number r
+pub record Finishes (b b' : List ℕ) (F : Capacity) (k : ℕ) (r : Result StorageState WriteError) (c : Result (Unit {0}) Refusal) : Type 0 where
+  pub code : answer_number c ≡ written_number r
   pub done : (v : StorageState) → r ≡ Ok v → StoresAt b b' F k v
   pub kept : written_number r ≡ 10 → b' ≡ b
 
--- The write is made where the state with it fits, and the answer is 0; else the answer is 10, and nothing has changed.
-pub record WritesAt (b b' : List ℕ) (F : Capacity) (k : ℕ) (w : Write) (r : ℕ) : Type 0 where
-  pub code : Reads b F r (write_answer k w)
+-- The write is made where the state with it fits; else question 10 is answered no, and nothing has changed.
+pub record WritesAt (b b' : List ℕ) (F : Capacity) (k : ℕ) (w : Write) (r : Result (Unit {0}) Refusal) : Type 0 where
+  pub code : Reads b F (answer_number r) (write_answer k w)
   pub changes : Changes b b' F (written k w)
-  pub kept : r ≡ 10 → b' ≡ b
+  pub kept : answer_number r ≡ 10 → b' ≡ b
 
 -- ---- sync and crash
 
--- Whether the server at k has anything to sync, and how many bytes.
-unfoldable pub unsynced_at : ℕ → State → SyncTold
-unsynced_at k s = record { wrote = unsynced (server_at s k).storage; bytes = unsynced_bytes (server_at s k).storage.waiting }
+-- How many bytes the server at k has to sync, where writes wait.
+unfoldable pub unsynced_at : ℕ → State → Option ℕ
+unsynced_at k s = then_some (unsynced (server_at s k).storage) (unsynced_bytes (server_at s k).storage.waiting)
 
 -- The state with the waiting writes of the server at k made durable.
 unfoldable pub synced_at : ℕ → State → State
 synced_at k s = on_server s k (λ v. with_storage v (sync v.storage))
 
 -- The server at k is synced, and what there was to write is told.
-pub record SyncsAt (b b' : List ℕ) (F : Capacity) (k : ℕ) (r : SyncTold) : Type 0 where
+pub record SyncsAt (b b' : List ℕ) (F : Capacity) (k : ℕ) (r : Option ℕ) : Type 0 where
   pub changes : Changes b b' F (synced_at k)
   pub told : Reads b F r (unsynced_at k)
 

@@ -1,8 +1,9 @@
 -- What the proofs of lib.rt cite. Assumes nothing.
 use Rattle.std.specs.Prelude.{◌≡◌, Bool, ltb, eqb, length, get_or, set, drop, Option, None, Some, Ok, Err}
+use Rattle.std.specs.Bool.{then_some}
 use Rattle.std.proofs.Math.Path.{refl, sym, ap, ap₂, subst}
 use Rattle.std.proofs.Common.{◌∙◌, length-append}
-use Rattle.std.proofs.Math.Bool.{true, false}
+use Rattle.std.proofs.Math.Bool.{true}
 use mathlib.Core.List.{List, [], ◌∷◌, ◌++◌}
 use Prim.Native.Nat.{ℕ, ◌+◌, ◌-◌, ◌*◌, ◌^◌, ◌≤◌, ◌<◌}
 use native.Mathlib.Omega.{arith}
@@ -33,10 +34,9 @@ use Rattle.storage.specs.declared.Synced.{Synced}
 use Rattle.std.specs.declared.result.Result.{Result}
 use Rattle.units.specs.declared.refusal.Refusal.{Refusal}
 use Rattle.units.specs.declared.refusal.Refusal.TheVariants.{Room}
-use Rattle.units.specs.Refusals.{refusal_number}
-use Rattle.storage.specs.StoresLaws.{synced_told, synced_nothing}
+use Rattle.units.specs.Refusals.{refusal_number, answer_number}
 use Rattle.storage.specs.declared.write.WriteError.{WriteError}
-use Rattle.storage.specs.Storage.{Disk, Write, write_hard_state, write_put, write_truncate, Storage, apply_write, write, sync, crash, unsynced, unsynced_bytes, synced_bytes}
+use Rattle.storage.specs.Storage.{Disk, Write, write_hard_state, write_put, write_truncate, Storage, apply_write, write, sync, crash}
 use Rattle.storage.specs.Waiting.{waiting, write_code, put_within, voteNumber}
 use Rattle.storage.specs.Stores.{disk_bytes, Parts, Stores, Syncs, Crashes}
 use Rattle.storage.specs.Replay.{Sums}
@@ -58,7 +58,6 @@ use Rattle.state.specs.Changes.{Inside, AreaOf, Changes, Reads}
 use Rattle.state.specs.Lens.{disk_content, area_of, put_same, ServerCut, server_contents, server_cut, server_at_held, part_lent, part_put, cut_server, ServersFit, servers_fit_lem, server_fine, fits_on_server}
 use Rattle.state_disk.specs.declared.DiskPlace.{DiskPlace}
 use Rattle.state_disk.specs.declared.LogPlace.{LogPlace}
-use Rattle.state_disk.specs.declared.SyncTold.{SyncTold}
 use Rattle.state_disk.specs.Disks.{LogIn, DiskIn, storage_at, StorageIn, StoresAt, written, write_answer, Finishes, WritesAt, unsynced_at, synced_at, SyncsAt, crashed_at, log_at, ReadsEntryAt, log_numbers_at}
 use Rattle.units.specs.declared.NodeId.{NodeId}
 
@@ -224,7 +223,7 @@ by_written {A} o z f = by o refl z
     by (Ok v) e z = f v e
     by (Err error) e z = absurd (omega arith)
 
-module _ (b b₂ ys : List ℕ) (F : Capacity) (k : ℕ) (d : DiskPlace) (v : StorageState) (w : Write) (o : Result StorageState WriteError) (c : ℕ) (i : k < F.servers) (g : put_within F.limits.log_indexes w ≡ true) (p : DiskIn b F k d)
+module _ (b b₂ ys : List ℕ) (F : Capacity) (k : ℕ) (d : DiskPlace) (v : StorageState) (w : Write) (o : Result StorageState WriteError) (c : Result (Unit {0}) Refusal) (i : k < F.servers) (g : put_within F.limits.log_indexes w ≡ true) (p : DiskIn b F k d)
     (q : Reads b F v (storage_at k)) (e : WritesIn F v w o (lent d.from d.to b) ys)
     (f : Finishes (back d.from d.to b ys) b₂ F k o c) where
   module _ (s : State) (r : List ℕ) (h : AreaOf b r F s) where
@@ -291,7 +290,7 @@ module _ (b b₂ ys : List ℕ) (F : Capacity) (k : ℕ) (d : DiskPlace) (v : St
 
 -- the end of a write
 module _ (b : List ℕ) (F : Capacity) (k : ℕ) (r : Result StorageState WriteError) where
-  pub finish_done : (b₂ : List ℕ) (v : StorageState) → r ≡ Ok v → StoresAt b b₂ F k v → Finishes b b₂ F k r 0
+  pub finish_done : (b₂ : List ℕ) (v : StorageState) → r ≡ Ok v → StoresAt b b₂ F k v → Finishes b b₂ F k r (Ok tt)
   finish_done b₂ v e w = record {
     code = sym (ap written_number e);
     done = λ u f. subst (λ (x : StorageState). StoresAt b b₂ F k x) (same u f) w;
@@ -304,15 +303,10 @@ module _ (b : List ℕ) (F : Capacity) (k : ℕ) (r : Result StorageState WriteE
   no_done : written_number r ≡ 10 → (v : StorageState) → r ≡ Ok v → ⊥
   no_done n v e = let z : ◌≡◌ {A = ℕ} 10 0 = sym n ∙ ap written_number e in omega arith
 
-  finish_not : written_number r ≡ 10 → Finishes b b F k r 10
-  finish_not n = record { code = sym n; done = λ v e. absurd (no_done n v e); kept = λ _. refl }
+  pub finish_refused : (error : WriteError) → r ≡ Err error → Finishes b b F k r (Err Room)
+  finish_refused error e = record { code = sym (ap written_number e); done = λ v o. absurd (no_done (ap written_number e) v o); kept = λ _. refl }
 
-  pub finish_refused : (error : WriteError) (refusal : Refusal) (n : ℕ) → r ≡ Err error → refusal ≡ Room → n ≡ refusal_number refusal → Finishes b b F k r n
-  finish_refused error refusal n e f g =
-      let z : n ≡ 10 = g ∙ ap refusal_number f in
-      subst (λ (m : ℕ). Finishes b b F k r m) (sym z) (finish_not (ap written_number e))
-
-module _ (b b₂ ys : List ℕ) (F : Capacity) (k : ℕ) (d : DiskPlace) (v : StorageState) (o : Result StorageState WriteError) (c : ℕ) (i : k < F.servers) where
+module _ (b b₂ ys : List ℕ) (F : Capacity) (k : ℕ) (d : DiskPlace) (v : StorageState) (o : Result StorageState WriteError) (c : Result (Unit {0}) Refusal) (i : k < F.servers) where
   abbrev region : List ℕ
   region = lent d.from d.to b
 
@@ -341,23 +335,15 @@ module _ (b ys b₂ : List ℕ) (F : Capacity) (k : ℕ) (d : DiskPlace) (v : St
   held s r h = disk_stores b r F s k d i p h v (q.state.to s h.area h.capacity)
 
   module _ (t : Synced) (e : SyncsIn F v t (lent d.from d.to b) ys) (w : StoresAt (back d.from d.to b ys) b₂ F k t.state) where
-    synced_by : (r : SyncTold) → ((x : Storage) → t.written ≡ synced_bytes x → (r.wrote ≡ unsynced x) × (r.bytes ≡ unsynced_bytes x.waiting)) → SyncsAt b b₂ F k r
+    does : Changes b b₂ F (λ s. on_server s k (λ x. with_storage x (sync x.storage)))
+    does = record { to = λ s l h u. disk_back b b₂ ys F k d i p t.state w sync s l h (e.to (server_at s k).storage (held s l h)) u }
+
+    pub synced_at_lem : SyncsAt b b₂ F k t.written
     unfolding synced_at unsynced_at
-    synced_by r f = record {
-      changes = record { to = λ s l h u. disk_back b b₂ ys F k d i p t.state w sync s l h (e.to (server_at s k).storage (held s l h)) u };
-      told = record {
-        to = λ s h ef.
-            let x : Storage = (server_at s k).storage in
-            let z = f x (e.written x (held s (drop (bytes_of F) b) (area_of h ef))) in
-            ap₂ (λ (n : Bool) (m : ℕ). record { wrote = n; bytes = m }) z.0 z.1;
-      };
+    synced_at_lem = record {
+      changes = does;
+      told = record { to = λ s h ef. e.written (server_at s k).storage (held s (drop (bytes_of F) b) (area_of h ef)) };
     }
-
-    pub synced_some : (n : ℕ) → t.written ≡ Some n → SyncsAt b b₂ F k (record { wrote = true; bytes = n })
-    synced_some n q = synced_by (record { wrote = true; bytes = n }) (λ x g. synced_told x n (sym q ∙ g))
-
-    pub synced_none : t.written ≡ None → SyncsAt b b₂ F k (record { wrote = false; bytes = 0 })
-    synced_none q = synced_by (record { wrote = false; bytes = 0 }) (λ x g. synced_nothing x (sym q ∙ g))
 
   pub crashed_at_lem : (v' : StorageState) → CrashesIn F v v' (lent d.from d.to b) ys
       → StoresAt (back d.from d.to b ys) b₂ F k v'
@@ -375,10 +361,10 @@ waiting_room b F k logs d v p q e =
     let l : length (take n (drop (d.from + 16 * logs) b)) ≡ n = length_part b (d.from + 16 * logs) n (omega (arith, p.to, p.ends, e.is)) in
     omega (arith, l, p.to, e.is, row_start v.waiting F.limits.writes (3 + words_for F.limits.payload) q.most)
 
-pub unsynced_read : (b : List ℕ) (F : Capacity) (k logs : ℕ) (d : DiskPlace) (v : StorageState) (r : ℕ) → k < F.servers → DiskIn b F k d → Counted logs (log_words F) → StorageIn b F k v
-    → Sums F.limits.payload v.waiting r (lent (d.from + 16 * logs) d.to b) → Reads b F (record { wrote = ltb 0 v.waiting; bytes = r }) (unsynced_at k)
+pub unsynced_read : (b : List ℕ) (F : Capacity) (k logs : ℕ) (d : DiskPlace) (v : StorageState) (r : ℕ) (told : Option ℕ) → k < F.servers → DiskIn b F k d → Counted logs (log_words F) → StorageIn b F k v
+    → Sums F.limits.payload v.waiting r (lent (d.from + 16 * logs) d.to b) → told ≡ then_some (ltb 0 v.waiting) r → Reads b F told (unsynced_at k)
 unfolding unsynced_at storage_at
-unsynced_read b F k logs d v r i p el q g = record {
+unsynced_read b F k logs d v r told i p el q g et = record {
   to = λ s h e.
       let x : Storage = (server_at s k).storage in
       let m : v.waiting ≡ length x.waiting = ap (λ (u : StorageState). u.waiting) (q.state.to s h e) in
@@ -391,7 +377,7 @@ unsynced_read b F k logs d v r i p el q g = record {
       let y : Held (waiting F.limits.payload) (waiting_words F) v.waiting (lent (d.from + 16 * logs) d.to b) x.waiting =
       subst (λ (j : ℕ). Held (waiting F.limits.payload) (waiting_words F) j (lent (d.from + 16 * logs) d.to b) x.waiting) (sym m)
       (subst (λ (l : List ℕ). Held (waiting F.limits.payload) (waiting_words F) (length x.waiting) l x.waiting) (sym at) (waiting_lent z logs el.is n refl)) in
-      ap₂ (λ (a c : ℕ). record { wrote = ltb 0 a; bytes = c }) m (g.is.to (waiting_words F) x.waiting y);
+      et ∙ ap₂ (λ (a c : ℕ). then_some (ltb 0 a) c) m (g.is.to (waiting_words F) x.waiting y);
 }
 
 pub log_in : (b : List ℕ) (F : Capacity) (k at logs : ℕ) → Inside b F → BlockAt F k at → Counted logs (log_words F) → LogIn b F k (record { from = 8 * (at + 64); to = 8 * (at + 64 + logs) })

@@ -30,13 +30,6 @@ pub struct LogPlace {
     pub to: usize,
 }
 
-// What a sync has to do: whether there is anything to write, and how many bytes.
-#[derive(Clone, Copy)]
-pub struct SyncTold {
-    pub wrote: bool,
-    pub bytes: u64,
-}
-
 // A log as written so far: how many entries it has, its last index, and how many indexes below it hold no entry.
 #[derive(Clone, Copy)]
 pub struct LogNumbers {
@@ -112,23 +105,30 @@ fn store_storage(area: &mut [u8], f: Capacity, k: usize, v: StorageState)
 
 // ---- writes
 
-// The end of a write: its fixed part is stored if it was made, and the answer is 0 or 10.
-fn finish(area: &mut [u8], f: Capacity, k: usize, r: Result<StorageState, WriteError>) -> u64
+// The end of a write: its fixed part is stored if it was made.
+fn finish(
+    area: &mut [u8],
+    f: Capacity,
+    k: usize,
+    r: Result<StorageState, WriteError>,
+) -> Result<(), Refusal>
     requires inside { Inside area.old f }
     requires k_lt_servers { k < f.servers }
     ensures { Finishes area.old area.new f k r result }
 {
-    match r {
-        Ok(v) => {
-            store_storage(area, f, k, v);
-            0
-        }
-        Err(error) => u64::from(Refusal::from(error)),
-    }
+    let v = r?;
+    store_storage(area, f, k, v);
+    Ok(())
 }
 
-// Replaces a server's hard state.
-pub fn write_hard_state(area: &mut [u8], f: Capacity, k: usize, state: HardState) -> u64
+// Replaces a server's hard state. It and the two below differ in one call over the lent disk: a function that takes that call as a closure
+// would carry its contract as a ghost parameter, which is longer than what the three repeat.
+pub fn write_hard_state(
+    area: &mut [u8],
+    f: Capacity,
+    k: usize,
+    state: HardState,
+) -> Result<(), Refusal>
     requires inside { Inside area.old f }
     requires k_lt_servers { k < f.servers }
     ensures { WritesAt area.old area.new f k (write_hard_state state) result }
@@ -153,7 +153,7 @@ pub fn write_put(
     index: LogIndex,
     term: Term,
     payload: PayloadRef<'_>,
-) -> u64
+) -> Result<(), Refusal>
     requires inside { Inside area.old f }
     requires k_lt_servers { k < f.servers }
     requires le_index { (1 ≤ index.0) × (index.0 ≤ f.limits.log_indexes) }
@@ -182,7 +182,12 @@ pub fn write_put(
 }
 
 // Removes every entry of a server's log at an index or later.
-pub fn write_truncate(area: &mut [u8], f: Capacity, k: usize, index: LogIndex) -> u64
+pub fn write_truncate(
+    area: &mut [u8],
+    f: Capacity,
+    k: usize,
+    index: LogIndex,
+) -> Result<(), Refusal>
     requires inside { Inside area.old f }
     requires k_lt_servers { k < f.servers }
     ensures { WritesAt area.old area.new f k (write_truncate index) result }
@@ -201,8 +206,8 @@ pub fn write_truncate(area: &mut [u8], f: Capacity, k: usize, index: LogIndex) -
 
 // ---- sync and crash
 
-// What a sync of a server would have to do.
-pub fn unsynced_of(area: &[u8], f: Capacity, k: usize) -> SyncTold
+// How many bytes a sync of a server would make durable; none where nothing waits.
+pub fn unsynced_of(area: &[u8], f: Capacity, k: usize) -> Option<u64>
     requires inside { Inside area.now f }
     requires k_lt_servers { k < f.servers }
     ensures { Reads area.now f result (unsynced_at k) }
@@ -215,14 +220,11 @@ pub fn unsynced_of(area: &[u8], f: Capacity, k: usize) -> SyncTold
     let from = d.from + 16 * logs;
     let to = d.to;
     let bytes = replay::unsynced_bytes(&area[from..to], m, limits.payload as usize);
-    SyncTold {
-        wrote: 0 < m,
-        bytes,
-    }
+    (0 < m).then_some(bytes)
 }
 
-// Makes a server's waiting writes durable.
-pub fn sync(area: &mut [u8], f: Capacity, k: usize) -> SyncTold
+// Makes a server's waiting writes durable, and tells how many bytes, where any waited.
+pub fn sync(area: &mut [u8], f: Capacity, k: usize) -> Option<u64>
     requires inside { Inside area.old f }
     requires k_lt_servers { k < f.servers }
     ensures { SyncsAt area.old area.new f k result }
@@ -238,13 +240,7 @@ pub fn sync(area: &mut [u8], f: Capacity, k: usize) -> SyncTold
     let r = storage::sync(v, &mut area[from..to], places, rows, p);
     let state = r.state;
     store_storage(area, f, k, state);
-    match r.written {
-        None => SyncTold {
-            wrote: false,
-            bytes: 0,
-        },
-        Some(bytes) => SyncTold { wrote: true, bytes },
-    }
+    r.written
 }
 
 // Discards a server's waiting writes.

@@ -12,7 +12,7 @@ use Rattle.laws.specs.Lists.{at}
 use Rattle.laws.specs.ListLaws.{at_there, at_none}
 use Rattle.units.specs.Types.{Payload, noop}
 use Rattle.words.specs.Words.{W}
-use Rattle.layout.specs.declared.marked.Kind.{Kind}
+use Rattle.units.specs.declared.PayloadShape.{PayloadShape}
 use Rattle.layout.specs.Tables.{Holds, Held, Gives}
 use Rattle.layout.specs.Contents.{holds_w}
 use Rattle.layout.specs.TableLaws.{held_rows}
@@ -34,7 +34,7 @@ use Rattle.state.specs.Fitting.{area_fits}
 use Rattle.state.specs.FitsBy.{fits_test}
 use Rattle.state.specs.Changes.{Inside, Reads}
 use Rattle.state.specs.Tables.{violations_span, applied_span}
-use Rattle.state_records.specs.Records.{violation_count, violation_given, violation_at, applied_count, payload_kind, payload_bytes, applied_kind, applied_into, ReadsRow, ReadsPlace, ReadsApplied}
+use Rattle.state_records.specs.Records.{violation_count, violation_given, violation_at, applied_count, payload_shape, payload_bytes, applied_shape, applied_into, ReadsRow, ReadsPlace, ReadsApplied}
 use Rattle.state_records.specs.Lent.{spans_is, lent_holds, counted}
 
 -- ---- violations
@@ -86,30 +86,30 @@ module _ (p : ℕ) (s d : List ℕ) where
   mark_most x h = omega arith
 
   pub row_none : (m : ℕ) → m ≡ get_or (W s) 0 0 → 2 + p < m → ReadsRow p None s d d
-  row_none m e k = record { kind = λ x h. absurd (never x h); copied = λ x h. absurd (never x h) }
+  row_none m e k = record { shape = λ x h. absurd (never x h); copied = λ x h. absurd (never x h) }
     where
       never : (x : Payload) → Holds (payload p) s x → ⊥
       never x h = omega (arith, e, k, mark_is x h, count_mark x, (sound payload_marking p x h.good).short)
 
-  pub row_read : (r : Kind) (d' : List ℕ) → ReadsPayload r s d d' → ReadsRow p (Some r) s d d'
-  unfolding payload_kind payload_bytes
-  row_read r d' g = record { kind = λ x h. ap Some (g.kind p x h); copied = λ x h. g.copied p x h }
+  pub row_read : (r : PayloadShape) (d' : List ℕ) → ReadsPayload r s d d' → ReadsRow p (Some r) s d d'
+  unfolding payload_shape payload_bytes
+  row_read r d' g = record { shape = λ x h. ap Some (g.shape p x h); copied = λ x h. g.copied p x h }
 
 -- ---- a place
 
 module _ (p n i : ℕ) (s d : List ℕ) where
   pub place_none : n ≤ i → ReadsPlace p n i None s d d
-  unfolding payload_kind payload_bytes
+  unfolding payload_shape payload_bytes
   place_none k =
-      record { kind = λ N xs h. sym (ap payload_kind (none_there xs h)); copied = λ N xs h. sym (ap (λ (o : Option Payload). sets d 0 (payload_bytes o)) (none_there xs h)) }
+      record { shape = λ N xs h. sym (ap payload_shape (none_there xs h)); copied = λ N xs h. sym (ap (λ (o : Option Payload). sets d 0 (payload_bytes o)) (none_there xs h)) }
     where
       none_there : {N : ℕ} (xs : List Payload) → Held (applied p) N n s xs → at xs i ≡ None
       none_there xs h = at_none xs i (omega (arith, (held_rows h).count))
 
-  pub place_read : (a : ℕ) (r : Option Kind) (d' : List ℕ) → i < n → a ≡ i * (1 + words_for p)
+  pub place_read : (a : ℕ) (r : Option PayloadShape) (d' : List ℕ) → i < n → a ≡ i * (1 + words_for p)
       → ReadsRow p r (lent_row a (1 + words_for p) s) d d' → ReadsPlace p n i r s d d'
   place_read a r d' k e g = record {
-    kind = λ N xs h. g.kind (get_or xs i noop) (row_lent h i a noop k e) ∙ ap payload_kind (sym (there xs h));
+    shape = λ N xs h. g.shape (get_or xs i noop) (row_lent h i a noop k e) ∙ ap payload_shape (sym (there xs h));
     copied =
         λ N xs h. g.copied (get_or xs i noop) (row_lent h i a noop k e)
         ∙ ap (λ (o : Option Payload). sets d 0 (payload_bytes o)) (sym (there xs h));
@@ -130,9 +130,9 @@ module _ (b : List ℕ) (F : Capacity) where
   applied_counted n e = record { to = λ s h ef. e ∙ counted h 5 }
 
   pub index_none : (index : ℕ) (d : List ℕ) → index < 1 → ReadsApplied b F index None d d
-  unfolding applied_kind applied_into payload_kind payload_bytes
+  unfolding applied_shape applied_into payload_shape payload_bytes
   index_none index d k = record {
-    kind = record { to = λ s h ef. sym (ap payload_kind (zeroth s.checker.applied index k)) };
+    shape = record { to = λ s h ef. sym (ap payload_shape (zeroth s.checker.applied index k)) };
     copied = record { to = λ s h ef. sym (ap (λ (o : Option Payload). sets d 0 (payload_bytes o)) (zeroth s.checker.applied index k)) };
   }
     where
@@ -156,7 +156,7 @@ module _ (b : List ℕ) (F : Capacity) where
 
     pub index_past : (index : ℕ) (d : List ℕ) → F.limits.log_indexes < n → ReadsApplied b F index None d d
     index_past index d k =
-        record { kind = record { to = λ s h ef. absurd (never s h ef) }; copied = record { to = λ s h ef. absurd (never s h ef) } }
+        record { shape = record { to = λ s h ef. absurd (never s h ef) }; copied = record { to = λ s h ef. absurd (never s h ef) } }
       where
         never : (s : State) → Area b s → F ≡ capacity_of s → ⊥
         never s h ef = let o : n ≤ F.limits.log_indexes = applied_most s h ef in omega arith
@@ -170,12 +170,12 @@ module _ (b : List ℕ) (F : Capacity) where
           (subst (λ (m : ℕ). Held (applied s.limits.payload) (applied_words (capacity_of s)) m (lent_row at w b) s.checker.applied) (sym (c.to s h ef))
           (record { holds = lent_holds (spans_is p.is q.is (applied_span F)) (applied_code (capacity_of s) (counts_of s)) b s s.checker.applied ef h.laid.applied }))
 
-      pub index_read : (index : ℕ) (r : Option Kind) (d d' : List ℕ) → 1 ≤ index
+      pub index_read : (index : ℕ) (r : Option PayloadShape) (d d' : List ℕ) → 1 ≤ index
           → ReadsPlace F.limits.payload n (index - 1) r (lent_row at w b) d d' → ReadsApplied b F index r d d'
-      unfolding applied_kind applied_into
+      unfolding applied_shape applied_into
       index_read index r d d' k g = record {
-        kind =
-            record { to = λ s h ef. g.kind (applied_words (capacity_of s)) s.checker.applied (applied_held s h ef) ∙ ap payload_kind (by_index s.checker.applied index k) };
+        shape =
+            record { to = λ s h ef. g.shape (applied_words (capacity_of s)) s.checker.applied (applied_held s h ef) ∙ ap payload_shape (by_index s.checker.applied index k) };
         copied = record {
           to =
               λ s h ef. g.copied (applied_words (capacity_of s)) s.checker.applied (applied_held s h ef)

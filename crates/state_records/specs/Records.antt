@@ -4,11 +4,10 @@ use Rattle.std.specs.Prelude.{◌≡◌, List, [], ◌∷◌, ◌++◌, ℕ, ◌
 use Rattle.std.proofs.lemmas.List.Edits.{sets}
 use Rattle.laws.specs.Bools.{pick}
 use Rattle.laws.specs.Lists.{at}
-use Rattle.units.specs.Types.{Payload}
+use Rattle.units.specs.Types.{Payload, shape_of}
 use Rattle.layout.specs.Tables.{Holds, Held}
 use Rattle.layout.specs.Payload.{payload, body_of}
 use Rattle.layout.specs.Applied.{applied}
-use Rattle.layout.specs.MarkedCalls.{kind_of}
 use Rattle.checks.specs.Checks.{Violation}
 use Rattle.checks.specs.Violations.{given}
 use Rattle.checks_durability.specs.declared.replies.Reply.{Reply}
@@ -21,9 +20,8 @@ use Rattle.model.specs.Reads.{applied_at, discarded_by}
 use Rattle.state.specs.declared.Capacity.{Capacity}
 use Rattle.state.specs.Area.{Area, capacity_of}
 use Rattle.state.specs.Changes.{Reads}
-use Rattle.state_records.specs.declared.Sum.{Sum}
 use Rattle.checks.specs.declared.violations.Violation.{Violation as KeptViolation}
-use Rattle.layout.specs.declared.marked.Kind.{Kind}
+use Rattle.units.specs.declared.PayloadShape.{PayloadShape}
 
 -- ---- clients
 
@@ -40,11 +38,6 @@ client_set c v s = on_client s c (λ _. v)
 -- How many replies a state keeps.
 unfoldable pub reply_count : State → ℕ
 reply_count s = length s.replies
-
--- The reply that the code answers, or none.
-unfoldable pub reply_of : Option Reply → Option Reply
-reply_of None = None
-reply_of (Some r) = Some r
 
 -- The reply at a place, or none.
 unfoldable pub reply_at : ℕ → State → Option Reply
@@ -79,10 +72,10 @@ violation_given (Some v) = Some (given v)
 unfoldable pub violation_at : ℕ → State → Option KeptViolation
 violation_at i s = violation_given (at s.checker.violations i)
 
--- A payload's kind with the length of a command, or none.
-unfoldable pub payload_kind : Option Payload → Option Kind
-payload_kind None = None
-payload_kind (Some x) = Some (kind_of x)
+-- A payload's shape, or none.
+unfoldable pub payload_shape : Option Payload → Option PayloadShape
+payload_shape None = None
+payload_shape (Some x) = Some (shape_of x)
 
 -- The bytes of a command; a noop has none.
 unfoldable pub payload_bytes : Option Payload → List ℕ
@@ -98,39 +91,35 @@ unfoldable pub violation_count : State → ℕ
 violation_count s = length s.checker.violations
 
 -- What the payload first applied at an index is, or none.
-unfoldable pub applied_kind : ℕ → State → Option Kind
-applied_kind index s = payload_kind (applied_at s.checker.applied index)
+unfoldable pub applied_shape : ℕ → State → Option PayloadShape
+applied_shape index s = payload_shape (applied_at s.checker.applied index)
 
 -- A buffer with the bytes of that payload at its front.
 unfoldable pub applied_into : List ℕ → ℕ → State → List ℕ
 applied_into d index s = sets d 0 (payload_bytes (applied_at s.checker.applied index))
 
--- A row of a payload of up to p bytes is read: whatever payload its bytes hold, r is its kind, and the buffer d has become d'.
-pub record ReadsRow (p : ℕ) (r : Option Kind) (s d d' : List ℕ) : Type 0 where
-  pub kind : (x : Payload) → Holds (payload p) s x → r ≡ payload_kind (Some x)
+-- A row of a payload of up to p bytes is read: whatever payload its bytes hold, r is its shape, and the buffer d has become d'.
+pub record ReadsRow (p : ℕ) (r : Option PayloadShape) (s d d' : List ℕ) : Type 0 where
+  pub shape : (x : Payload) → Holds (payload p) s x → r ≡ payload_shape (Some x)
   pub copied : (x : Payload) → Holds (payload p) s x → d' ≡ sets d 0 (payload_bytes (Some x))
 
 -- Place i of a table of n payloads is read, and there is none past its end.
-pub record ReadsPlace (p n i : ℕ) (r : Option Kind) (s d d' : List ℕ) : Type 0 where
-  pub kind : (N : ℕ) (xs : List Payload) → Held (applied p) N n s xs → r ≡ payload_kind (at xs i)
+pub record ReadsPlace (p n i : ℕ) (r : Option PayloadShape) (s d d' : List ℕ) : Type 0 where
+  pub shape : (N : ℕ) (xs : List Payload) → Held (applied p) N n s xs → r ≡ payload_shape (at xs i)
   pub copied : (N : ℕ) (xs : List Payload) → Held (applied p) N n s xs → d' ≡ sets d 0 (payload_bytes (at xs i))
 
--- The payload first applied at an index is read: its kind is r, and the buffer d has become d'.
-pub record ReadsApplied (b : List ℕ) (F : Capacity) (index : ℕ) (r : Option Kind) (d d' : List ℕ) : Type 0 where
-  pub kind : Reads b F r (applied_kind index)
+-- The payload first applied at an index is read: its shape is r, and the buffer d has become d'.
+pub record ReadsApplied (b : List ℕ) (F : Capacity) (index : ℕ) (r : Option PayloadShape) (d d' : List ℕ) : Type 0 where
+  pub shape : Reads b F r (applied_shape index)
   pub copied : Reads b F d' (applied_into d index)
 
 -- The entries that the server at a place has discarded.
 unfoldable pub discarded_at : ℕ → State → ℕ
 discarded_at k s = (server_at s k).storage.discarded
 
--- Whether a number has 64 bits, and the number where it has.
-unfoldable pub sum_of : ℕ → Sum
-sum_of n = record { fits = ltb n (2 ^ 64); value = pick (ltb n (2 ^ 64)) n 0 }
-
--- The entries that all servers have discarded.
-unfoldable pub discarded_sum : State → Sum
-discarded_sum s = sum_of (discarded_by s.servers)
+-- The entries that all servers have discarded, if their number has 64 bits.
+unfoldable pub discarded_sum : State → Option ℕ
+discarded_sum s = let n = discarded_by s.servers in pick (ltb n (2 ^ 64)) (Some n) None
 
 -- The entries of k servers were added up: with those of the others they are the entries of all.
 pub record Adding (b : List ℕ) (F : Capacity) (value k : ℕ) : Type 0 where

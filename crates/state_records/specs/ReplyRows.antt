@@ -26,7 +26,7 @@ use Rattle.state.specs.Fitting.{area_fits}
 use Rattle.state.specs.FitsBy.{fits_test}
 use Rattle.state.specs.Changes.{Inside, AreaOf, Changes, Reads}
 use Rattle.state.specs.Tables.{Spans, replies_span, table_put}
-use Rattle.state_records.specs.Records.{reply_count, reply_of, reply_at, replied}
+use Rattle.state_records.specs.Records.{reply_count, reply_at, replied}
 use Rattle.state_records.specs.Fits.{fits_replied}
 use Rattle.state_records.specs.Lent.{spans_is, lent_holds, counted, history_is, no_room}
 
@@ -53,11 +53,11 @@ module _ (b : List ℕ) (F : Capacity) where
     replies_most s h ef =
         omega (arith, c.to s h ef, leb-true (length s.replies) s.limits.history (and_left _ _ (fits_test s (area_fits h) 14)), history_is ef)
 
-    pub reply_past : (i : ℕ) → F.limits.history < n → Reads b F (reply_of None) (reply_at i)
+    pub reply_past : (i : ℕ) → F.limits.history < n → Reads b F None (reply_at i)
     reply_past i k = record { to = λ s h ef. absurd (let o : n ≤ F.limits.history = replies_most s h ef in omega arith) }
 
-    pub reply_none : (i : ℕ) → n ≤ i → Reads b F (reply_of None) (reply_at i)
-    unfolding reply_count reply_of reply_at
+    pub reply_none : (i : ℕ) → n ≤ i → Reads b F None (reply_at i)
+    unfolding reply_count reply_at
     reply_none i k = record { to = λ s h ef. sym (at_none s.replies i (omega (arith, c.to s h ef))) }
 
     module _ (at : ℕ) (p : Counted at (replies_at F)) where
@@ -72,8 +72,8 @@ module _ (b : List ℕ) (F : Capacity) where
           (record { holds = lent_holds replies_spans (replies_code (capacity_of s) (counts_of s)) b s s.replies ef h.laid.replies })
 
       pub reply_read : (i : ℕ) (r : Reply) → ReadsReply n i r (lent_row at (F.limits.history * 5) b)
-          → Reads b F (reply_of (Some r)) (reply_at i)
-      unfolding reply_of reply_at
+          → Reads b F (Some r) (reply_at i)
+      unfolding reply_at
       reply_read i r g = record {
         to =
             λ s h ef. sym (g.to s.replies (record { indexes = s.limits.log_indexes; clients = s.config.clients; words = s.limits.history * 5; held = replies_held s h ef }));

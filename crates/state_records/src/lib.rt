@@ -4,7 +4,7 @@
 ghost use Rattle.std.specs.Prelude.{◌≡◌, ◌+◌, ◌*◌, ◌≤◌, ◌<◌, length};
 ghost use Rattle.layout.specs.Marked.{words_for};
 ghost use Rattle.state.specs.Changes.{Inside, Changes, Reads};
-ghost use Rattle.state_records.specs.Records.{client_read, client_set, reply_count, reply_of, reply_at, replied, confirmation_count, confirmation_at, confirmed, violation_count, violation_at, applied_count, ReadsRow, ReadsPlace, ReadsApplied, discarded_at, discarded_sum};
+ghost use Rattle.state_records.specs.Records.{client_read, client_set, reply_count, reply_at, replied, confirmation_count, confirmation_at, confirmed, violation_count, violation_at, applied_count, ReadsRow, ReadsPlace, ReadsApplied, discarded_at, discarded_sum};
 
 use checks::violations;
 use checks::violations::Violation;
@@ -12,17 +12,9 @@ use checks_durability::replies;
 use checks_durability::replies::Reply;
 use clients::confirmations::Confirmation;
 use clients::{Client, confirmations};
-use layout::marked::Kind;
 use layout::{marked, rows};
 use state::{Capacity, sizes};
-use units::LogIndex;
-
-// A sum, and whether it has 64 bits; 0 where it has not.
-#[derive(Clone, Copy)]
-pub struct Sum {
-    pub fits: bool,
-    pub value: u64,
-}
+use units::{LogIndex, PayloadShape};
 
 // ---- clients
 
@@ -54,6 +46,9 @@ pub fn set_client(area: &mut [u8], f: Capacity, c: usize, client: Client)
 
 // ---- replies
 
+// Confirmations below are kept the same way in rows of another kind. One function for both takes a trait that has their count, place,
+// width, reading, writing and meaning, each with its clause, and is longer than the two.
+
 // How many replies are kept.
 pub fn reply_count(area: &[u8], f: Capacity) -> u64
     requires { Inside area.now f }
@@ -65,7 +60,7 @@ pub fn reply_count(area: &[u8], f: Capacity) -> u64
 // The reply at a place, or none.
 pub fn reply_of(area: &[u8], f: Capacity, i: usize) -> Option<Reply>
     requires { Inside area.now f }
-    ensures { Reads area.now f (reply_of result) (reply_at i) }
+    ensures { Reads area.now f result (reply_at i) }
 {
     let limits = f.limits;
     let n = reply_count(area, f) as usize;
@@ -93,9 +88,8 @@ pub fn append_reply(area: &mut [u8], f: Capacity, reply: Reply)
     let at = sizes::replies_at(f);
     let a = 8 * at;
     let e = 8 * (at + most * 5);
-    match replies::append(&mut area[a..e], n, most, reply) {
-        Some(m) => words::store(area, 86, m as u64),
-        None => {}
+    if let Some(m) = replies::append(&mut area[a..e], n, most, reply) {
+        words::store(area, 86, m as u64);
     }
 }
 
@@ -140,9 +134,8 @@ pub fn append_confirmation(area: &mut [u8], f: Capacity, confirmation: Confirmat
     let at = sizes::confirmations_at(f);
     let a = 8 * at;
     let e = 8 * (at + most * 3);
-    match confirmations::append(&mut area[a..e], n, most, confirmation) {
-        Some(m) => words::store(area, 87, m as u64),
-        None => {}
+    if let Some(m) = confirmations::append(&mut area[a..e], n, most, confirmation) {
+        words::store(area, 87, m as u64);
     }
 }
 
@@ -181,8 +174,8 @@ fn applied_count(area: &[u8], f: Capacity) -> u64
     words::load(&area[664..728], 5)
 }
 
-// The kind of the payload in a row, whose bytes go to the front of a buffer.
-fn read_row(s: &[u8], p: usize, buffer: &mut [u8]) -> Option<Kind>
+// The shape of the payload in a row, whose bytes go to the front of a buffer.
+fn read_row(s: &[u8], p: usize, buffer: &mut [u8]) -> Option<PayloadShape>
     requires { (length s.now ≡ 8 * (1 + words_for p)) × (p ≤ length buffer.old) }
     ensures { ReadsRow p result s.now buffer.old buffer.new }
 {
@@ -193,8 +186,8 @@ fn read_row(s: &[u8], p: usize, buffer: &mut [u8]) -> Option<Kind>
     Some(marked::read_payload(s, buffer))
 }
 
-// The kind of the payload at a place of n, or none; its bytes go to the front of a buffer.
-fn read_place(s: &[u8], n: usize, p: usize, i: usize, buffer: &mut [u8]) -> Option<Kind>
+// The shape of the payload at a place of n, or none; its bytes go to the front of a buffer.
+fn read_place(s: &[u8], n: usize, p: usize, i: usize, buffer: &mut [u8]) -> Option<PayloadShape>
     requires { (p ≤ 256) × (8 * (n * (1 + words_for p)) ≤ length s.now) × (p ≤ length buffer.old) }
     ensures { ReadsPlace p n i result s.now buffer.old buffer.new }
 {
@@ -208,8 +201,13 @@ fn read_place(s: &[u8], n: usize, p: usize, i: usize, buffer: &mut [u8]) -> Opti
     read_row(&s[a..e], p, buffer)
 }
 
-// The kind of the payload first applied at an index, or none; the bytes of a command go to the front of a buffer.
-pub fn read_applied(area: &[u8], f: Capacity, index: LogIndex, buffer: &mut [u8]) -> Option<Kind>
+// The shape of the payload first applied at an index, or none; the bytes of a command go to the front of a buffer.
+pub fn read_applied(
+    area: &[u8],
+    f: Capacity,
+    index: LogIndex,
+    buffer: &mut [u8],
+) -> Option<PayloadShape>
     requires inside { Inside area.now f }
     requires payload_in_bounds { f.limits.payload ≤ length buffer.old }
     ensures { ReadsApplied area.now f index.0 result buffer.old buffer.new }
@@ -244,24 +242,14 @@ fn discarded_by(area: &[u8], f: Capacity, k: usize) -> u64
     words::load(&area[4096..e], at - 505)
 }
 
-// The entries that all servers have discarded, and whether their number has 64 bits.
-pub fn discarded_of(area: &[u8], f: Capacity) -> Sum
+// The entries that all servers have discarded, if their number has 64 bits.
+pub fn discarded_of(area: &[u8], f: Capacity) -> Option<u64>
     requires { Inside area.now f }
     ensures { Reads area.now f result discarded_sum }
 {
-    let n = f.servers as usize;
-    let mut value = 0;
-    let mut k = 0;
-    while k < n {
-        let more = discarded_by(area, f, k);
-        if 18446744073709551615 - value < more {
-            return Sum {
-                fits: false,
-                value: 0,
-            };
-        }
-        value += more;
-        k += 1;
+    let mut sum: u64 = 0;
+    for k in 0..f.servers as usize {
+        sum = sum.checked_add(discarded_by(area, f, k))?;
     }
-    Sum { fits: true, value }
+    Some(sum)
 }

@@ -81,10 +81,6 @@ module _ (b : List ℕ) (F : Capacity) (k at : ℕ) (i : k < F.servers) (p : Blo
   unfolding server_state_at
   state_read r q = record { to = λ s h e. q ∙ holds_parse (state_there s h e) }
 
-  pub status_read : (r : Option Status) → r ≡ (server_state_in (W (lent (8 * at + 64) (8 * at + 176) b))).status → Reads b F r (status_at k)
-  unfolding status_at
-  status_read r q = record { to = λ s h e. q ∙ ap (λ (x : ServerState). x.status) (holds_parse (state_there s h e)) }
-
   count_word : (n : ℕ) → n ≡ get_or (W (lent (8 * at + 64) (8 * at + 176) b)) 11 0 → Reads b F n (pending_at k)
   unfolding pending_at
   count_word n q = record { to = λ s h e. q ∙ ap (λ (ws : List ℕ). get_or ws 11 0) (holds_w (state_there s h e)) }
@@ -101,6 +97,10 @@ module _ (b : List ℕ) (F : Capacity) (k at : ℕ) (i : k < F.servers) (p : Blo
       past s h e =
           let f = held_rows (server_at_held (area_of h e) k i).pending in
           omega (arith, (count_word n q).to s h e, f.room)
+
+pub status_told : {b : List ℕ} {F : Capacity} (k : ℕ) {r : ServerState} → Reads b F r (server_state_at k) → Reads b F r.status (status_at k)
+unfolding server_state_at status_at
+status_told k q = record { to = λ s h e. ap (λ (x : ServerState). x.status) (q.to s h e) }
 
 -- ---- the fixed part, written
 

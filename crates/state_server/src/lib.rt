@@ -44,10 +44,7 @@ pub fn status_of(area: &[u8], f: Capacity, k: usize) -> Option<Status>
     requires k_lt_servers { k < f.servers }
     ensures { Reads area.now f result (status_at k) }
 {
-    let at = block_in(area, f, k);
-    let a = 8 * at + 64;
-    let e = 8 * at + 176;
-    server::load_status(&area[a..e])
+    server_of(area, f, k).status
 }
 
 // Whether a server runs: it has a status.

@@ -77,8 +77,8 @@ pub fn push_put(
     requires payload_bound { length (body_of (payload_behind payload)) ≤ p }
     ensures { Becomes (waiting p) m (m + 1) s.old s.new (append (write_put index (record { term = term; payload = payload_behind payload.entry }))) }
 {
-    let mark = 2 + raft_log::mark_of(payload);
-    let bytes = raft_log::bytes_of(payload);
+    let mark = 2 + marked::mark_of(payload);
+    let bytes = marked::bytes_of(payload);
     push(s, m, p, mark, bytes, index.0, term.0);
 }
 
@@ -117,7 +117,7 @@ fn payload_said(p: usize, mark: u64) -> PayloadShape
     }
 }
 
-// What a row says by its numbers.
+// What a row says by its numbers, of which the first tells kind and length at once, so that it is no enum's number.
 fn row_shape(p: usize, mark: u64, a: u64, b: u64) -> Shape
     ensures { Shaped p mark a b result }
 {
@@ -156,13 +156,6 @@ pub fn write_at(s: &[u8], m: usize, p: usize, k: usize) -> Shape
 
 // ---- check
 
-// How many bytes a row's first word says: none where it is 4 or less.
-fn used(mark: u64) -> usize
-    ensures { result ≡ mark - 4 }
-{
-    mark.saturating_sub(4) as usize
-}
-
 // Whether a row's second number is zero where it says nothing.
 fn plain(mark: u64, b: u64) -> bool
     ensures { result ≡ plain_mark mark b }
@@ -188,7 +181,8 @@ fn check_write(s: &[u8], n: u64, p: usize) -> bool
     let w = 1 + (p + 7) / 8;
     let e = 8 * w;
     let mark = words::load(s, 0);
-    if !marked::rest_ok(&s[0..e], used(mark), p) {
+    let length = mark.saturating_sub(4) as usize;
+    if !marked::rest_ok(&s[0..e], length, p) {
         return false;
     }
     let a = words::load(s, w);

@@ -27,7 +27,8 @@ pub struct SimTime(pub u64);
 #[derive(Clone, Copy, PartialEq, Eq, PartialOrd, Ord)]
 pub struct Duration(pub u64);
 
-// The shape of a payload: nothing, or a command of so many bytes.
+// The shape of a payload: nothing, or a command of so many bytes. A noop is a payload and no absence of one, so this is no Option: an entry
+// without a payload is another thing, and both stand together in `Option<EntryShape>`.
 #[derive(Clone, Copy)]
 pub enum PayloadShape {
     Noop,

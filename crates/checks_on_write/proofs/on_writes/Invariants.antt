@@ -1,4 +1,4 @@
--- Made by tools/uniform from proofs.txt, not by hand: ab92698531ad2b64
+-- Made by tools/uniform from proofs.txt, not by hand: 32903c2360e20385
 use Rattle.checks_on_write.specs.WritesLaws.{Asking}
 use Rattle.checks_on_write.proofs.on_writes.Given as goal
 

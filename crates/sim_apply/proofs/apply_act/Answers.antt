@@ -1,11 +1,11 @@
--- Made by tools/uniform from proofs.txt, not by hand: f1af94a37052987a
+-- Made by tools/uniform from proofs.txt, not by hand: 5baa9410774ddc1c
 use Rattle.state.specs.Exits.{inside_after}
 use Rattle.sim_apply.specs.ApplyLaws.{apply_acts_lem}
 use borrow.Author.Rules.{rules}
 use Rattle.sim_apply.proofs.apply_act.Goals as goal
 
-pub key_given-key-requires : goal.key_given-key-requires
-key_given-key-requires c = search (inside_after, apply_acts_lem, rules)
+pub key_for-key-requires : goal.key_for-key-requires
+key_for-key-requires c = search (inside_after, apply_acts_lem, rules)
 
 pub check_apply-requires : goal.check_apply-requires
 check_apply-requires c = search (inside_after, apply_acts_lem, rules)

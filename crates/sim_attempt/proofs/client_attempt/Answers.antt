@@ -1,4 +1,4 @@
--- Made by tools/uniform from proofs.txt, not by hand: f85558f25fe28d4a
+-- Made by tools/uniform from proofs.txt, not by hand: 1df1b22218d97055
 use Rattle.state.specs.Exits.{inside_after}
 use Rattle.sim_outputs.specs.Laws.{passed_inside}
 use Rattle.sim_attempt.specs.Acts.{attempt_none, attempt_some}
@@ -19,6 +19,12 @@ draw_delay-requires c = search (passed_inside, inside_after, attempt_none, attem
 
 pub set_client-requires : goal.set_client-requires
 set_client-requires c = search (passed_inside, inside_after, attempt_none, attempt_some, rules)
+
+pub unwrap_or-at-requires : goal.unwrap_or-at-requires
+unwrap_or-at-requires c = search (passed_inside, inside_after, attempt_none, attempt_some, rules)
+
+pub unwrap_or-end-requires : goal.unwrap_or-end-requires
+unwrap_or-end-requires c = search (passed_inside, inside_after, attempt_none, attempt_some, rules)
 
 pub send_outstanding-requires : goal.send_outstanding-requires
 send_outstanding-requires c = search (passed_inside, inside_after, attempt_none, attempt_some, rules)

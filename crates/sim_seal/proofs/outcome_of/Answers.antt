@@ -1,4 +1,4 @@
--- Made by tools/uniform from proofs.txt, not by hand: 754ed8a07c42b1ab
+-- Made by tools/uniform from proofs.txt, not by hand: f7a733938db85217
 use Rattle.sim_seal.specs.SealLaws.{outcome_synced, outcome_none}
 use borrow.Author.Rules.{rules}
 use Rattle.sim_seal.proofs.outcome_of.Goals as goal
@@ -9,5 +9,5 @@ unsynced_of-told-requires c = search (outcome_synced, outcome_none, rules)
 pub returns-then-told : goal.returns-then-told
 returns-then-told c = search (outcome_synced, outcome_none, rules)
 
-pub returns : goal.returns
-returns c = search (outcome_synced, outcome_none, rules)
+pub returns-else-told : goal.returns-else-told
+returns-else-told c = search (outcome_synced, outcome_none, rules)

@@ -1,16 +1,14 @@
--- Made by tools/uniform from proofs.txt, not by hand: 8b6788951b2c3459
-use Rattle.sim_send.specs.Laws.{from_fits, send_asked}
+-- Made by tools/uniform from proofs.txt, not by hand: da3794cdfb0e6e31
+use Rattle.state.specs.Exits.{err_returned}
+use Rattle.sim_send.specs.Laws.{from_fits, asked_no, send_asked}
 use borrow.Author.Rules.{rules}
 use Rattle.sim_send.proofs.send_asked.Goals as goal
 
-pub sender_of-sender-requires : goal.sender_of-sender-requires
-sender_of-sender-requires c = search (from_fits, send_asked, rules)
-
-pub asks_code-code-requires : goal.asks_code-code-requires
-asks_code-code-requires c = search (from_fits, send_asked, rules)
+pub returns-in_err-first_no : goal.returns-in_err-first_no
+returns-in_err-first_no c = search (asked_no, c.in_err-first_no.was, err_returned c.from_residual.ensures.1, rules)
 
 pub overflow_add-result : goal.overflow_add-result
-overflow_add-result c = search (from_fits, send_asked, rules)
+overflow_add-result c = search (from_fits, rules)
 
 pub returns : goal.returns
-returns c = search (from_fits, send_asked, rules)
+returns c = search (send_asked, c.in_ok-first_no.was, rules)

@@ -1,6 +1,6 @@
--- Made by tools/uniform from proofs.txt, not by hand: b02d0fb03fb5757e
+-- Made by tools/uniform from proofs.txt, not by hand: 13b22165b8717b88
 use Rattle.state.specs.Exits.{inside_after}
-use Rattle.state_disk.specs.Laws.{synced_none, synced_some}
+use Rattle.state_disk.specs.Laws.{synced_at_lem}
 use borrow.Author.Rules.{rules}
 use Rattle.state_disk.proofs.sync.Goals as goal
 
@@ -25,8 +25,5 @@ sync-r-requires c = search (inside_after, rules)
 pub store_storage-requires : goal.store_storage-requires
 store_storage-requires c = search (inside_after, rules)
 
-pub returns-in-None : goal.returns-in-None
-returns-in-None c = synced_none _ _ _ _ _ _ _ c.requires.k_lt_servers c.disk_in-d.ensures c.storage_in-v.ensures _ c.sync-r.ensures c.store_storage.ensures c.in-None.is
-
-pub returns-in-Some : goal.returns-in-Some
-returns-in-Some c = synced_some _ _ _ _ _ _ _ c.requires.k_lt_servers c.disk_in-d.ensures c.storage_in-v.ensures _ c.sync-r.ensures c.store_storage.ensures _ c.in-Some.is
+pub returns : goal.returns
+returns c = synced_at_lem _ _ _ _ _ _ _ c.requires.k_lt_servers c.disk_in-d.ensures c.storage_in-v.ensures _ c.sync-r.ensures c.store_storage.ensures

@@ -1,4 +1,4 @@
--- Made by tools/uniform from proofs.txt, not by hand: f7419ef163b8b6e4
+-- Made by tools/uniform from proofs.txt, not by hand: 3b0d1ea827c61b04
 use Rattle.state_disk.specs.Laws.{waiting_room, unsynced_read}
 use borrow.Author.Rules.{rules}
 use Rattle.state_disk.proofs.unsynced_of.Goals as goal
@@ -30,5 +30,8 @@ slice_bounds-unsynced_bytes-end c = search (waiting_room, unsynced_read, rules)
 pub unsynced_bytes-bytes-requires : goal.unsynced_bytes-bytes-requires
 unsynced_bytes-bytes-requires c = search (waiting_room, unsynced_read, rules)
 
+pub then_some-requires : goal.then_some-requires
+then_some-requires c = search (waiting_room, unsynced_read, rules)
+
 pub returns : goal.returns
-returns c = unsynced_read _ _ _ _ _ _ _ c.requires.k_lt_servers c.disk_in-d.ensures c.log_words-logs.ensures c.storage_in-v.ensures c.unsynced_bytes-bytes.ensures
+returns c = unsynced_read _ _ _ _ _ _ _ _ c.requires.k_lt_servers c.disk_in-d.ensures c.log_words-logs.ensures c.storage_in-v.ensures c.unsynced_bytes-bytes.ensures (search rules)

@@ -1,4 +1,4 @@
--- Made by tools/uniform from proofs.txt, not by hand: 7fa9a2942681ab8c
+-- Made by tools/uniform from proofs.txt, not by hand: 93f2ef1f0bfc1603
 use Rattle.state_records.specs.ConfirmationRows.{confirmation_put, confirmation_full, confirmations_end, confirmations_within}
 use borrow.Author.Rules.{rules}
 use Rattle.state_records.proofs.append_confirmation.Goals as goal
@@ -39,5 +39,5 @@ store-requires c = search (confirmations_end, confirmations_within, rules)
 pub returns-in-Some : goal.returns-in-Some
 returns-in-Some c = confirmation_put _ _ _ c.confirmation_count-n.ensures _ c.confirmations_at-at.ensures _ _ _ c.append.ensures _ _ c.in-Some.is c.store.ensures
 
-pub returns-in-None : goal.returns-in-None
-returns-in-None c = confirmation_full _ _ _ c.confirmation_count-n.ensures _ c.confirmations_at-at.ensures _ _ _ c.append.ensures c.in-None.is
+pub returns-in_default : goal.returns-in_default
+returns-in_default c = confirmation_full _ _ _ c.confirmation_count-n.ensures _ c.confirmations_at-at.ensures _ _ _ c.append.ensures c.in_default.is

@@ -1,4 +1,4 @@
--- Made by tools/uniform from proofs.txt, not by hand: c9001cccb490e8b5
+-- Made by tools/uniform from proofs.txt, not by hand: abfa42b5f3055d56
 use Rattle.state_records.specs.ReplyRows.{reply_put, reply_full, replies_end, replies_within}
 use borrow.Author.Rules.{rules}
 use Rattle.state_records.proofs.append_reply.Goals as goal
@@ -39,5 +39,5 @@ store-requires c = search (replies_end, replies_within, rules)
 pub returns-in-Some : goal.returns-in-Some
 returns-in-Some c = reply_put _ _ _ c.reply_count-n.ensures _ c.replies_at-at.ensures _ _ _ c.append.ensures _ _ c.in-Some.is c.store.ensures
 
-pub returns-in-None : goal.returns-in-None
-returns-in-None c = reply_full _ _ _ c.reply_count-n.ensures _ c.replies_at-at.ensures _ _ _ c.append.ensures c.in-None.is
+pub returns-in_default : goal.returns-in_default
+returns-in_default c = reply_full _ _ _ c.reply_count-n.ensures _ c.replies_at-at.ensures _ _ _ c.append.ensures c.in_default.is

@@ -1,5 +1,4 @@
--- Made by tools/uniform from proofs.txt, not by hand: 705d60ecdc62746e
-use Prim.Native.Nat.{◌-◌}
+-- Made by tools/uniform from proofs.txt, not by hand: 72db24969d076f7c
 use Rattle.state_server.specs.Laws.{Choosing}
 use Rattle.state_server.proofs.leader_of.Given as goal
 

@@ -1,13 +1,13 @@
--- Made by tools/uniform from proofs.txt, not by hand: 40a49e77c1075605
+-- Made by tools/uniform from proofs.txt, not by hand: 4f39f26b481b2715
 use Rattle.state.specs.Exits.{inside_of, inside_after}
 use borrow.Author.Rules.{rules}
 use Rattle.area.proofs.checking.applied_read.Goals as goal
 
-pub gate-g-requires : goal.gate-g-requires
-gate-g-requires c = search (inside_of, inside_after, rules)
+pub gate-requires : goal.gate-requires
+gate-requires c = search (inside_of, inside_after, rules)
 
-pub returns-then-g-gt0 : goal.returns-then-g-gt0
-returns-then-g-gt0 c = search (inside_of, inside_after, rules)
+pub returns-in_default : goal.returns-in_default
+returns-in_default c = search (inside_of, inside_after, rules)
 
 pub returns-then-limits-gt256 : goal.returns-then-limits-gt256
 returns-then-limits-gt256 c = search (inside_of, inside_after, rules)

@@ -1,13 +1,13 @@
--- Made by tools/uniform from proofs.txt, not by hand: c16fa3aaf798d108
+-- Made by tools/uniform from proofs.txt, not by hand: fc09e4b801dbf84a
 use Rattle.state.specs.Exits.{inside_of, inside_after}
 use borrow.Author.Rules.{rules}
 use Rattle.area.proofs.checking.matching_asked.Goals as goal
 
-pub gate-g-requires : goal.gate-g-requires
-gate-g-requires c = search (inside_of, inside_after, rules)
+pub gate-requires : goal.gate-requires
+gate-requires c = search (inside_of, inside_after, rules)
 
-pub returns-then-g-gt0 : goal.returns-then-g-gt0
-returns-then-g-gt0 c = search (inside_of, inside_after, rules)
+pub returns-in_default : goal.returns-in_default
+returns-in_default c = search (inside_of, inside_after, rules)
 
 pub returns-then-f-lt2 : goal.returns-then-f-lt2
 returns-then-f-lt2 c = search (inside_of, inside_after, rules)
@@ -20,6 +20,9 @@ mismatch_of-found-requires c = search (inside_of, inside_after, rules)
 
 pub matching_act-requires : goal.matching_act-requires
 matching_act-requires c = search (inside_of, inside_after, rules)
+
+pub switch_way_num-1 : goal.switch_way_num-1
+switch_way_num-1 c = search (inside_of, inside_after, rules)
 
 pub accepted-requires : goal.accepted-requires
 accepted-requires c = search (inside_of, inside_after, rules)

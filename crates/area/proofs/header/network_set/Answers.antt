@@ -1,13 +1,13 @@
--- Made by tools/uniform from proofs.txt, not by hand: 42dfb37a41cd54c7
+-- Made by tools/uniform from proofs.txt, not by hand: 95006d4ca77a9c01
 use Rattle.state.specs.Exits.{inside_of, inside_after}
 use borrow.Author.Rules.{rules}
 use Rattle.area.proofs.header.network_set.Goals as goal
 
-pub gate-g-requires : goal.gate-g-requires
-gate-g-requires c = search (inside_of, inside_after, rules)
+pub gate-requires : goal.gate-requires
+gate-requires c = search (inside_of, inside_after, rules)
 
-pub returns-then-g-gt0 : goal.returns-then-g-gt0
-returns-then-g-gt0 c = search (inside_of, inside_after, rules)
+pub returns-in_default : goal.returns-in_default
+returns-in_default c = search (inside_of, inside_after, rules)
 
 pub network_of-n-requires : goal.network_of-n-requires
 network_of-n-requires c = search (inside_of, inside_after, rules)

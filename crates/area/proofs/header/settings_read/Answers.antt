@@ -1,13 +1,13 @@
--- Made by tools/uniform from proofs.txt, not by hand: edd484102e98993e
+-- Made by tools/uniform from proofs.txt, not by hand: 4ae78a5e5333f1e1
 use Rattle.state.specs.Exits.{inside_of, inside_after}
 use borrow.Author.Rules.{rules}
 use Rattle.area.proofs.header.settings_read.Goals as goal
 
-pub gate-g-requires : goal.gate-g-requires
-gate-g-requires c = search (inside_of, inside_after, rules)
+pub gate-requires : goal.gate-requires
+gate-requires c = search (inside_of, inside_after, rules)
 
-pub returns-then-g-gt0 : goal.returns-then-g-gt0
-returns-then-g-gt0 c = search (inside_of, inside_after, rules)
+pub returns-in_default : goal.returns-in_default
+returns-in_default c = search (inside_of, inside_after, rules)
 
 pub settings_of-settings-requires : goal.settings_of-settings-requires
 settings_of-settings-requires c = search (inside_of, inside_after, rules)

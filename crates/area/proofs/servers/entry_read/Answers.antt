@@ -1,13 +1,13 @@
--- Made by tools/uniform from proofs.txt, not by hand: 15bd55a9a80bae5f
+-- Made by tools/uniform from proofs.txt, not by hand: 48b7ccfc66b9f933
 use Rattle.state.specs.Exits.{inside_of, inside_after}
 use borrow.Author.Rules.{rules}
 use Rattle.area.proofs.servers.entry_read.Goals as goal
 
-pub gate-g-requires : goal.gate-g-requires
-gate-g-requires c = search (inside_of, inside_after, rules)
+pub gate-requires : goal.gate-requires
+gate-requires c = search (inside_of, inside_after, rules)
 
-pub returns-then-g-gt0 : goal.returns-then-g-gt0
-returns-then-g-gt0 c = search (inside_of, inside_after, rules)
+pub returns-in_default : goal.returns-in_default
+returns-in_default c = search (inside_of, inside_after, rules)
 
 pub returns-then-f-lt2 : goal.returns-then-f-lt2
 returns-then-f-lt2 c = search (inside_of, inside_after, rules)
@@ -23,6 +23,9 @@ read_entry-place-requires c = search (inside_of, inside_after, rules)
 
 pub log_numbers-numbers-requires : goal.log_numbers-numbers-requires
 log_numbers-numbers-requires c = search (inside_of, inside_after, rules)
+
+pub is_some_and-there-requires : goal.is_some_and-there-requires
+is_some_and-there-requires c = search (inside_of, inside_after, rules)
 
 pub bounds-buffer-1 : goal.bounds-buffer-1
 bounds-buffer-1 c = search (inside_of, inside_after, rules)

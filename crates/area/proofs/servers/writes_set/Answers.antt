@@ -1,13 +1,13 @@
--- Made by tools/uniform from proofs.txt, not by hand: 04a60cffcac7318a
+-- Made by tools/uniform from proofs.txt, not by hand: 233eb6f3ed019883
 use Rattle.state.specs.Exits.{inside_of, inside_after}
 use borrow.Author.Rules.{rules}
 use Rattle.area.proofs.servers.writes_set.Goals as goal
 
-pub gate-g-requires : goal.gate-g-requires
-gate-g-requires c = search (inside_of, inside_after, rules)
+pub gate-requires : goal.gate-requires
+gate-requires c = search (inside_of, inside_after, rules)
 
-pub returns-then-g-gt0 : goal.returns-then-g-gt0
-returns-then-g-gt0 c = search (inside_of, inside_after, rules)
+pub returns-in_default : goal.returns-in_default
+returns-in_default c = search (inside_of, inside_after, rules)
 
 pub returns-then-f-lt2 : goal.returns-then-f-lt2
 returns-then-f-lt2 c = search (inside_of, inside_after, rules)

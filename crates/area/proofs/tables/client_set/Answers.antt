@@ -1,13 +1,13 @@
--- Made by tools/uniform from proofs.txt, not by hand: 3a102f5dd0168049
+-- Made by tools/uniform from proofs.txt, not by hand: fb5b4895b4a9dcb7
 use Rattle.state.specs.Exits.{inside_of, inside_after}
 use borrow.Author.Rules.{rules}
 use Rattle.area.proofs.tables.client_set.Goals as goal
 
-pub gate-g-requires : goal.gate-g-requires
-gate-g-requires c = search (inside_of, inside_after, rules)
+pub gate-requires : goal.gate-requires
+gate-requires c = search (inside_of, inside_after, rules)
 
-pub returns-then-g-gt0 : goal.returns-then-g-gt0
-returns-then-g-gt0 c = search (inside_of, inside_after, rules)
+pub returns-in_default : goal.returns-in_default
+returns-in_default c = search (inside_of, inside_after, rules)
 
 pub returns-then-f-lt1 : goal.returns-then-f-lt1
 returns-then-f-lt1 c = search (inside_of, inside_after, rules)

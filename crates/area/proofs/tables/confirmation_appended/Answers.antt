@@ -1,13 +1,13 @@
--- Made by tools/uniform from proofs.txt, not by hand: c2f0f42043a4f9f7
+-- Made by tools/uniform from proofs.txt, not by hand: 8b696e5fd17c00b9
 use Rattle.state.specs.Exits.{inside_of, inside_after}
 use borrow.Author.Rules.{rules}
 use Rattle.area.proofs.tables.confirmation_appended.Goals as goal
 
-pub gate-g-requires : goal.gate-g-requires
-gate-g-requires c = search (inside_of, inside_after, rules)
+pub gate-requires : goal.gate-requires
+gate-requires c = search (inside_of, inside_after, rules)
 
-pub returns-then-g-gt0 : goal.returns-then-g-gt0
-returns-then-g-gt0 c = search (inside_of, inside_after, rules)
+pub returns-in_default : goal.returns-in_default
+returns-in_default c = search (inside_of, inside_after, rules)
 
 pub append_confirmation-requires : goal.append_confirmation-requires
 append_confirmation-requires c = search (inside_of, inside_after, rules)

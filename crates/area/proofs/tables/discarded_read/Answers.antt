@@ -1,16 +1,19 @@
--- Made by tools/uniform from proofs.txt, not by hand: 0bc8580df09cfa33
+-- Made by tools/uniform from proofs.txt, not by hand: b17af64251443a29
 use Rattle.state.specs.Exits.{inside_of, inside_after}
 use borrow.Author.Rules.{rules}
 use Rattle.area.proofs.tables.discarded_read.Goals as goal
 
-pub gate-g-requires : goal.gate-g-requires
-gate-g-requires c = search (inside_of, inside_after, rules)
+pub gate-requires : goal.gate-requires
+gate-requires c = search (inside_of, inside_after, rules)
 
-pub returns-then-g-gt0 : goal.returns-then-g-gt0
-returns-then-g-gt0 c = search (inside_of, inside_after, rules)
+pub returns-in_default : goal.returns-in_default
+returns-in_default c = search (inside_of, inside_after, rules)
 
-pub discarded_of-sum-requires : goal.discarded_of-sum-requires
-discarded_of-sum-requires c = search (inside_of, inside_after, rules)
+pub discarded_of-requires : goal.discarded_of-requires
+discarded_of-requires c = search (inside_of, inside_after, rules)
+
+pub eq-requires : goal.eq-requires
+eq-requires c = search (inside_of, inside_after, rules)
 
 pub returns : goal.returns
 returns c = search (inside_of, inside_after, rules)

@@ -1,13 +1,13 @@
--- Made by tools/uniform from proofs.txt, not by hand: 4df9c409e4be308c
+-- Made by tools/uniform from proofs.txt, not by hand: c230c9d97f645f6b
 use Rattle.state.specs.Exits.{inside_of, inside_after}
 use borrow.Author.Rules.{rules}
 use Rattle.area.proofs.tables.events_pushed.Goals as goal
 
-pub gate-g-requires : goal.gate-g-requires
-gate-g-requires c = search (inside_of, inside_after, rules)
+pub gate-requires : goal.gate-requires
+gate-requires c = search (inside_of, inside_after, rules)
 
-pub returns-then-g-gt0 : goal.returns-then-g-gt0
-returns-then-g-gt0 c = search (inside_of, inside_after, rules)
+pub returns-in_default : goal.returns-in_default
+returns-in_default c = search (inside_of, inside_after, rules)
 
 pub returns-then-limits-lt2 : goal.returns-then-limits-lt2
 returns-then-limits-lt2 c = search (inside_of, inside_after, rules)

@@ -1,13 +1,13 @@
--- Made by tools/uniform from proofs.txt, not by hand: 3b8a5edff016af8a
+-- Made by tools/uniform from proofs.txt, not by hand: e5f3b317d1efb670
 use Rattle.state.specs.Exits.{inside_of, inside_after}
 use borrow.Author.Rules.{rules}
 use Rattle.area.proofs.tables.reply_appended.Goals as goal
 
-pub gate-g-requires : goal.gate-g-requires
-gate-g-requires c = search (inside_of, inside_after, rules)
+pub gate-requires : goal.gate-requires
+gate-requires c = search (inside_of, inside_after, rules)
 
-pub returns-then-g-gt0 : goal.returns-then-g-gt0
-returns-then-g-gt0 c = search (inside_of, inside_after, rules)
+pub returns-in_default : goal.returns-in_default
+returns-in_default c = search (inside_of, inside_after, rules)
 
 pub append_reply-requires : goal.append_reply-requires
 append_reply-requires c = search (inside_of, inside_after, rules)

@@ -1,16 +1,23 @@
--- Made by tools/uniform from proofs.txt, not by hand: 28d0e0fb692b6625
+-- Made by tools/uniform from proofs.txt, not by hand: f00362ab487657b7
+use Rattle.sim_outputs.specs.Laws.{sums_of}
 use Rattle.sim_owed.specs.ServerLaws.{restart_asked}
 use borrow.Author.Rules.{rules}
 use Rattle.sim_owed.proofs.servers.restart_fits.Goals as goal
 
 pub server_of-x-requires : goal.server_of-x-requires
-server_of-x-requires c = search (restart_asked, rules)
+server_of-x-requires c = search (sums_of, restart_asked, rules)
 
-pub sum64-election-requires : goal.sum64-election-requires
-sum64-election-requires c = search (restart_asked, rules)
+pub checked_add-election-requires : goal.checked_add-election-requires
+checked_add-election-requires c = search (sums_of, restart_asked, rules)
 
-pub sum64-heartbeat-requires : goal.sum64-heartbeat-requires
-sum64-heartbeat-requires c = search (restart_asked, rules)
+pub checked_add-heartbeat-requires : goal.checked_add-heartbeat-requires
+checked_add-heartbeat-requires c = search (sums_of, restart_asked, rules)
+
+pub is_some-requires : goal.is_some-requires
+is_some-requires c = search (sums_of, restart_asked, rules)
+
+pub is_some-requires-2 : goal.is_some-requires-2
+is_some-requires-2 c = search (sums_of, restart_asked, rules)
 
 pub returns : goal.returns
-returns c = search (restart_asked, rules)
+returns c = search (sums_of, restart_asked, rules)

@@ -1,16 +1,26 @@
--- Made by tools/uniform from proofs.txt, not by hand: afe0d44bbc8d7a16
+-- Made by tools/uniform from proofs.txt, not by hand: 2e1240676a467734
+use Rattle.sim_outputs.specs.Laws.{sums_of}
 use Rattle.sim_owed.specs.ServerLaws.{restarts}
 use borrow.Author.Rules.{rules}
 use Rattle.sim_owed.proofs.servers.restarted.Goals as goal
 
-pub sum64-incarnation-requires : goal.sum64-incarnation-requires
-sum64-incarnation-requires c = search (restarts, rules)
+pub checked_add-requires : goal.checked_add-requires
+checked_add-requires c = search (sums_of, restarts, rules)
 
-pub sum64-election-requires : goal.sum64-election-requires
-sum64-election-requires c = search (restarts, rules)
+pub unwrap_or-requires : goal.unwrap_or-requires
+unwrap_or-requires c = search (sums_of, restarts, rules)
 
-pub sum64-heartbeat-requires : goal.sum64-heartbeat-requires
-sum64-heartbeat-requires c = search (restarts, rules)
+pub checked_add-requires-2 : goal.checked_add-requires-2
+checked_add-requires-2 c = search (sums_of, restarts, rules)
+
+pub unwrap_or-requires-2 : goal.unwrap_or-requires-2
+unwrap_or-requires-2 c = search (sums_of, restarts, rules)
+
+pub checked_add-requires-3 : goal.checked_add-requires-3
+checked_add-requires-3 c = search (sums_of, restarts, rules)
+
+pub unwrap_or-requires-3 : goal.unwrap_or-requires-3
+unwrap_or-requires-3 c = search (sums_of, restarts, rules)
 
 pub returns : goal.returns
-returns c = search (restarts, rules)
+returns c = search (sums_of, restarts, rules)

@@ -1,10 +1,10 @@
--- Made by tools/uniform from proofs.txt, not by hand: 5d8c3e3a79c7a1dc
-use Rattle.state_asks.specs.Laws.{rows_all, rows_most}
+-- Made by tools/uniform from proofs.txt, not by hand: a859d9cf0fb8bc97
+use Rattle.state_asks.specs.Laws.{rows_counted}
 use borrow.Author.Rules.{rules}
 use Rattle.state_asks.proofs.numbers.rows_of.Goals as goal
 
-pub returns-then-room-n : goal.returns-then-room-n
-returns-then-room-n c = search (rows_all, rows_most, rules)
+pub at_most-requires : goal.at_most-requires
+at_most-requires c = search (rows_counted, rules)
 
-pub returns-else-room-n : goal.returns-else-room-n
-returns-else-room-n c = search (rows_all, rows_most, rules)
+pub returns : goal.returns
+returns c = search (rows_counted, rules)
