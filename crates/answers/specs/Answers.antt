@@ -1,9 +1,11 @@
 -- The numbers of every answer, as C gets them: of a refusal, and of what a call's definition gives. Assumes nothing.
-use Rattle.std.specs.Prelude.{Bool, true, false, List, [], ◌∷◌, ◌++◌, ℕ, ◌+◌, ◌-◌, length, get_or, Option, None, Some}
+use Rattle.std.specs.Prelude.{[], ◌∷◌, ℕ, ◌+◌, length, get_or, Option, None, Some, Result, Ok, Err}
 use Rattle.units.specs.Types.{Payload, noop, command, Entry}
 pub use Rattle.units.specs.Types.{node_flag as nodePresent, node_number as nodeId}
 pub use Rattle.layout.specs.Payload.{body_of as commandBytes}
 use Rattle.units.specs.declared.NodeId.{NodeId}
+use Rattle.units.specs.declared.refusal.Refusal.{Refusal}
+use Rattle.units.specs.Refusals.{refusal_number, answer_number}
 use Rattle.units.specs.declared.LogIndex.{LogIndex}
 use Rattle.protocol.specs.Numbers.{timer_number, role_number}
 use Rattle.protocol.specs.declared.Status.{Status}
@@ -11,7 +13,7 @@ use Rattle.metrics.specs.declared.Counts.{Counts}
 use Rattle.storage.specs.declared.HardState.{HardState}
 use Rattle.checks.specs.Checks.{Violation, check_number}
 use Rattle.checks_durability.specs.declared.replies.Reply.{Reply}
-use Rattle.model.specs.State.{Confirmation, Input, start_input, message_input, timer_input, propose_input, confirm_input, Phase, closed, writing, sending, id_of}
+use Rattle.model.specs.State.{Confirmation, Input, start_input, message_input, timer_input, propose_input, confirm_input, Phase, closed, writing, sending}
 use Rattle.model.specs.Simulation.{Opening, no_input, open_start, open_message, open_timer, open_proposal, open_confirmation}
 use Rattle.model.specs.Calls.{Asked, Stepped, Sealed, sealing_number}
 use Rattle.model.specs.Calls as calls
@@ -22,6 +24,8 @@ use Rattle.answers.specs.declared.InputNumbers.{InputNumbers}
 use Rattle.answers.specs.declared.OpenedAnswer.{OpenedAnswer}
 use Rattle.answers.specs.declared.SteppedAnswer.{SteppedAnswer}
 use Rattle.answers.specs.declared.SealedAnswer.{SealedAnswer}
+use Rattle.answers.specs.declared.opened.Sealing.{Sealing}
+use Rattle.answers.specs.declared.opened.Sealing.TheVariants as ended
 use Rattle.answers.specs.declared.StatusAnswer.{StatusAnswer}
 use Rattle.answers.specs.declared.HardStateAnswer.{HardStateAnswer}
 use Rattle.answers.specs.declared.LogAnswer.{LogAnswer}
@@ -54,6 +58,10 @@ done_no refusal = record { refusal = refusal }
 -- A call with nothing to tell, accepted.
 abbrev pub done_yes : Unit {0} → DoneAnswer
 done_yes _ = done_no 0
+
+-- A call with nothing to tell, by its outcome.
+abbrev pub done_answer : Result (Unit {0}) Refusal → DoneAnswer
+done_answer outcome = done_no (answer_number outcome)
 
 -- No input.
 abbrev pub no_input_numbers : InputNumbers
@@ -89,6 +97,11 @@ abbrev pub asked_yes : Asked → OpenedAnswer
 asked_yes (calls.asked opening) = opened_yes opening
 asked_yes calls.stopped = opened_of no_input_numbers
 
+-- A start, a direct call or an end, by the numbers of the input that it opened.
+abbrev pub opened_answer : Result InputNumbers Refusal → OpenedAnswer
+opened_answer (Ok input) = opened_of input
+opened_answer (Err refusal) = opened_no (refusal_number refusal)
+
 -- A step that is refused.
 abbrev pub stepped_no : ℕ → SteppedAnswer
 stepped_no refusal = record { refusal = refusal; taken = 0; input = no_input_numbers }
@@ -101,6 +114,12 @@ stepped_of taken input = record { refusal = 0; taken = taken; input = input }
 abbrev pub stepped_yes : Stepped → SteppedAnswer
 stepped_yes s = stepped_of (flag s.due) (input_of s.opening)
 
+-- A step, by the numbers of the input that its event opened; none where no event was due.
+abbrev pub stepped_answer : Result (Option InputNumbers) Refusal → SteppedAnswer
+stepped_answer (Ok None) = stepped_of 0 no_input_numbers
+stepped_answer (Ok (Some input)) = stepped_of 1 input
+stepped_answer (Err refusal) = stepped_no (refusal_number refusal)
+
 -- A seal that is refused.
 abbrev pub sealed_no : ℕ → SealedAnswer
 sealed_no refusal = record { refusal = refusal; outcome = 0; input = no_input_numbers }
@@ -112,6 +131,17 @@ sealed_of outcome input = record { refusal = 0; outcome = outcome; input = input
 -- A seal that is accepted.
 abbrev pub sealed_yes : Sealed → SealedAnswer
 sealed_yes s = sealed_of (sealing_number s.sealing) (input_of s.opening)
+
+-- A seal that is accepted, by how it ends.
+abbrev pub sealing_told : Sealing → SealedAnswer
+sealing_told ended.Synced = sealed_of 1 no_input_numbers
+sealing_told ended.NothingToSync = sealed_of 2 no_input_numbers
+sealing_told (ended.Cut start) = sealed_of 3 start
+
+-- A seal, by how it ends.
+abbrev pub sealed_answer : Result Sealing Refusal → SealedAnswer
+sealed_answer (Ok sealing) = sealing_told sealing
+sealed_answer (Err refusal) = sealed_no (refusal_number refusal)
 
 -- ---- reads
 

@@ -1,5 +1,5 @@
 -- An answer as a list of numbers, in the order of its struct, and the bytes that its call writes to the lent buffer. Assumes nothing.
-use Rattle.std.specs.Prelude.{List, [], ◌∷◌, ◌++◌, ℕ, Option, None, Some}
+use Rattle.std.specs.Prelude.{List, [], ◌∷◌, ℕ, Option, None, Some}
 use Rattle.std.proofs.lemmas.List.Edits.{sets}
 use Rattle.units.specs.Types.{Payload, Entry}
 use Rattle.model.specs.Simulation.{Opening, no_input, open_start, open_message, open_timer, open_proposal, open_confirmation}

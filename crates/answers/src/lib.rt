@@ -3,7 +3,9 @@
 #![tactic(auto)]
 
 ghost use Rattle.std.specs.Prelude.{◌≡◌};
-ghost use Rattle.answers.specs.Answers.{no_input_numbers, done_no};
+ghost use Rattle.answers.specs.Answers.{no_input_numbers, done_answer};
+
+use units::refusal::{Refusal, answer_number};
 
 pub mod opened; // inputs that are opened
 
@@ -233,11 +235,14 @@ pub struct SettingsAnswer {
     pub history: u64,
 }
 
-// A refusal, or 0, of a call with nothing to tell.
-pub fn done(refusal: u64) -> DoneAnswer
-    ensures { result ≡ done_no refusal }
-{
-    DoneAnswer { refusal }
+impl From<Result<(), Refusal>> for DoneAnswer {
+    ghost from_gives = { λ outcome answer. answer ≡ done_answer outcome };
+
+    fn from(outcome: Result<(), Refusal>) -> DoneAnswer {
+        DoneAnswer {
+            refusal: answer_number(outcome),
+        }
+    }
 }
 
 // No input.

@@ -1,11 +1,12 @@
 // The inputs that calls open, and the answers that tell them.
 ghost use Rattle.std.specs.Prelude.{◌≡◌};
 ghost use Rattle.model.specs.Simulation.{open_start, open_timer, open_proposal, open_confirmation};
-ghost use Rattle.answers.specs.Answers.{input_of, message_numbers, opened_no, opened_of, stepped_no, stepped_of, sealed_no, sealed_of};
+ghost use Rattle.answers.specs.Answers.{input_of, message_numbers, opened_answer, stepped_answer, sealed_answer};
 
 use crate::{InputNumbers, OpenedAnswer, SealedAnswer, SteppedAnswer, no_input};
 use protocol::{RequestId, Timer};
 use units::NodeId;
+use units::refusal::Refusal;
 
 // A server's start: its incarnation, and the seed of its own generator.
 pub fn start_input(server: NodeId, incarnation: u64, seed: u64) -> InputNumbers
@@ -72,63 +73,72 @@ pub fn confirmation_input(server: NodeId, request: RequestId) -> InputNumbers
     }
 }
 
-// A refused start, direct call or end.
-pub fn opened_no(refusal: u64) -> OpenedAnswer
-    ensures { result ≡ opened_no refusal }
-{
-    OpenedAnswer {
-        refusal,
-        input: no_input(),
+// ---- answers
+
+impl From<Result<InputNumbers, Refusal>> for OpenedAnswer {
+    ghost from_gives = { λ opened answer. answer ≡ opened_answer opened };
+
+    fn from(opened: Result<InputNumbers, Refusal>) -> OpenedAnswer {
+        match opened {
+            Ok(input) => OpenedAnswer { refusal: 0, input },
+            Err(refusal) => OpenedAnswer {
+                refusal: u64::from(refusal),
+                input: no_input(),
+            },
+        }
     }
 }
 
-// An accepted one, with the input that it opened.
-pub fn opened(input: InputNumbers) -> OpenedAnswer
-    ensures { result ≡ opened_of input }
-{
-    OpenedAnswer { refusal: 0, input }
-}
+// A step took an event and opened an input, or none was due.
+impl From<Result<Option<InputNumbers>, Refusal>> for SteppedAnswer {
+    ghost from_gives = { λ stepped answer. answer ≡ stepped_answer stepped };
 
-// A refused step.
-pub fn stepped_no(refusal: u64) -> SteppedAnswer
-    ensures { result ≡ stepped_no refusal }
-{
-    SteppedAnswer {
-        refusal,
-        taken: 0,
-        input: no_input(),
+    fn from(stepped: Result<Option<InputNumbers>, Refusal>) -> SteppedAnswer {
+        match stepped {
+            Ok(None) => SteppedAnswer {
+                refusal: 0,
+                taken: 0,
+                input: no_input(),
+            },
+            Ok(Some(input)) => SteppedAnswer {
+                refusal: 0,
+                taken: 1,
+                input,
+            },
+            Err(refusal) => SteppedAnswer {
+                refusal: u64::from(refusal),
+                taken: 0,
+                input: no_input(),
+            },
+        }
     }
 }
 
-// An accepted one: 1 where an event was taken, and the input that it opened.
-pub fn stepped(taken: u64, input: InputNumbers) -> SteppedAnswer
-    ensures { result ≡ stepped_of taken input }
-{
-    SteppedAnswer {
-        refusal: 0,
-        taken,
-        input,
-    }
+// How a seal ends.
+#[derive(Clone, Copy)]
+pub enum Sealing {
+    // Its writes are synced.
+    Synced,
+    // There is nothing to sync.
+    NothingToSync,
+    // It is cut, and the start opens that was owed, or none.
+    Cut(InputNumbers),
 }
 
-// A refused seal.
-pub fn sealed_no(refusal: u64) -> SealedAnswer
-    ensures { result ≡ sealed_no refusal }
-{
-    SealedAnswer {
-        refusal,
-        outcome: 0,
-        input: no_input(),
-    }
-}
+impl From<Result<Sealing, Refusal>> for SealedAnswer {
+    ghost from_gives = { λ sealed answer. answer ≡ sealed_answer sealed };
 
-// An accepted one: how it ended, and the start that it opened.
-pub fn sealed(outcome: u64, input: InputNumbers) -> SealedAnswer
-    ensures { result ≡ sealed_of outcome input }
-{
-    SealedAnswer {
-        refusal: 0,
-        outcome,
-        input,
+    fn from(sealed: Result<Sealing, Refusal>) -> SealedAnswer {
+        let (refusal, outcome, input) = match sealed {
+            Ok(Sealing::Synced) => (0, 1, no_input()),
+            Ok(Sealing::NothingToSync) => (0, 2, no_input()),
+            Ok(Sealing::Cut(start)) => (0, 3, start),
+            Err(refusal) => (u64::from(refusal), 0, no_input()),
+        };
+        SealedAnswer {
+            refusal,
+            outcome,
+            input,
+        }
     }
 }

@@ -5,11 +5,7 @@ ghost use Rattle.state.specs.Call.{reading};
 ghost use Rattle.answers.specs.Answers.{status_no, status_yes, hard_state_no, hard_state_yes, log_no, log_yes, leader_no, leader_yes, applied_no, applied_yes, metrics_no, metrics_yes, sent_by_no, sent_by_yes, reply_no, reply_yes, confirmation_no, confirmation_yes, violation_no, violation_yes, run_no, run_yes, settings_no, settings_yes};
 ghost use Rattle.api.specs.Called.{EntryCalled, AppliedCalled};
 
-use answers::{
-    AppliedAnswer, AppliedEntryAnswer, ConfirmationAnswer, EntryAnswer, HardStateAnswer,
-    LeaderAnswer, LogAnswer, MetricsAnswer, ReplyAnswer, RunAnswer, SentByAnswer, SettingsAnswer,
-    StatusAnswer, ViolationAnswer,
-};
+use answers::{AppliedAnswer, AppliedEntryAnswer, ConfirmationAnswer, EntryAnswer, HardStateAnswer, LeaderAnswer, LogAnswer, MetricsAnswer, ReplyAnswer, RunAnswer, SentByAnswer, SettingsAnswer, StatusAnswer, ViolationAnswer};
 use api::reads;
 
 // A server's status, none while it is stopped or starting.

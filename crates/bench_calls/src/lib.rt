@@ -13,11 +13,7 @@ ghost use Rattle.state.specs.Changes.{Gated};
 ghost use Rattle.std.specs.Prelude.{◌≡◌};
 ghost use Rattle.bench_calls.specs.Counts.{gate_given};
 
-use answers::{
-    AppliedAnswer, AppliedEntryAnswer, ConfirmationAnswer, DoneAnswer, EntryAnswer,
-    HardStateAnswer, LeaderAnswer, LogAnswer, MetricsAnswer, OpenedAnswer, ReplyAnswer, RunAnswer,
-    SealedAnswer, SentByAnswer, SettingsAnswer, StatusAnswer, SteppedAnswer, ViolationAnswer,
-};
+use answers::{AppliedAnswer, AppliedEntryAnswer, ConfirmationAnswer, DoneAnswer, EntryAnswer, HardStateAnswer, LeaderAnswer, LogAnswer, MetricsAnswer, OpenedAnswer, ReplyAnswer, RunAnswer, SealedAnswer, SentByAnswer, SettingsAnswer, StatusAnswer, SteppedAnswer, ViolationAnswer};
 use api::run;
 use api::settings::{LimitsNumbers, SettingsNumbers};
 use config::Limits;

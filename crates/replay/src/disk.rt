@@ -2,72 +2,156 @@
 // writes, 1,024 bytes: 1,408 bytes; a command has up to 7 bytes. A payload is a word: its lowest byte is 1 for a noop, else 2 and the
 // length of the command, whose bytes follow.
 ghost use Rattle.std.specs.Prelude.{◌≡◌, ◌≤◌, length};
-ghost use Rattle.layout.specs.Payload.{body_of};
-ghost use Rattle.units.specs.Types.{payload_behind};
 
+use crate::Tally;
 use raft_log::EntryShape;
 use storage::write::WriteError;
-use storage::{HardState, StorageState, Synced, write};
+use storage::{HardState, StorageState, write};
 use units::{LogIndex, PayloadRef, PayloadShape, Term};
 
-// The disk that the rows so far left.
-#[derive(Drop)]
-pub struct Disk {
+// A disk after an operation: whether the operation was made, and of a sync whether there was anything to write, and how many bytes.
+#[derive(Clone, Copy)]
+struct Operated {
     state: StorageState,
-    bytes: [u8; 1408],
+    made: bool,
+    wrote: bool,
+    bytes: u64,
 }
 
-// The hard state of three words: term, 1 where voted, vote.
-fn hard_state(told: &[u8]) -> HardState
-    requires { length told.now ≡ 24 }
-{
+// The hard state of a term and of a vote that may be absent.
+fn hard_state(term: u64, voted: u64, vote: u64) -> HardState {
     HardState {
-        term: Term(words::load(told, 0)),
-        voted_for: crate::node_of(words::load(told, 1), words::load(told, 2)),
+        term: Term(term),
+        voted_for: crate::node_of(voted, vote),
     }
 }
 
-// What an operation other than a sync answers.
-fn changed(state: StorageState) -> Synced {
-    Synced {
+// A disk as it is made.
+fn empty() -> StorageState {
+    StorageState {
+        current: hard_state(0, 0, 0),
+        durable: hard_state(0, 0, 0),
+        waiting: 0,
+        discarded: 0,
+    }
+}
+
+// An operation that is made, and is no sync.
+fn made(state: StorageState) -> Operated {
+    Operated {
         state,
-        written: None,
+        made: true,
+        wrote: false,
+        bytes: 0,
     }
 }
 
-// What a write answers, where it is made.
-fn written(answer: Result<StorageState, WriteError>) -> Option<Synced> {
-    answer.ok().map(changed)
+// An operation that is not made.
+fn refused(v: StorageState) -> Operated {
+    Operated {
+        state: v,
+        made: false,
+        wrote: false,
+        bytes: 0,
+    }
 }
 
-// The payload that eight bytes are.
-fn payload(word: &[u8]) -> PayloadRef<'_>
-    requires { length word.now ≡ 8 }
-    ensures { length (body_of (payload_behind result)) ≤ 7 }
+// A write to a disk, by its answer.
+fn written(v: StorageState, answer: Result<StorageState, WriteError>) -> Operated {
+    match answer {
+        Ok(state) => made(state),
+        Err(_) => refused(v),
+    }
+}
+
+// The length of a command by its payload's mark, 2 and the length.
+fn command_length(mark: u64) -> usize
+    ensures { result ≤ 7 }
 {
-    let mark = usize::from(word[0]);
     if mark < 2 {
-        return PayloadRef::Noop;
+        return 0;
     }
-    let end = (mark - 1).min(8);
-    PayloadRef::Command(&word[1..end])
+    if 9 < mark { 7 } else { (mark - 2) as usize }
 }
 
-// The mark of what a place holds: 0 for nothing, 1 for a noop, 2 and the length for a command.
-fn mark(place: Option<EntryShape>) -> u64 {
-    match place.map(|entry| entry.payload) {
-        None => 0,
-        Some(PayloadShape::Noop) => 1,
-        Some(PayloadShape::Command { length }) => (length as u64).saturating_add(2),
+// A put of the payload that eight bytes are.
+fn put(v: StorageState, disk: &mut [u8], index: u64, term: u64, payload: &[u8]) -> Operated
+    requires { (length disk.old ≡ 1408) × (length payload.now ≡ 8) }
+{
+    if index < 1 {
+        return refused(v);
+    }
+    if 8 < index {
+        return refused(v);
+    }
+    let at = LogIndex(index);
+    let mark = words::load(payload, 0) % 256;
+    if mark < 2 {
+        let answer = write::put(v, disk, 8, 32, 7, at, Term(term), PayloadRef::Noop);
+        written(v, answer)
+    } else {
+        let end = 1 + command_length(mark);
+        let command = PayloadRef::Command(&payload[1..end]);
+        let answer = write::put(v, disk, 8, 32, 7, at, Term(term), command);
+        written(v, answer)
     }
 }
 
-// Whether three words are a hard state.
+// A sync.
+fn synced(v: StorageState, disk: &mut [u8]) -> Operated
+    requires { length disk.old ≡ 1408 }
+{
+    if 32 < v.waiting {
+        return refused(v);
+    }
+    let r = storage::sync(v, disk, 8, 32, 7);
+    let state = r.state;
+    Operated {
+        state,
+        made: true,
+        wrote: r.written.is_some(),
+        bytes: r.written.unwrap_or(0),
+    }
+}
+
+// A crash.
+fn crashed(v: StorageState, disk: &mut [u8]) -> Operated
+    requires { length disk.old ≡ 1408 }
+{
+    if 32 < v.waiting {
+        return refused(v);
+    }
+    made(storage::crash(v, disk, 8, 32, 7))
+}
+
+// A row's operation: its kind and three numbers.
+fn operate(v: StorageState, disk: &mut [u8], row: &[u8]) -> Operated
+    requires { (length disk.old ≡ 1408) × (length row.now ≡ 384) }
+{
+    let first = words::load(row, 1);
+    let second = words::load(row, 2);
+    let third = words::load(row, 3);
+    match words::load(row, 0) {
+        0 => {
+            let state = hard_state(first, second, third);
+            written(v, write::set_hard_state(v, disk, 8, 32, 7, state))
+        }
+        1 => put(v, disk, first, second, &row[24..32]),
+        2 => written(v, write::truncate(v, disk, 8, 32, 7, LogIndex(first))),
+        3 => synced(v, disk),
+        4 => crashed(v, disk),
+        _ => refused(v),
+    }
+}
+
+// Whether three words are a hard state: term, 1 where voted, vote.
 fn state_told(state: HardState, told: &[u8]) -> bool
     requires { length told.now ≡ 24 }
 {
-    let same = hard_state(told);
-    (state.term == same.term) & (state.voted_for == same.voted_for)
+    let vote = state.voted_for;
+    (state.term.0 == words::load(told, 0))
+        & (crate::present(vote) == words::load(told, 1))
+        & (crate::id(vote) == words::load(told, 2))
 }
 
 // Whether three words are a log's entries, last index, gaps.
@@ -79,122 +163,109 @@ fn log_told(log: &[u8], told: &[u8]) -> bool
         & (raft_log::gaps(log, 8, 7) == words::load(told, 2))
 }
 
-// Whether two words are what the log holds at an index: payload, term.
-fn place_told(log: &[u8], index: LogIndex, told: &[u8; 16]) -> bool
-    requires { length log.now ≡ 192 }
-{
-    let mut command = [0u8; 7];
-    let place = raft_log::read_entry(log, 8, 7, index, &mut command);
-    let term = raft_log::term_of(place).map_or(0, |term| term.0);
-    (mark(place) == u64::from(told[0]))
-        & (command[..] == told[1..8])
-        & (term == words::load(told, 1))
+// The mark of a command of so many bytes, 255 where there are too many.
+fn command_mark(length: usize) -> u64 {
+    if 7 < length { 255 } else { 2 + length as u64 }
 }
 
-// Whether words are what the places of a log hold, from index 1 on.
-fn places_told(log: &[u8], told: &[u8]) -> bool
-    requires { length log.now ≡ 192 }
+// The mark of what a place holds: 0 for nothing, 1 for a noop, 2 and the length for a command.
+fn mark(place: Option<EntryShape>) -> u64 {
+    match place {
+        None => 0,
+        Some(entry) => match entry.payload {
+            PayloadShape::Noop => 1,
+            PayloadShape::Command { length } => command_mark(length),
+        },
+    }
+}
+
+// The term of what a place holds, 0 for nothing.
+fn term(place: Option<EntryShape>) -> u64 {
+    raft_log::term_of(place).map_or(0, |term| term.0)
+}
+
+// Whether two words are what the log holds at an index: payload, term.
+fn place_told(log: &[u8], index: u64, told: &[u8]) -> bool
+    requires { (length log.now ≡ 192) × (length told.now ≡ 16) }
 {
-    let (places, _) = told.as_chunks::<16>();
-    (1..9)
-        .zip(places)
-        .all(|(index, told)| place_told(log, LogIndex(index), told))
+    let mut command = [0u8; 7];
+    let place = raft_log::read_entry(log, 8, 7, LogIndex(index), &mut command);
+    (mark(place) == words::load(told, 0) % 256)
+        & words::equal(&command, &told[1..8])
+        & (term(place) == words::load(told, 1))
+}
+
+// Whether 16 words are what the places of a log hold, from index 1 on.
+fn places_told(log: &[u8], told: &[u8]) -> bool
+    requires { (length log.now ≡ 192) × (length told.now ≡ 128) }
+{
+    let mut same = true;
+    let mut k: usize = 0;
+    while k < 8 {
+        let from = 16 * k;
+        let to = from + 16;
+        same = same & place_told(log, k as u64 + 1, &told[from..to]);
+        k += 1;
+    }
+    same
 }
 
 // Whether a row tells what an operation answered, and the state that it left without the logs.
-fn answer_told(after: Synced, row: &[u8; 384]) -> bool {
+fn answer_told(after: Operated, row: &[u8]) -> bool
+    requires { length row.now ≡ 384 }
+{
     let v = after.state;
-    (u64::from(after.written.is_some()) == words::load(row, 4))
-        & (after.written.unwrap_or(0) == words::load(row, 5))
-        & state_told(v.current, &row[48..72])
+    let state = v.current;
+    let durable = v.durable;
+    after.made
+        & (after.wrote as u64 == words::load(row, 4))
+        & (after.bytes == words::load(row, 5))
+        & state_told(state, &row[48..72])
         & (v.discarded == words::load(row, 12))
-        & state_told(v.durable, &row[104..128])
+        & state_told(durable, &row[104..128])
 }
 
 // Whether a row tells both logs.
-fn logs_told(disk: &[u8; 1408], row: &[u8; 384]) -> bool {
+fn logs_told(disk: &[u8], row: &[u8]) -> bool
+    requires { (length disk.now ≡ 1408) × (length row.now ≡ 384) }
+{
     log_told(&disk[0..192], &row[72..96])
         & places_told(&disk[0..192], &row[128..256])
         & places_told(&disk[192..384], &row[256..384])
 }
 
-impl Disk {
-    // A disk as it is made.
-    pub fn new() -> Disk {
-        let state = HardState {
-            term: Term(0),
-            voted_for: None,
-        };
-        Disk {
-            state: StorageState {
-                current: state,
-                durable: state,
-                waiting: 0,
-                discarded: 0,
-            },
-            bytes: [0; 1408],
-        }
-    }
+// A disk after a row, and whether the row agrees.
+#[derive(Clone, Copy)]
+struct Replayed {
+    state: StorageState,
+    agrees: bool,
+}
 
-    // A put of the payload that eight bytes are.
-    fn put(&mut self, index: u64, term: u64, word: &[u8]) -> Option<Synced>
-        requires { length word.now ≡ 8 }
-    {
-        if index < 1 || 8 < index {
-            return None;
-        }
-        written(write::put(
-            self.state,
-            &mut self.bytes,
-            8,
-            32,
-            7,
-            LogIndex(index),
-            Term(term),
-            payload(word),
-        ))
+// A row of disk.bin: an operation, and what it leaves.
+fn disk_row(v: StorageState, disk: &mut [u8], row: &[u8]) -> Replayed
+    requires { (length disk.old ≡ 1408) × (length row.now ≡ 384) }
+{
+    let after = operate(v, disk, row);
+    let state = after.state;
+    Replayed {
+        state,
+        agrees: answer_told(after, row) & logs_told(disk, row),
     }
+}
 
-    // A sync.
-    fn sync(&mut self) -> Option<Synced> {
-        if 32 < self.state.waiting {
-            return None;
-        }
-        Some(storage::sync(self.state, &mut self.bytes, 8, 32, 7))
+// Compares the rows of disk.bin, each with the disk that those before it left.
+pub fn compared(s: &[u8], disk: &mut [u8]) -> Tally
+    requires { length disk.old ≡ 1408 }
+{
+    let mut v = empty();
+    let mut tally = crate::none();
+    let mut at: usize = 0;
+    while 384 <= s.len() - at {
+        let end = at + 384;
+        let row = disk_row(v, disk, &s[at..end]);
+        v = row.state;
+        tally = crate::tallied(tally, row.agrees);
+        at = end;
     }
-
-    // A crash.
-    fn crash(&mut self) -> Option<Synced> {
-        if 32 < self.state.waiting {
-            return None;
-        }
-        Some(changed(storage::crash(self.state, &mut self.bytes, 8, 32, 7)))
-    }
-
-    // What a row's operation, its kind and three numbers, answers where it is made. No enum of the kinds: it would be matched once, right
-    // after the match that reads it.
-    fn operate(&mut self, row: &[u8; 384]) -> Option<Synced> {
-        let v = self.state;
-        let first = words::load(row, 1);
-        match words::load(row, 0) {
-            0 => {
-                let state = hard_state(&row[8..32]);
-                written(write::set_hard_state(v, &mut self.bytes, 8, 32, 7, state))
-            }
-            1 => self.put(first, words::load(row, 2), &row[24..32]),
-            2 => written(write::truncate(v, &mut self.bytes, 8, 32, 7, LogIndex(first))),
-            3 => self.sync(),
-            4 => self.crash(),
-            _ => None,
-        }
-    }
-
-    // A row of disk.bin: an operation, and what it leaves.
-    pub fn agrees(&mut self, row: &[u8; 384]) -> bool {
-        let Some(after) = self.operate(row) else {
-            return false;
-        };
-        self.state = after.state;
-        answer_told(after, row) & logs_told(&self.bytes, row)
-    }
+    tally
 }

@@ -5,8 +5,8 @@ use checks::Mismatch;
 use units::{LogIndex, PayloadRef, Term};
 
 // Puts what word k says: 0 is no entry, else it is 256 × term + the one byte of a command.
-fn put_place(log: &mut [u8; 192], places: &[u8], k: usize)
-    requires { (k < 8) × (length places.now ≡ 64) }
+fn put_place(log: &mut [u8], places: &[u8], k: usize)
+    requires { (k < 8) × (length log.old ≡ 192) × (length places.now ≡ 64) }
 {
     let word = words::load(places, k);
     if word == 0 {
@@ -15,44 +15,43 @@ fn put_place(log: &mut [u8; 192], places: &[u8], k: usize)
     let index = LogIndex(k as u64 + 1);
     let from = 8 * k;
     let to = from + 1;
-    raft_log::put(
-        log,
-        8,
-        1,
-        index,
-        Term(word / 256),
-        PayloadRef::Command(&places[from..to]),
-    );
+    raft_log::put(log, 8, 1, index, Term(word / 256), PayloadRef::Command(&places[from..to]));
 }
 
-// The log of what eight words say.
-fn log_of(places: &[u8]) -> [u8; 192]
-    requires { length places.now ≡ 64 }
+// Puts what eight words say.
+fn put_places(log: &mut [u8], places: &[u8])
+    requires { (length log.old ≡ 192) × (length places.now ≡ 64) }
 {
-    let mut log = [0u8; 192];
-    for k in 0..8 {
-        put_place(&mut log, places, k);
+    let mut k: usize = 0;
+    while k < 8 {
+        put_place(log, places, k);
+        k += 1;
     }
-    log
 }
 
-// Whether a row tells a mismatch, or that there is none: 1 where there is one, its term, its index, the index of the difference.
-fn told(found: Option<Mismatch>, row: &[u8; 160]) -> bool {
+// Whether four numbers tell a mismatch, or that there is none: 1 where there is one, its term, its index, the index of the difference.
+fn told(found: Option<Mismatch>, fails: u64, term: u64, index: u64, difference: u64) -> bool {
     match found {
-        None => words::zero_words(row, 16, 20),
-        Some(m) => (words::load(row, 16) == 1)
-            & (words::load(row, 17) == m.term.0)
-            & (words::load(row, 18) == m.index.0)
-            & (words::load(row, 19) == m.difference.0),
+        None => (fails == 0) & (term == 0) & (index == 0) & (difference == 0),
+        Some(m) => (fails == 1) & (term == m.term.0) & (index == m.index.0) & (difference == m.difference.0),
     }
 }
 
 // The places of one log, those of the other, and their mismatch.
-pub fn agrees(row: &[u8; 160]) -> bool {
-    let one = log_of(&row[0..64]);
-    let other = log_of(&row[64..128]);
+pub fn agrees(row: &[u8]) -> bool {
+    if row.len() != 160 {
+        return false;
+    }
+    let mut one = [0u8; 192];
+    let mut other = [0u8; 192];
+    put_places(&mut one, &row[0..64]);
+    put_places(&mut other, &row[64..128]);
+    let found = checks_log_matching::log_matching_failure(&one, &other, 8, 1);
     told(
-        checks_log_matching::log_matching_failure(&one, &other, 8, 1),
-        row,
+        found,
+        words::load(row, 16),
+        words::load(row, 17),
+        words::load(row, 18),
+        words::load(row, 19),
     )
 }

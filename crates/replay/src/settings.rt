@@ -1,9 +1,13 @@
 // settings.bin: settings and limits of a start, the answer to questions 1 to 3, and the length of the area.
+ghost use Rattle.std.specs.Prelude.{◌≡◌, length};
+
 use config::{Config, Limits, SimConfig};
 use units::Duration;
 
 // A row's settings of the consensus.
-fn consensus_of(row: &[u8; 176]) -> Config {
+fn consensus_of(row: &[u8]) -> Config
+    requires { length row.now ≡ 176 }
+{
     Config {
         heartbeat_interval: Duration(words::load(row, 1)),
         election_timeout_min: Duration(words::load(row, 2)),
@@ -14,7 +18,9 @@ fn consensus_of(row: &[u8; 176]) -> Config {
 }
 
 // A row's settings.
-fn config_of(row: &[u8; 176]) -> SimConfig {
+fn config_of(row: &[u8]) -> SimConfig
+    requires { length row.now ≡ 176 }
+{
     let consensus = consensus_of(row);
     SimConfig {
         servers: words::load(row, 0),
@@ -31,7 +37,9 @@ fn config_of(row: &[u8; 176]) -> SimConfig {
 }
 
 // A row's limits.
-fn limits_of(row: &[u8; 176]) -> Limits {
+fn limits_of(row: &[u8]) -> Limits
+    requires { length row.now ≡ 176 }
+{
     Limits {
         log_indexes: words::load(row, 14),
         payload: words::load(row, 15),
@@ -53,7 +61,10 @@ fn told(config: SimConfig, limits: Limits, answer: u64, bytes: u64) -> bool {
 }
 
 // Settings, limits, answer, length.
-pub fn agrees(row: &[u8; 176]) -> bool {
+pub fn agrees(row: &[u8]) -> bool {
+    if row.len() != 176 {
+        return false;
+    }
     told(
         config_of(row),
         limits_of(row),

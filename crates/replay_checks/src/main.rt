@@ -2,42 +2,63 @@
 // compared. One line a file.
 #![tactic(auto)]
 
-ghost use Rattle.std.specs.Prelude.{◌<◌};
+ghost use Rattle.std.specs.Prelude.{◌≡◌, ◌+◌, ◌^◌, ◌≤◌, ◌<◌, IfOk, vec_len};
 
 mod leading; // the leader of a list of statuses
 mod counters; // operations on the counters
 mod checking; // the checks, over an area
 mod operations; // one operation of the checks
 
-use metrics::Metrics;
 use std::io::Read;
 use std::rt::Files;
 use std::{fs, io};
 
-// How many rows were compared, how many of them differ, and the first that does, counted from 1.
+// How many rows were compared, how many of them differ, and the first that does, counted from 1, or 0.
 #[derive(Clone, Copy)]
 struct Tally {
-    rows: usize,
-    differ: usize,
-    first: Option<usize>,
+    rows: u64,
+    differ: u64,
+    first: u64,
 }
 
-// Compares the rows of a file.
-fn compared<R, F: FnMut(&R) -> bool>(rows: &[R], mut agrees: F) -> Tally
-    requires { F.IsAlwaysCallable agrees }
+// One more row that differs, unless it agrees.
+fn counted(differ: u64, agrees: bool) -> u64
+    requires { differ < 2 ^ 63 }
+    ensures { result ≤ differ + 1 }
 {
-    let mut differ = 0;
-    let mut first = None;
-    for (i, row) in rows.iter().enumerate() {
-        if !agrees(row) {
-            differ += 1;
-            first = first.or(Some(i + 1));
-        }
+    if agrees { differ } else { differ + 1 }
+}
+
+// The first row that differs, where n rows were compared and the next may be it.
+fn first_of(first: u64, n: u64, agrees: bool) -> u64
+    requires { n < 2 ^ 63 }
+{
+    if agrees {
+        return first;
     }
+    if first == 0 { n + 1 } else { first }
+}
+
+// A tally of no rows.
+fn none() -> Tally
+    ensures { (result.rows ≤ 0) × (result.differ ≤ 0) }
+{
     Tally {
-        rows: rows.len(),
-        differ,
-        first,
+        rows: 0,
+        differ: 0,
+        first: 0,
+    }
+}
+
+// A tally of one more row.
+fn tallied(t: Tally, agrees: bool) -> Tally
+    requires { (t.rows < 2 ^ 63) × (t.differ < 2 ^ 63) }
+    ensures { (result.rows ≤ t.rows + 1) × (result.differ ≤ t.differ + 1) }
+{
+    Tally {
+        rows: t.rows + 1,
+        differ: counted(t.differ, agrees),
+        first: first_of(t.first, t.rows, agrees),
     }
 }
 
@@ -46,36 +67,41 @@ fn report(rt: &impl Print, name: &str, t: Tally) -> io::Result<()> {
     let rows = t.rows;
     let differ = t.differ;
     print!(rt; "{name}: {rows} rows, {differ} differ")?;
-    if let Some(first) = t.first {
+    if differ != 0 {
+        let first = t.first;
         print!(rt; ", the first is row {first}")?;
     }
     println!(rt;)
 }
 
-// Reads a file into a buffer, in place of what it held; gives its rows of N bytes.
-fn read<'a, const N: usize>(
-    rt: &impl Files,
-    path: &str,
-    buffer: &'a mut Vec<u8>,
-) -> io::Result<&'a [[u8; N]]>
-    requires { 0 < N }
+// Reads a file into a buffer, in place of what it held; gives how many bytes.
+fn read(rt: &impl Files, path: &str, buffer: &mut Vec<u8>) -> io::Result<usize>
+    ensures { IfOk result (λ n. n ≡ vec_len buffer.new) }
 {
     buffer.clear();
     let mut file = fs::open(rt, path)?;
-    file.read_to_end(buffer)?;
-    Ok(buffer.as_chunks::<N>().0)
+    file.read_to_end(buffer)
+}
+
+fn replay_leaders(rt: &(impl Files + Print), buffer: &mut Vec<u8>) -> io::Result<()> {
+    read(rt, "leader.bin", buffer)?;
+    report(rt, "leader", leading::compared(buffer))
+}
+
+fn replay_metrics(rt: &(impl Files + Print), buffer: &mut Vec<u8>) -> io::Result<()> {
+    read(rt, "metrics.bin", buffer)?;
+    report(rt, "metrics", counters::compared(buffer))
+}
+
+fn replay_checks(rt: &(impl Files + Print), buffer: &mut Vec<u8>) -> io::Result<()> {
+    read(rt, "checks.bin", buffer)?;
+    let mut area = [0u8; 7880];
+    report(rt, "checks", checking::compared(buffer, &mut area))
 }
 
 fn main(rt: HostRuntime) -> io::Result<()> {
-    let mut buffer = Vec::new(rt.alloc());
-    let rows = read::<152>(&rt, "leader.bin", &mut buffer)?;
-    report(&rt, "leader", compared(rows, leading::agrees))?;
-    let rows = read::<288>(&rt, "metrics.bin", &mut buffer)?;
-    let mut metrics = Metrics::new();
-    let tally = compared(rows, |row| counters::agrees(&mut metrics, row));
-    report(&rt, "metrics", tally)?;
-    let rows = read::<488>(&rt, "checks.bin", &mut buffer)?;
-    let mut area = [0u8; 7880];
-    let tally = compared(rows, |row| checking::agrees(&mut area, row));
-    report(&rt, "checks", tally)
+    let mut rows = Vec::new(rt.alloc());
+    replay_leaders(&rt, &mut rows)?;
+    replay_metrics(&rt, &mut rows)?;
+    replay_checks(&rt, &mut rows)
 }

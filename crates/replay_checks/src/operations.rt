@@ -1,12 +1,12 @@
 // One operation of checks.bin on an area, by the functions that the calls use: what is asked, and where nothing is refused what is done.
-// Behind the area's gate, which every operation asks. A refusal is its number, as the functions of the area answer it; 99 is none.
-ghost use Rattle.std.specs.Prelude.{◌*◌, ◌≤◌, ◌<◌, length};
-ghost use Rattle.state.specs.Changes.{Inside, Gated};
+// Behind the area's gate, which every operation asks.
+ghost use Rattle.std.specs.Prelude.{◌≡◌, ◌*◌, ◌≤◌, ◌<◌, length};
+ghost use Rattle.state.specs.Changes.{Inside};
 
 use checks::violations::Violation;
 use checks_durability::replies::Reply;
 use protocol::{Role, Status};
-use state::{Capacity, Gate, ServerState};
+use state::{Capacity, ServerState};
 use storage::HardState;
 use units::{LogIndex, NodeId, PayloadRef, SimTime, Term};
 
@@ -16,34 +16,47 @@ use units::{LogIndex, NodeId, PayloadRef, SimTime, Term};
 fn slot_of(server: u64) -> usize
     ensures { result < 3 }
 {
-    if server < 1 || 3 < server {
+    if server < 1 {
         return 0;
     }
-    (server - 1) as usize
+    if 3 < server { 0 } else { (server - 1) as usize }
 }
 
 // A log index, 3 where it is greater.
 fn index_of(number: u64) -> u64
     ensures { result ≤ 3 }
 {
-    number.min(3)
+    if 3 < number { 3 } else { number }
 }
 
 // The length of a command by its payload's mark, 2 and the length; at most 12.
 fn command_length(mark: u64) -> usize
     ensures { result ≤ 12 }
 {
-    mark.saturating_sub(2).min(12) as usize
+    if mark < 2 {
+        return 0;
+    }
+    if 14 < mark { 12 } else { (mark - 2) as usize }
+}
+
+// The role of a number.
+fn role_of(number: u64) -> Role {
+    match number {
+        0 => Role::Follower,
+        1 => Role::Candidate,
+        _ => Role::Leader,
+    }
 }
 
 // ---- writes
 
 // Puts the entry of a row: server, index, term, payload.
-fn put(area: &mut [u8], f: Capacity, row: &[u8; 488]) -> u64
+fn put(area: &mut [u8], f: Capacity, row: &[u8]) -> u64
     requires inside { Inside area.old f }
     requires le_servers { 3 ≤ f.servers }
     requires bound { 3 ≤ f.limits.log_indexes }
     requires le_payload { 12 ≤ f.limits.payload }
+    requires row_len { length row.now ≡ 488 }
 {
     let k = slot_of(words::load(row, 1));
     let index = index_of(words::load(row, 2));
@@ -76,8 +89,10 @@ fn check_each(area: &mut [u8], f: Capacity, k: usize, time: SimTime)
     requires k_lt_servers { k < f.servers }
 {
     let n = state_asks::writes::write_count(area, f, k);
-    for i in 0..n {
+    let mut i = 0;
+    while i < n {
         check_write(area, f, k, i as usize, time);
+        i += 1;
     }
 }
 
@@ -104,10 +119,8 @@ fn set_next_apply(area: &mut [u8], f: Capacity, k: usize, index: u64)
     requires k_lt_servers { k < f.servers }
 {
     let x = state_server::server_of(area, f, k);
-    let next = ServerState {
-        next_apply: index,
-        ..x
-    };
+    let mut next = x;
+    next.next_apply = index;
     state_server::set_server(area, f, k, next);
 }
 
@@ -117,12 +130,23 @@ fn set_leading(area: &mut [u8], f: Capacity, k: usize, leading: Option<Term>)
     requires k_lt_servers { k < f.servers }
 {
     let x = state_server::server_of(area, f, k);
-    state_server::set_server(area, f, k, ServerState { leading, ..x });
+    let status = x.status;
+    let next = ServerState {
+        status,
+        incarnation: x.incarnation,
+        election: x.election,
+        heartbeat: x.heartbeat,
+        crash_on_next_input: x.crash_on_next_input,
+        next_apply: x.next_apply,
+        pending: x.pending,
+        leading,
+    };
+    state_server::set_server(area, f, k, next);
 }
 
 // ---- apply
 
-// A server applied a payload, of a kind and bytes as state_asks takes it, at an index.
+// A server applied a payload at an index.
 fn apply(
     area: &mut [u8],
     f: Capacity,
@@ -138,8 +162,8 @@ fn apply(
     requires kind_bound { (kind ≤ 1) × (length src.now ≤ 256 * kind) × (length src.now ≤ f.limits.payload) }
 {
     let asked = match state_asks::apply::apply_asked(area, f, k, index, kind, src) {
-        Ok(asked) => asked,
         Err(refusal) => return u64::from(refusal),
+        Ok(asked) => asked,
     };
     let expected = state_asks::apply::next_apply_of(area, f, k);
     let server = NodeId(k as u64 + 1);
@@ -149,10 +173,11 @@ fn apply(
 }
 
 // Applies the payload of a row: time, server, index, payload.
-fn apply_row(area: &mut [u8], f: Capacity, row: &[u8; 488]) -> u64
+fn apply_row(area: &mut [u8], f: Capacity, row: &[u8]) -> u64
     requires inside { Inside area.old f }
     requires le_servers { 3 ≤ f.servers }
     requires le_payload { 12 ≤ f.limits.payload }
+    requires row_len { length row.now ≡ 488 }
 {
     let time = SimTime(words::load(row, 1));
     let k = slot_of(words::load(row, 2));
@@ -167,11 +192,22 @@ fn apply_row(area: &mut [u8], f: Capacity, row: &[u8; 488]) -> u64
 
 // ---- status
 
-// A server's status.
-fn status(area: &mut [u8], f: Capacity, k: usize, time: SimTime, status: Status) -> u64
+// The term that a server leads after a status.
+fn leading_after(leads: bool, term: u64) -> Option<Term> {
+    if leads { Some(Term(term)) } else { None }
+}
+
+// A server's status of a role and a term.
+fn status(area: &mut [u8], f: Capacity, k: usize, time: SimTime, role: u64, term: u64) -> u64
     requires inside { Inside area.old f }
     requires k_lt_servers { k < f.servers }
 {
+    let status = Status {
+        role: role_of(role),
+        term: Term(term),
+        leader: None,
+        commit_index: LogIndex(0),
+    };
     let asked = state_asks::status::status_asked(area, f, k, status);
     let code = asked.code;
     if code != 0 {
@@ -179,27 +215,19 @@ fn status(area: &mut [u8], f: Capacity, k: usize, time: SimTime, status: Status)
     }
     let server = NodeId(k as u64 + 1);
     state_checks::acts::on_status_act(area, f, time, server, status, asked);
-    set_leading(area, f, k, asked.leads.then_some(status.term));
+    set_leading(area, f, k, leading_after(asked.leads, term));
     0
 }
 
 // The status of a row: time, server, role, term.
-fn status_row(area: &mut [u8], f: Capacity, row: &[u8; 488]) -> u64
+fn status_row(area: &mut [u8], f: Capacity, row: &[u8]) -> u64
     requires inside { Inside area.old f }
     requires le_servers { 3 ≤ f.servers }
+    requires row_len { length row.now ≡ 488 }
 {
-    let Ok(role) = Role::try_from(words::load(row, 3)) else {
-        return 99;
-    };
     let time = SimTime(words::load(row, 1));
     let k = slot_of(words::load(row, 2));
-    let reported = Status {
-        role,
-        term: Term(words::load(row, 4)),
-        leader: None,
-        commit_index: LogIndex(0),
-    };
-    status(area, f, k, time, reported)
+    status(area, f, k, time, words::load(row, 3), words::load(row, 4))
 }
 
 // ---- durability
@@ -219,46 +247,41 @@ fn reply(area: &mut [u8], f: Capacity, index: u64, client: u64, seq: u64) -> u64
     0
 }
 
-// The time set; gives what the gate then answers.
-fn gate_at(area: &mut [u8], f: Capacity, time: u64) -> Gate
-    requires { Inside area.old f }
-    ensures { Gated area.new result }
-{
-    state_header::set_now(area, f, SimTime(time));
-    state_gate::gate(area)
-}
-
 // Durability checked at a time.
 fn durability(area: &mut [u8], f: Capacity, time: u64) -> u64
     requires { Inside area.old f }
 {
-    let g = gate_at(area, f, time);
-    sim_checks::durability::check_durability_in(area, g).refusal
+    state_header::set_now(area, f, SimTime(time));
+    let g = state_gate::gate(area);
+    let answer = sim_checks::durability::check_durability_in(area, g);
+    answer.refusal
 }
 
 // Log matching checked at a time.
 fn matching(area: &mut [u8], f: Capacity, time: u64) -> u64
     requires { Inside area.old f }
 {
-    let g = gate_at(area, f, time);
-    sim_checks::matching::check_log_matching_in(area, g).refusal
+    state_header::set_now(area, f, SimTime(time));
+    let g = state_gate::gate(area);
+    let answer = sim_checks::matching::check_log_matching_in(area, g);
+    answer.refusal
 }
 
 // ---- a row
 
-// A row's operation that asks nothing, by its kind and a number: a server stops or loses its writes, or the total is set.
-fn plain(area: &mut [u8], f: Capacity, row: &[u8; 488])
+// A row's operation that asks nothing: a server stops or loses its writes, or the total is set.
+fn plain(area: &mut [u8], f: Capacity, kind: u64, number: u64) -> u64
     requires inside { Inside area.old f }
     requires le_servers { 3 ≤ f.servers }
 {
-    let number = words::load(row, 1);
     let k = slot_of(number);
-    match words::load(row, 0) {
+    match kind {
         5 => set_leading(area, f, k, checks_on_status::on_stop()),
         8 => state_disk::crash(area, f, k),
         9 => words::store(area, 90, number),
         _ => {}
     }
+    0
 }
 
 // The hard state of a term without a vote.
@@ -269,42 +292,60 @@ fn state_of(term: u64) -> HardState {
     }
 }
 
-// A row's operation, its kind and three numbers. No enum of the kinds: it would be matched once, right after the match that reads it.
-fn operate(area: &mut [u8], f: Capacity, row: &[u8; 488]) -> u64
+// A row's operation of another kind.
+fn further(area: &mut [u8], f: Capacity, kind: u64, first: u64, second: u64) -> u64
+    requires inside { Inside area.old f }
+    requires le_servers { 3 ≤ f.servers }
+{
+    let k = slot_of(first);
+    match kind {
+        11 => state_disk::write_truncate(area, f, k, LogIndex(second)),
+        12 => state_disk::write_hard_state(area, f, k, state_of(second)),
+        13 => matching(area, f, first),
+        _ => plain(area, f, kind, first),
+    }
+}
+
+// A row's operation.
+fn operate(area: &mut [u8], f: Capacity, row: &[u8]) -> u64
     requires inside { Inside area.old f }
     requires le_servers { 3 ≤ f.servers }
     requires bound { 3 ≤ f.limits.log_indexes }
     requires le_payload { 12 ≤ f.limits.payload }
+    requires row_len { length row.now ≡ 488 }
 {
+    let kind = words::load(row, 0);
     let first = words::load(row, 1);
     let second = words::load(row, 2);
-    let k = slot_of(first);
-    match words::load(row, 0) {
+    let third = words::load(row, 3);
+    match kind {
         1 => put(area, f, row),
         2 => writes(area, f, slot_of(second), SimTime(first)),
         3 => apply_row(area, f, row),
         4 => status_row(area, f, row),
-        6 => reply(area, f, first, second, words::load(row, 3)),
+        6 => reply(area, f, first, second, third),
         7 => durability(area, f, first),
-        11 => state_disk::write_truncate(area, f, k, LogIndex(second)),
-        12 => state_disk::write_hard_state(area, f, k, state_of(second)),
-        13 => matching(area, f, first),
-        _ => {
-            plain(area, f, row);
-            0
-        }
+        _ => further(area, f, kind, first, second),
     }
 }
 
 // A row's operation where the gate accepts the area; gives the refusal, or 99.
-pub fn made(area: &mut [u8], row: &[u8; 488]) -> u64 {
+pub fn made(area: &mut [u8], row: &[u8]) -> u64
+    requires { length row.now ≡ 488 }
+{
     let g = state_gate::gate(area);
     let f = g.capacity;
     let limits = f.limits;
     if 0 < g.refusal {
         return 99;
     }
-    if f.servers < 3 || limits.log_indexes < 3 || limits.payload < 12 {
+    if f.servers < 3 {
+        return 99;
+    }
+    if limits.log_indexes < 3 {
+        return 99;
+    }
+    if limits.payload < 12 {
         return 99;
     }
     operate(area, f, row)
@@ -312,18 +353,32 @@ pub fn made(area: &mut [u8], row: &[u8; 488]) -> u64 {
 
 // ---- what a row tells
 
+// Whether five words are the numbers of a violation.
+fn numbers_told(v: Violation, told: &[u8]) -> bool
+    requires { length told.now ≡ 40 }
+{
+    (v.numbers[0] == words::load(told, 0))
+        & (v.numbers[1] == words::load(told, 1))
+        & (v.numbers[2] == words::load(told, 2))
+        & (v.numbers[3] == words::load(told, 3))
+        & (v.numbers[4] == words::load(told, 4))
+}
+
 // Whether a row tells a violation that there is.
-fn violation_told(v: Violation, row: &[u8; 488]) -> bool {
+fn violation_told(v: Violation, row: &[u8]) -> bool
+    requires { length row.now ≡ 488 }
+{
     (words::load(row, 15) == 1)
         & (v.time.0 == words::load(row, 16))
         & (v.check == words::load(row, 17))
         & (v.count == words::load(row, 18))
-        & (0..5).all(|i: usize| v.numbers[i] == words::load(row, 19 + i))
+        & numbers_told(v, &row[152..192])
 }
 
 // Whether a row tells the violation at its place.
-fn place_told(area: &[u8], f: Capacity, row: &[u8; 488]) -> bool
+fn place_told(area: &[u8], f: Capacity, row: &[u8]) -> bool
     requires inside { Inside area.now f }
+    requires row_len { length row.now ≡ 488 }
 {
     let place = words::load(row, 8);
     match state_records::violation_of(area, f, place as usize) {
@@ -333,8 +388,9 @@ fn place_told(area: &[u8], f: Capacity, row: &[u8; 488]) -> bool
 }
 
 // Whether a row tells the total and how many rows the tables have.
-fn counts_told(area: &[u8], f: Capacity, row: &[u8; 488]) -> bool
+fn counts_told(area: &[u8], f: Capacity, row: &[u8]) -> bool
     requires inside { Inside area.now f }
+    requires row_len { length row.now ≡ 488 }
 {
     let counts = state_header::counts_of(area, f);
     (counts.total == words::load(row, 10))
@@ -345,7 +401,9 @@ fn counts_told(area: &[u8], f: Capacity, row: &[u8; 488]) -> bool
 }
 
 // Whether the gate accepts the area, and a row tells its counts and the violation at the row's place.
-pub fn told(area: &[u8], row: &[u8; 488]) -> bool {
+pub fn told(area: &[u8], row: &[u8]) -> bool
+    requires { length row.now ≡ 488 }
+{
     let g = state_gate::gate(area);
     let f = g.capacity;
     if 0 < g.refusal {

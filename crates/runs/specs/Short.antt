@@ -1,6 +1,6 @@
 -- Short runs of the Rust, one for each few things that a definition could have wrong; what each is there for is said at its theorem. Between the calls stand some that document 01 refuses. Made by `write_run` (host/README.md). Assumes nothing.
 use Rattle.std.specs.Prelude.{List, [], ◌∷◌}
-use Rattle.model.specs.Outcome.{hard_state, put, truncate, send, set_timer, cancel_timer, apply, confirmed, lost, read_status, read_hard_state, read_log, read_entry, read_leader, read_applied, read_applied_entry, read_metrics, read_sent_by, read_reply, read_confirmation, read_violation, read_run, read_settings, start, step, propose, fire_timer, confirm_leadership, schedule, write, seal, output, end, check_log_matching, check_durability, read}
+use Rattle.model.specs.Outcome.{hard_state, put, truncate, send, set_timer, cancel_timer, apply, confirmed, lost, read_status, read_hard_state, read_log, read_entry, read_leader, read_applied, read_applied_entry, read_metrics, read_sent_by, read_reply, read_confirmation, read_violation, read_run, start, step, propose, fire_timer, confirm_leadership, schedule, write, seal, output, end, check_log_matching, check_durability, read}
 use Rattle.runs.specs.Trace.{Exchange, exchange}
 
 -- 59 exchanges in order.

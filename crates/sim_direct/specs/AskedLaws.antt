@@ -1,10 +1,13 @@
 -- What the proofs of asked.rt cite. Assumes nothing.
-use Rattle.std.specs.Prelude.{◌≡◌, refl, Bool, true, false, not, List, ℕ, zero, suc, ◌+◌, ◌-◌, ◌^◌, ◌≤◌, ◌<◌}
+use Rattle.std.specs.Prelude.{◌≡◌, refl, Bool, true, false, not, List, ℕ, ◌+◌, ◌-◌, ◌^◌, ◌≤◌, ◌<◌, Option, None, Some, SomeIff, Result, Ok, Err}
 use Rattle.std.proofs.Math.Path.{sym, ap, subst}
 use Rattle.std.proofs.Common.{◌∙◌, arith, lt-ltb, le-ltb}
 use Rattle.std.proofs.lemmas.Bool.{not-true, not-false}
 use Rattle.laws.specs.Bools.{pick, cases, ◌and◌, and_true}
 use Rattle.laws.proofs.BoolLaws.{and_both, and_right}
+use Rattle.units.specs.declared.refusal.Refusal.{Refusal}
+use Rattle.units.specs.declared.refusal.Refusal.TheVariants.{Room}
+use Rattle.units.specs.Refusals.{refusal_number}
 use Rattle.client.specs.Key as client
 use Rattle.protocol.specs.declared.RequestId.{RequestId}
 use Rattle.queue.specs.Range.{word}
@@ -13,24 +16,23 @@ use Rattle.model.specs.Simulation.{running, open_proposal, open_confirmation}
 use Rattle.model.specs.Calls.{Out, Asked, asked, stopped, is_closed, in_cluster, propose, confirm_leadership, refused, done}
 use Rattle.model.specs.Fits.{state_fits}
 use Rattle.state.specs.declared.Capacity.{Capacity}
-use Rattle.state.specs.declared.Gate.{Gate}
 use Rattle.state.specs.declared.Run.{Run}
 use Rattle.state.specs.Area.{Area, capacity_of, run_of}
 use Rattle.state.specs.Fitting.{area_fits}
 use Rattle.state.specs.FitsBy.{fits_test}
 use Rattle.state.specs.Call.{call}
 use Rattle.state.specs.Changes.{Gated, Changes, Reads, judged}
-use Rattle.state.specs.Branches.{if_refused, if_done, else_done, else_kept}
-use Rattle.answers.specs.declared.OpenedAnswer.{OpenedAnswer}
+use Rattle.state.specs.Exits.{refusal_above}
+use Rattle.state.specs.Branches.{if_err, if_ok, if_refused, if_done, else_done, else_kept}
 use Rattle.answers.specs.declared.InputNumbers.{InputNumbers}
 use Rattle.answers.specs.Answers.{no_input_numbers, input_of, opened_no, opened_of, asked_yes}
 use Rattle.state_header.specs.Header.{phase_set, direct_seq_set, SetsPhase}
 use Rattle.state_header.specs.Laws.{fits_phase, fits_direct_seq}
 use Rattle.sim_direct.specs.declared.DirectAsked.{DirectAsked}
 use Rattle.sim_direct.specs.declared.asked.ProposalAsked.{ProposalAsked}
-use Rattle.sim_direct.specs.Direct.{direct_code, server_runs, AsksDirect}
-use Rattle.sim_direct.specs.Laws.{closed_known, known_low}
-use Rattle.sim_direct.specs.Asked.{no_proposal, proposal_open, ProposalPlanned, confirm_open, ConfirmPlanned}
+use Rattle.sim_direct.specs.Direct.{direct_code, AsksDirect}
+use Rattle.sim_direct.specs.Laws.{closed_known, refuses, passes, id_is, place_is, runs_is, below}
+use Rattle.sim_direct.specs.Asked.{proposal_open, ProposalPlanned, confirm_open, ConfirmPlanned}
 
 -- ---- an input of a server in the cluster that is neither sealed nor owed anything
 
@@ -91,89 +93,59 @@ module _ (server : ℕ) (s : State) where
   unfolding confirm_leadership confirm_open
   confirm_asks request e = let k = closed_known server s e in rw (k.0, k.1)
 
--- ---- what was asked, by the state
-
-module _ {b : List ℕ} {F : Capacity} {server : ℕ} {r : DirectAsked} (q : AsksDirect b F server r) (z : r.code ≤ 0)
-    {s : State} (h : Area b s) (ef : F ≡ capacity_of s) where
-  none : r.code ≡ 0
-  none = omega arith
-
-  passes : direct_code server s ≡ 0
-  passes = sym (q.code.to s h ef) ∙ none
-
-  id_is : server - 1 + 1 ≡ server
-  id_is = omega (arith, known_low server s passes)
-
-  place_is : server - 1 ≡ r.slot
-  place_is = sym (q.slot none)
-
-  runs_is : running s (server - 1) ≡ r.running
-  unfolding server_runs
-  runs_is = sym ((q.running none).to s h ef)
-
-  below : r.slot < s.config.servers
-  below = subst (λ (G : Capacity). r.slot < G.servers) ef (q.below none)
-
 -- ---- propose_plan
 
-module _ (b : List ℕ) (F : Capacity) (server : ℕ) (r : DirectAsked) (q : AsksDirect b F server r) where
-  pub propose_stopped : (p : ProposalAsked) → 0 < r.code → p ≡ no_proposal r.code → ProposalPlanned b F server p
+module _ (b : List ℕ) (F : Capacity) (server : ℕ) (r : Result DirectAsked Refusal) (q : AsksDirect b F server r) where
+  pub propose_stopped : (refusal : Refusal) → r ≡ Err refusal → ProposalPlanned b F server (Err refusal)
   unfolding judged
-  propose_stopped p l e = subst (ProposalPlanned b F server) (sym e) (record {
-    plan = record {
-      code = λ s h ef. let c = q.code.to s h ef in sym (ap judged (propose_refused server s (omega (arith, c))) ∙ sym c);
-      yes = λ t s h ef z. absurd (omega arith);
-      no = λ t s h ef z. absurd (omega arith);
-    };
-  })
+  propose_stopped refusal e = record {
+    plan = if_err refusal (λ s h ef.
+        let code = refuses q h ef refusal e in
+        code ∙ sym (ap judged (propose_refused server s (omega (arith, refusal_above refusal, code)))));
+  }
 
-  module _ (z : r.code ≤ 0) (run : Run) (w : Reads b F run run_of) where
+  module _ (p : DirectAsked) (e : r ≡ Ok p) (run : Run) (w : Reads b F run run_of) (o : Option ℕ)
+      (i : SomeIff o (run.direct_seq + 1 < 2 ^ 64) (run.direct_seq + 1)) where
     -- The two branches, by what was asked.
     abbrev proposes : State → Out Asked
     proposes s =
-        pick r.running
+        pick p.running
         (done (asked (open_proposal (record { 0 = server }) client.direct run.direct_seq))
-        (proposal_open r.slot (run.direct_seq + 1) s))
+        (proposal_open p.slot (run.direct_seq + 1) s))
         (done stopped (direct_seq_set (run.direct_seq + 1) s))
 
     gives : (s : State) → Area b s → F ≡ capacity_of s → propose server s ≡ proposes s
     gives s h ef =
         let seq : s.direct_seq ≡ run.direct_seq = sym (ap (λ (x : Run). x.direct_seq) (w.to s h ef)) in
-        propose_asks server s (passes q z h ef) ∙ rw (runs_is q z h ef, id_is q z h ef, place_is q z h ef, seq)
+        propose_asks server s (passes q h ef p e) ∙ rw (runs_is q h ef p e, id_is q h ef p e, place_is q h ef p e, seq)
 
     judges : (s : State) → Area b s → F ≡ capacity_of s → judged (propose server s) ≡ pick (word (run.direct_seq + 1)) 0 10
     unfolding judged
     judges s h ef =
         ap judged (gives s h ef)
-        ∙ cases r.running
-        (λ t. rw (t, proposal_fits s (area_fits h) r.slot (below q z h ef) (run.direct_seq + 1)))
+        ∙ cases p.running
+        (λ t. rw (t, proposal_fits s (area_fits h) p.slot (below q h ef p e) (run.direct_seq + 1)))
         (λ t. rw (t, used_fits s (area_fits h) (run.direct_seq + 1)))
 
-    pub propose_full : (p : ProposalAsked) → 18446744073709551615 ≤ run.direct_seq → p ≡ no_proposal 10 → ProposalPlanned b F server p
-    propose_full p l e = subst (ProposalPlanned b F server) (sym e) (record {
-      plan = record {
-        code = λ s h ef. sym (judges s h ef ∙ ap (λ (t : Bool). pick t 0 10) (le-ltb (run.direct_seq + 1) (2 ^ 64) (omega arith)));
-        yes = λ t s h ef o. absurd (omega arith);
-        no = λ t s h ef o. absurd (omega arith);
-      };
-    })
-
-    pub propose_goes : run.direct_seq < 18446744073709551615
-        → ProposalPlanned b F server (record {
-          code = 0;
-          slot = r.slot;
-          running = r.running;
-          seq = run.direct_seq;
-          next =
-              run.direct_seq + 1;
-        })
-    propose_goes l = record {
-      plan = record {
-        code = λ s h ef. sym (judges s h ef ∙ ap (λ (t : Bool). pick t 0 10) (lt-ltb (run.direct_seq + 1) (2 ^ 64) (omega arith)));
-        yes = λ t s h ef o. gives s h ef ∙ rw t;
-        no = λ t s h ef o. gives s h ef ∙ rw t;
-      };
+    pub propose_full : o ≡ None → ProposalPlanned b F server (Err Room)
+    propose_full n = record {
+      plan = if_err Room (λ s h ef. sym (judges s h ef ∙ ap (λ (t : Bool). pick t 0 10) (le-ltb (run.direct_seq + 1) (2 ^ 64) past)));
     }
+      where
+        past : 2 ^ 64 ≤ run.direct_seq + 1
+        past = let z : run.direct_seq + 1 < 2 ^ 64 → ⊥ = subst (λ (x : Option ℕ). SomeIff x (run.direct_seq + 1 < 2 ^ 64) (run.direct_seq + 1)) n i in omega (arith, z)
+
+    pub propose_goes : (next : ℕ) → o ≡ Some next
+        → ProposalPlanned b F server (Ok (record { slot = p.slot; running = p.running; seq = run.direct_seq; next = next }))
+    propose_goes next n = record {
+      plan = if_ok (record { slot = p.slot; running = p.running; seq = run.direct_seq; next = next })
+          (λ s h ef. sym (judges s h ef ∙ ap (λ (t : Bool). pick t 0 10) (lt-ltb (run.direct_seq + 1) (2 ^ 64) known.0)))
+          (λ t s h ef. gives s h ef ∙ rw (t, known.1))
+          (λ t s h ef. gives s h ef ∙ rw (t, known.1));
+    }
+      where
+        known : (run.direct_seq + 1 < 2 ^ 64) × (next ≡ run.direct_seq + 1)
+        known = subst (λ (x : Option ℕ). SomeIff x (run.direct_seq + 1 < 2 ^ 64) (run.direct_seq + 1)) n i
 
 -- ---- open_proposal, open_confirmation
 
@@ -221,81 +193,69 @@ confirmation_opens b b₁ F slot p = p.to (writing slot confirm_input nothing) r
 
 -- ---- confirm_plan
 
-pub confirm_planned : (b : List ℕ) (F : Capacity) (server request : ℕ) (r : DirectAsked) → AsksDirect b F server r
+pub confirm_planned : (b : List ℕ) (F : Capacity) (server request : ℕ) (r : Result DirectAsked Refusal) → AsksDirect b F server r
     → ConfirmPlanned b F server request r
 unfolding judged
-confirm_planned b F server request r q = by r.code refl
+confirm_planned b F server request r q = by r refl
   where
     id : RequestId
     id = record { 0 = request }
 
-    given : r.code ≤ 0 → (s : State) → Area b s → F ≡ capacity_of s
+    given : (p : DirectAsked) → r ≡ Ok p → (s : State) → Area b s → F ≡ capacity_of s
         → confirm_leadership server id s
-        ≡ pick r.running (done (asked (open_confirmation (record { 0 = server }) id)) (confirm_open r.slot s)) (done stopped s)
-    given z s h ef = confirm_asks server s id (passes q z h ef) ∙ rw (runs_is q z h ef, id_is q z h ef, place_is q z h ef)
+        ≡ pick p.running (done (asked (open_confirmation (record { 0 = server }) id)) (confirm_open p.slot s)) (done stopped s)
+    given p e s h ef = confirm_asks server s id (passes q h ef p e) ∙ rw (runs_is q h ef p e, id_is q h ef p e, place_is q h ef p e)
 
-    by : (n : ℕ) → r.code ≡ n → ConfirmPlanned b F server request r
-    by zero e =
-        let z : r.code ≤ 0 = omega arith in
-        record {
-          plan = record {
-            code = λ s h ef.
-                e ∙ sym (ap judged (given z s h ef)
-                ∙ cases r.running (λ t. rw (t, confirm_fits s (area_fits h) r.slot (below q z h ef))) (λ t. rw (t, area_fits h)));
-            yes = λ t s h ef o. given z s h ef ∙ rw t;
-            no = λ t s h ef o. given z s h ef ∙ rw t;
-          };
-        }
-    by (suc n) e = record {
-      plan = record {
-        code = λ s h ef. let c = q.code.to s h ef in sym (ap judged (confirm_refused server s id (omega (arith, c, e))) ∙ sym c);
-        yes = λ t s h ef o. absurd (omega (arith, e));
-        no = λ t s h ef o. absurd (omega (arith, e));
-      };
+    by : (x : Result DirectAsked Refusal) → r ≡ x → ConfirmPlanned b F server request x
+    by (Ok p) e = record {
+      plan = if_ok p
+          (λ s h ef. sym (ap judged (given p e s h ef)
+          ∙ cases p.running (λ t. rw (t, confirm_fits s (area_fits h) p.slot (below q h ef p e))) (λ t. rw (t, area_fits h))))
+          (λ t s h ef. given p e s h ef ∙ rw t)
+          (λ t s h ef. given p e s h ef ∙ rw t);
+    }
+    by (Err refusal) e = record {
+      plan = if_err refusal (λ s h ef.
+          let code = refuses q h ef refusal e in
+          code ∙ sym (ap judged (confirm_refused server s id (omega (arith, refusal_above refusal, code)))));
     }
 
 -- ---- the exits of a proposal
 
-module _ (b : List ℕ) (g : Gate) (server : ℕ) (p : ProposalAsked) (q : Gated b g) (y : g.refusal ≤ 0)
-    (k : ProposalPlanned b g.capacity server p) where
-  pub propose_no : (r : OpenedAnswer) → 0 < p.code → r ≡ opened_no p.code → (r, b) ≡ call opened_no asked_yes b (propose server)
-  propose_no r n e = if_refused opened_no asked_yes b (propose server) g q y p.code p.running _ _ _ _ k.plan r n e
+module _ (b : List ℕ) (g : Result Capacity Refusal) (server : ℕ) (q : Gated b g) (F : Capacity) (y : g ≡ Ok F)
+    (p : Result ProposalAsked Refusal) (k : ProposalPlanned b F server p) where
+  pub propose_no : (refusal : Refusal) → p ≡ Err refusal → (opened_no (refusal_number refusal), b) ≡ call opened_no asked_yes b (propose server)
+  propose_no refusal e = if_refused opened_no asked_yes b (propose server) g q F y p _ _ _ _ _ k.plan (opened_no (refusal_number refusal)) refusal e refl
 
-  pub propose_used : (b₁ : List ℕ) (i : InputNumbers) (r : OpenedAnswer) → p.code ≤ 0 → not p.running ≡ true
-      → Changes b b₁ g.capacity (direct_seq_set p.next) → i ≡ no_input_numbers → r ≡ opened_of i → (r, b₁)
-      ≡ call opened_no asked_yes b (propose server)
-  propose_used b₁ i r n t c ei e =
-      else_done opened_no asked_yes b (propose server) g q y p.code p.running _ _ _ _ k.plan b₁ r n (not-true p.running t) c
-      (e ∙ ap opened_of ei)
+  pub propose_used : (v : ProposalAsked) (b₁ : List ℕ) (i : InputNumbers) → p ≡ Ok v → not v.running ≡ true
+      → Changes b b₁ F (direct_seq_set v.next) → i ≡ no_input_numbers → (opened_of i, b₁) ≡ call opened_no asked_yes b (propose server)
+  propose_used v b₁ i e t c ei =
+      else_done opened_no asked_yes b (propose server) g q F y p _ _ _ _ _ k.plan b₁ (opened_of i) v e (not-true v.running t) c (ap opened_of ei)
 
-  pub propose_opened : (b₁ : List ℕ) (i : InputNumbers) (r : OpenedAnswer) → p.code ≤ 0 → not p.running ≡ false
-      → Changes b b₁ g.capacity (proposal_open p.slot p.next) → i
-      ≡ input_of (open_proposal (record { 0 = server }) 4294967295 p.seq)
-      → r ≡ opened_of i → (r, b₁) ≡ call opened_no asked_yes b (propose server)
-  propose_opened b₁ i r n t c ei e =
-      if_done opened_no asked_yes b (propose server) g q y p.code p.running _ _ _ _ k.plan b₁ r n (not-false p.running t) c
-      (e ∙ ap opened_of ei)
+  pub propose_opened : (v : ProposalAsked) (b₁ : List ℕ) (i : InputNumbers) → p ≡ Ok v → not v.running ≡ false
+      → Changes b b₁ F (proposal_open v.slot v.next) → i ≡ input_of (open_proposal (record { 0 = server }) 4294967295 v.seq)
+      → (opened_of i, b₁) ≡ call opened_no asked_yes b (propose server)
+  propose_opened v b₁ i e t c ei =
+      if_done opened_no asked_yes b (propose server) g q F y p _ _ _ _ _ k.plan b₁ (opened_of i) v e (not-false v.running t) c (ap opened_of ei)
 
 -- ---- the exits of a confirmation
 
-module _ (b : List ℕ) (g : Gate) (server request : ℕ) (p : DirectAsked) (q : Gated b g) (y : g.refusal ≤ 0)
-    (k : ConfirmPlanned b g.capacity server request p) where
+module _ (b : List ℕ) (g : Result Capacity Refusal) (server request : ℕ) (q : Gated b g) (F : Capacity) (y : g ≡ Ok F)
+    (p : Result DirectAsked Refusal) (k : ConfirmPlanned b F server request p) where
   abbrev confirms : State → Out Asked
   confirms = confirm_leadership server (record { 0 = request })
 
-  pub confirm_no : (r : OpenedAnswer) → 0 < p.code → r ≡ opened_no p.code → (r, b)
+  pub confirm_no : (refusal : Refusal) → p ≡ Err refusal → (opened_no (refusal_number refusal), b)
       ≡ call opened_no asked_yes b (confirm_leadership server (record { 0 = request }))
-  confirm_no r n e = if_refused opened_no asked_yes b confirms g q y p.code p.running _ _ _ _ k.plan r n e
+  confirm_no refusal e = if_refused opened_no asked_yes b confirms g q F y p _ _ _ _ _ k.plan (opened_no (refusal_number refusal)) refusal e refl
 
-  pub confirm_none : (i : InputNumbers) (r : OpenedAnswer) → p.code ≤ 0 → not p.running ≡ true → i ≡ no_input_numbers → r ≡ opened_of i
-      → (r, b) ≡ call opened_no asked_yes b (confirm_leadership server (record { 0 = request }))
-  confirm_none i r n t ei e =
-      else_kept opened_no asked_yes b confirms g q y p.code p.running _ _ _ _ k.plan r n (not-true p.running t) (λ s. refl)
-      (e ∙ ap opened_of ei)
+  pub confirm_none : (v : DirectAsked) (i : InputNumbers) → p ≡ Ok v → not v.running ≡ true → i ≡ no_input_numbers
+      → (opened_of i, b) ≡ call opened_no asked_yes b (confirm_leadership server (record { 0 = request }))
+  confirm_none v i e t ei =
+      else_kept opened_no asked_yes b confirms g q F y p _ _ _ _ _ k.plan (opened_of i) v e (not-true v.running t) (λ s. refl) (ap opened_of ei)
 
-  pub confirm_opened : (b₁ : List ℕ) (i : InputNumbers) (r : OpenedAnswer) → p.code ≤ 0 → not p.running ≡ false
-      → Changes b b₁ g.capacity (confirm_open p.slot) → i ≡ input_of (open_confirmation (record { 0 = server }) (record { 0 = request }))
-      → r ≡ opened_of i → (r, b₁) ≡ call opened_no asked_yes b (confirm_leadership server (record { 0 = request }))
-  confirm_opened b₁ i r n t c ei e =
-      if_done opened_no asked_yes b confirms g q y p.code p.running _ _ _ _ k.plan b₁ r n (not-false p.running t) c
-      (e ∙ ap opened_of ei)
+  pub confirm_opened : (v : DirectAsked) (b₁ : List ℕ) (i : InputNumbers) → p ≡ Ok v → not v.running ≡ false
+      → Changes b b₁ F (confirm_open v.slot) → i ≡ input_of (open_confirmation (record { 0 = server }) (record { 0 = request }))
+      → (opened_of i, b₁) ≡ call opened_no asked_yes b (confirm_leadership server (record { 0 = request }))
+  confirm_opened v b₁ i e t c ei =
+      if_done opened_no asked_yes b confirms g q F y p _ _ _ _ _ k.plan b₁ (opened_of i) v e (not-false v.running t) c (ap opened_of ei)

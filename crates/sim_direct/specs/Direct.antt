@@ -1,6 +1,8 @@
 -- What the direct calls ask and do (lib.rt): what their contracts cite. Assumes nothing.
-use Rattle.std.specs.Prelude.{◌≡◌, Bool, List, ℕ, ◌-◌, ◌<◌, eqb}
+use Rattle.std.specs.Prelude.{◌≡◌, Bool, List, ℕ, ◌-◌, ◌<◌, eqb, Result, Ok}
 use Rattle.laws.specs.Bools.{pick}
+use Rattle.units.specs.declared.refusal.Refusal.{Refusal}
+use Rattle.units.specs.Refusals.{answer_number}
 use Rattle.protocol.specs.declared.Timer.{Timer}
 use Rattle.protocol.specs.declared.Timer.TheVariants.{Election, Heartbeat}
 use Rattle.model.specs.State.{State, writing, timer_input, nothing}
@@ -24,20 +26,22 @@ direct_code server s = pick (is_closed s.phase) (pick (in_cluster s server) 0 7)
 unfoldable pub server_runs : ℕ → State → Bool
 server_runs server s = running s (server - 1)
 
--- What was asked of a server: the refusal; where it is 0, its place in the cluster and whether it runs.
-pub record AsksDirect (b : List ℕ) (F : Capacity) (server : ℕ) (r : DirectAsked) : Type 0 where
-  pub code : Reads b F r.code (direct_code server)
-  pub slot : r.code ≡ 0 → r.slot ≡ server - 1
-  pub below : r.code ≡ 0 → r.slot < F.servers
-  pub running : r.code ≡ 0 → Reads b F r.running (server_runs server)
+-- What was asked of a server: the refusal, or its place in the cluster and whether it runs.
+pub record AsksDirect (b : List ℕ) (F : Capacity) (server : ℕ) (r : Result DirectAsked Refusal) : Type 0 where
+  pub code : Reads b F (answer_number r) (direct_code server)
+  pub slot : (p : DirectAsked) → r ≡ Ok p → p.slot ≡ server - 1
+  pub below : (p : DirectAsked) → r ≡ Ok p → p.slot < F.servers
+  pub running : (p : DirectAsked) → r ≡ Ok p → Reads b F p.running (server_runs server)
 
 -- The state with a timer's input of the server at a place open.
 unfoldable pub timer_open : ℕ → State → State
 timer_open slot s = with_phase s (writing slot timer_input nothing)
 
--- What firing a timer will do.
-pub record FirePlanned (b : List ℕ) (F : Capacity) (server timer : ℕ) (r : DirectAsked) : Type 0 where
-  pub plan : PlannedIf b F r.code (fire_timer server timer) r.running (open_timer (record { 0 = server }) (timer_given timer)) (timer_open r.slot) no_input (λ s. s)
+-- What firing a timer will do: a server that runs gets the input, of a stopped one nothing changes.
+pub record FirePlanned (b : List ℕ) (F : Capacity) (server timer : ℕ) (r : Result DirectAsked Refusal) : Type 0 where
+  pub plan : PlannedIf b F r (fire_timer server timer) (λ p. p.running)
+      (λ p. open_timer (record { 0 = server }) (timer_given timer)) (λ p. timer_open p.slot)
+      (λ p. no_input) (λ p s. s)
 
 -- The timer's input is open.
 pub record OpensTimer (b b' : List ℕ) (F : Capacity) (slot : ℕ) : Type 0 where

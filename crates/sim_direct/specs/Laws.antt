@@ -1,20 +1,23 @@
 -- What the proofs of the direct calls cite. Assumes nothing.
 use Rattle.std.proofs.Math.Path.{◌≡◌, sym, ap, ap₂}
-use Rattle.std.specs.Prelude.{refl, Bool, true, false, not, List, eqb, length, Option}
+use Rattle.std.specs.Prelude.{refl, Bool, true, false, not, List, eqb, length, Option, Result, Ok, Err}
 use Rattle.std.proofs.Common.{subst, ◌∙◌, arith}
 use Prim.Native.Nat.{ℕ, ◌+◌, ◌-◌, ◌≤◌, ◌<◌}
 use Rattle.std.proofs.Math.Dec.{leb}
 use borrow.Author.Tests.{eq-eqb, ne_eqb, le-leb, lt-leb, leb-true, lt-ltb, not-true, not-false}
 use Rattle.laws.specs.Bools.{pick, cases, ◌and◌, and_left}
 use Rattle.laws.proofs.BoolLaws.{and_both}
-use Rattle.laws.specs.Decides.{false_true}
+use Rattle.units.specs.declared.refusal.Refusal.{Refusal}
+use Rattle.units.specs.declared.refusal.Refusal.TheVariants.{Argument, UnknownServer}
+use Rattle.units.specs.declared.refusal.Refusal.TheVariants as question
+use Rattle.units.specs.Refusals.{refusal_number, answer_number}
 use Rattle.protocol.specs.declared.Status.{Status}
 use Rattle.protocol.specs.declared.Timer.{Timer}
 use Rattle.protocol.specs.declared.Timer.TheVariants.{Election, Heartbeat}
 use Rattle.faults.specs.Fault as faults
 use Rattle.model.specs.State.{State, writing, timer_input, nothing, server_at, id_of}
-use Rattle.model.specs.Simulation.{running, no_input, open_timer}
-use Rattle.model.specs.Calls.{is_closed, in_cluster, is_flag, fire_timer, timer_of, refused, done}
+use Rattle.model.specs.Simulation.{Opening, running, no_input, open_timer}
+use Rattle.model.specs.Calls.{Out, is_closed, in_cluster, is_flag, fire_timer, timer_of, refused, done}
 use Rattle.model.specs.Fits.{state_fits}
 use Rattle.state.specs.declared.Capacity.{Capacity}
 use Rattle.state.specs.declared.OpenInput.{OpenInput}
@@ -22,11 +25,10 @@ use Rattle.state.specs.Parts.{open_of, phase_kind}
 use Rattle.state.specs.Area.{Area, capacity_of}
 use Rattle.state.specs.Fitting.{area_fits}
 use Rattle.state.specs.FitsBy.{fits_test, server_count}
-use Rattle.state.specs.declared.Gate.{Gate}
 use Rattle.state.specs.Call.{call}
 use Rattle.state.specs.Changes.{Gated, Reads, judged}
-use Rattle.state.specs.Branches.{if_refused, if_done, else_kept}
-use Rattle.answers.specs.declared.OpenedAnswer.{OpenedAnswer}
+use Rattle.state.specs.Exits.{refusal_above, ok_same}
+use Rattle.state.specs.Branches.{if_err, if_ok, if_refused, if_done, else_kept}
 use Rattle.answers.specs.declared.InputNumbers.{InputNumbers}
 use Rattle.answers.specs.Answers.{no_input_numbers, input_of, opened_no, opened_of, opened_yes}
 use Rattle.state_header.specs.Header.{phase_of, phase_set, SetsPhase}
@@ -55,46 +57,38 @@ module _ (b : List ℕ) (F : Capacity) (server : ℕ) (o : OpenInput) (q : Reads
   count : (s : State) → Area b s → F ≡ capacity_of s → length s.servers ≡ F.servers
   count s h ef = server_count s (area_fits h) ∙ sym (ap (λ (G : Capacity). G.servers) ef)
 
-  pub asked_open : (o.phase ≡ 0 → ⊥) → AsksDirect b F server (record { code = 6; slot = 0; running = false })
+  stops : (refusal : Refusal) → ((s : State) → Area b s → F ≡ capacity_of s → refusal_number refusal ≡ direct_code server s) → AsksDirect b F server (Err refusal)
+  stops refusal code = record { code = record { to = code }; slot = λ p e. absurd cc; below = λ p e. absurd cc; running = λ p e. absurd cc }
+
+  pub asked_open : (o.phase ≡ 0 → ⊥) → AsksDirect b F server (Err question.Phase)
   unfolding direct_code
-  asked_open n = record {
-    code = record { to = λ s h ef. sym (ap (λ (t : Bool). pick t (pick (in_cluster s server) 0 7) 6) (kind_open s.phase (λ e. n (kind s h ef ∙ e)))) };
-    slot = λ e. absurd (omega arith);
-    below = λ e. absurd (omega arith);
-    running = λ e. absurd (omega arith);
-  }
+  asked_open n = stops question.Phase (λ s h ef. sym (ap (λ (t : Bool). pick t (pick (in_cluster s server) 0 7) 6) (kind_open s.phase (λ e. n (kind s h ef ∙ e)))))
 
   module _ (z : o.phase ≡ 0) where
-    unknown : ((s : State) → Area b s → F ≡ capacity_of s → in_cluster s server ≡ false) → AsksDirect b F server (record { code = 7; slot = 0; running = false })
+    unknown : ((s : State) → Area b s → F ≡ capacity_of s → in_cluster s server ≡ false) → AsksDirect b F server (Err UnknownServer)
     unfolding direct_code
-    unknown n = record {
-      code = record {
-        to = λ s h ef. sym (ap₂ (λ (t u : Bool). pick t (pick u 0 7) 6) (kind_closed s.phase (sym (kind s h ef) ∙ z)) (n s h ef));
-      };
-      slot = λ e. absurd (omega arith);
-      below = λ e. absurd (omega arith);
-      running = λ e. absurd (omega arith);
-    }
+    unknown n = stops UnknownServer (λ s h ef. sym (ap₂ (λ (t u : Bool). pick t (pick u 0 7) 6) (kind_closed s.phase (sym (kind s h ef) ∙ z)) (n s h ef)))
 
-    pub asked_low : server < 1 → AsksDirect b F server (record { code = 7; slot = 0; running = false })
+    pub asked_low : server < 1 → AsksDirect b F server (Err UnknownServer)
     unfolding faults.in_cluster ◌and◌
     asked_low l = unknown (λ s h ef. ap (λ (t : Bool). t and leb server (length s.servers)) (lt-leb 1 server l))
 
-    pub asked_high : F.servers < server → AsksDirect b F server (record { code = 7; slot = 0; running = false })
+    pub asked_high : F.servers < server → AsksDirect b F server (Err UnknownServer)
     unfolding faults.in_cluster ◌and◌
     asked_high l = unknown (λ s h ef. ap₂ (λ (t u : Bool). t and u) (le-leb 1 server (omega arith)) (lt-leb server (length s.servers) (omega (arith, count s h ef))))
 
     pub asked_yes_lem : (x : Option Status) (r : Bool) → 1 ≤ server → server ≤ F.servers → Reads b F x (status_at (server - 1)) → r ≡ status_runs x
-        → AsksDirect b F server (record { code = 0; slot = server - 1; running = r })
+        → AsksDirect b F server (Ok (record { slot = server - 1; running = r }))
     unfolding direct_code server_runs status_at faults.in_cluster
     asked_yes_lem x r lo hi qx er = record {
       code = record {
         to = λ s h ef. sym (ap₂ (λ (t u : Bool). pick t (pick u 0 7) 6) (kind_closed s.phase (sym (kind s h ef) ∙ z))
             (and_both _ _ (le-leb 1 server lo) (le-leb server (length s.servers) (omega (arith, count s h ef)))));
       };
-      slot = λ e. refl;
-      below = λ e. omega arith;
-      running = λ e. record { to = λ s h ef. er ∙ ap status_runs (qx.to s h ef) ∙ status_runs_lem (server_at s (server - 1)).status };
+      slot = λ p e. sym (ap (λ (a : DirectAsked). a.slot) (ok_same e));
+      below = λ p e. subst (λ (a : DirectAsked). a.slot < F.servers) (ok_same e) (omega arith);
+      running = λ p e. subst (λ (a : DirectAsked). Reads b F a.running (server_runs server)) (ok_same e)
+          (record { to = λ s h ef. er ∙ ap status_runs (qx.to s h ef) ∙ status_runs_lem (server_at s (server - 1)).status });
     }
 
 -- ---- firing a timer
@@ -131,10 +125,10 @@ module _ (server timer : ℕ) (s : State) where
   unfolding fire_timer timer_open
   fire_asks e = let k = closed_known server s e in rw (k.0, k.1)
 
-  -- an open input of a server in the cluster fits
-  timer_fits : state_fits s ≡ true → server - 1 < s.config.servers → state_fits (timer_open (server - 1) s) ≡ true
-  unfolding timer_open phase_set ◌and◌
-  timer_fits f l = fits_phase s (writing (server - 1) timer_input nothing) (fits_test s f 19) ∙ and_both _ _ (and_both _ _ (lt-ltb (server - 1) s.config.servers l) refl) f
+-- an open input of a server in the cluster fits
+timer_fits : (s : State) → state_fits s ≡ true → (slot : ℕ) → slot < s.config.servers → state_fits (timer_open slot s) ≡ true
+unfolding timer_open phase_set ◌and◌
+timer_fits s f slot l = fits_phase s (writing slot timer_input nothing) (fits_test s f 19) ∙ and_both _ _ (and_both _ _ (lt-ltb slot s.config.servers l) refl) f
 
 timers_same : (timer : ℕ) → timer ≤ 1 → timer_of timer ≡ timer_given timer
 unfolding timer_given
@@ -145,73 +139,81 @@ timers_same timer l = by timer l
     by (Prim.Native.Nat.suc Prim.Native.Nat.zero) l = refl
     by (Prim.Native.Nat.suc (Prim.Native.Nat.suc n)) l = absurd (omega arith)
 
-module _ (b : List ℕ) (F : Capacity) (server timer : ℕ) (r : DirectAsked) (q : AsksDirect b F server r) where
-  never : {P : Type 0} → 0 < r.code → r.code ≡ 0 → P
-  never l e = absurd (omega arith)
+-- ---- what was asked of a server, by the state
 
-  pub fire_stopped : 0 < r.code → FirePlanned b F server timer r
+module _ {b : List ℕ} {F : Capacity} {server : ℕ} {r : Result DirectAsked Refusal} (q : AsksDirect b F server r) {s : State} (h : Area b s) (ef : F ≡ capacity_of s) where
+  pub refuses : (refusal : Refusal) → r ≡ Err refusal → refusal_number refusal ≡ direct_code server s
+  refuses refusal e = sym (ap answer_number e) ∙ q.code.to s h ef
+
+  module _ (p : DirectAsked) (e : r ≡ Ok p) where
+    pub passes : direct_code server s ≡ 0
+    passes = sym (q.code.to s h ef) ∙ ap answer_number e
+
+    pub id_is : server - 1 + 1 ≡ server
+    id_is = omega (arith, known_low server s passes)
+
+    pub place_is : server - 1 ≡ p.slot
+    place_is = sym (q.slot p e)
+
+    pub runs_is : running s (server - 1) ≡ p.running
+    unfolding server_runs
+    runs_is = sym ((q.running p e).to s h ef)
+
+    pub below : p.slot < s.config.servers
+    below = subst (λ (G : Capacity). p.slot < G.servers) ef (q.below p e)
+
+module _ (b : List ℕ) (F : Capacity) (server timer : ℕ) (r : Result DirectAsked Refusal) (q : AsksDirect b F server r) where
+  pub fire_stopped : (refusal : Refusal) → r ≡ Err refusal → FirePlanned b F server timer (Err refusal)
   unfolding judged
-  fire_stopped l = record {
-    plan = record {
-      code = λ s h ef.
-          let e = q.code.to s h ef in
-          sym (ap judged (fire_refused server timer s (omega (arith, e))) ∙ sym e);
-      yes = λ t s h ef z. never l z;
-      no = λ t s h ef z. never l z;
-    };
+  fire_stopped refusal e = record {
+    plan = if_err refusal (λ s h ef.
+        let code = refuses q h ef refusal e in
+        code ∙ sym (ap judged (fire_refused server timer s (omega (arith, refusal_above refusal, code)))));
   }
 
-  module _ (z : r.code ≤ 0) where
-    zero : r.code ≡ 0
-    zero = omega arith
-
-    pub fire_nine : 1 < timer → FirePlanned b F server timer (record { code = 9; slot = 0; running = false })
+  module _ (p : DirectAsked) (e : r ≡ Ok p) where
+    pub fire_nine : 1 < timer → FirePlanned b F server timer (Err Argument)
     unfolding judged
     fire_nine l = record {
-      plan = record {
-        code = λ s h ef. sym (ap judged (fire_asks server timer s (sym (q.code.to s h ef) ∙ zero)) ∙ rw (lt-leb timer 1 l));
-        yes = λ t. absurd (false_true t);
-        no = λ t s h ef e. absurd (omega arith);
-      };
+      plan = if_err Argument (λ s h ef. sym (ap judged (fire_asks server timer s (passes q h ef p e)) ∙ rw (lt-leb timer 1 l)));
     }
 
-    pub fire_goes : timer ≤ 1 → FirePlanned b F server timer r
-    unfolding judged server_runs
-    fire_goes l =
-        let given : (s : State) → Area b s → F ≡ capacity_of s → fire_timer server timer s ≡ pick r.running (done (open_timer (record { 0 = server }) (timer_given timer)) (timer_open r.slot s)) (done no_input s) =
-        λ s h ef. gives s h ef in
-        record {
-          plan = record {
-            code = λ s h ef. zero ∙ sym (ap judged (given s h ef) ∙ fit s h ef);
-            yes = λ t s h ef e. given s h ef ∙ rw t;
-            no = λ t s h ef e. given s h ef ∙ rw t;
-          };
-        }
+    pub fire_goes : timer ≤ 1 → FirePlanned b F server timer (Ok p)
+    unfolding judged
+    fire_goes l = record {
+      plan = if_ok p (λ s h ef. sym (ap judged (gives s h ef) ∙ fit s h ef)) (λ t s h ef. gives s h ef ∙ rw t) (λ t s h ef. gives s h ef ∙ rw t);
+    }
       where
-        gives : (s : State) → Area b s → F ≡ capacity_of s → fire_timer server timer s ≡ pick r.running (done (open_timer (record { 0 = server }) (timer_given timer)) (timer_open r.slot s)) (done no_input s)
+        gives : (s : State) → Area b s → F ≡ capacity_of s → fire_timer server timer s
+            ≡ pick p.running (done (open_timer (record { 0 = server }) (timer_given timer)) (timer_open p.slot s)) (done no_input s)
         gives s h ef =
-            let k : direct_code server s ≡ 0 = sym (q.code.to s h ef) ∙ zero in
-            let id : server - 1 + 1 ≡ server = omega (arith, known_low server s k) in
-            fire_asks server timer s k
-            ∙ rw (le-leb timer 1 l, timers_same timer l, sym ((q.running zero).to s h ef), id, sym (q.slot zero))
+            fire_asks server timer s (passes q h ef p e)
+            ∙ rw (le-leb timer 1 l, timers_same timer l, runs_is q h ef p e, id_is q h ef p e, place_is q h ef p e)
 
-        fit : (s : State) → Area b s → F ≡ capacity_of s → judged (pick r.running (done (open_timer (record { 0 = server }) (timer_given timer)) (timer_open r.slot s)) (done no_input s)) ≡ 0
+        fit : (s : State) → Area b s → F ≡ capacity_of s
+            → judged (pick p.running (done (open_timer (record { 0 = server }) (timer_given timer)) (timer_open p.slot s)) (done no_input s)) ≡ 0
         fit s h ef =
-            cases r.running
-            (λ t. rw (t, q.slot zero, timer_fits server timer s (area_fits h) (subst (λ (n : ℕ). n < s.config.servers) (q.slot zero) (subst (λ (G : Capacity). r.slot < G.servers) ef (q.below zero)))))
+            cases p.running
+            (λ t. rw (t, timer_fits s (area_fits h) p.slot (below q h ef p e)))
             (λ t. rw (t, area_fits h))
 
 -- ---- the exits of a fired timer
 
-module _ (b : List ℕ) (g : Gate) (server timer : ℕ) (p : DirectAsked) (q : Gated b g) (y : g.refusal ≤ 0) (k : FirePlanned b g.capacity server timer p) where
-  pub fire_no : (r : OpenedAnswer) → 0 < p.code → r ≡ opened_no p.code → (r, b) ≡ call opened_no opened_yes b (fire_timer server timer)
-  fire_no r n e = if_refused opened_no opened_yes b (fire_timer server timer) g q y p.code p.running _ _ _ _ k.plan r n e
+module _ (b : List ℕ) (g : Result Capacity Refusal) (server timer : ℕ) (q : Gated b g) (F : Capacity) (y : g ≡ Ok F)
+    (p : Result DirectAsked Refusal) (k : FirePlanned b F server timer p) where
+  abbrev fires : State → Out Opening
+  fires = fire_timer server timer
 
-  pub fire_none : (r : OpenedAnswer) (i : InputNumbers) → p.code ≤ 0 → not p.running ≡ true → i ≡ no_input_numbers → r ≡ opened_of i → (r, b) ≡ call opened_no opened_yes b (fire_timer server timer)
-  fire_none r i n t ei e = else_kept opened_no opened_yes b (fire_timer server timer) g q y p.code p.running _ _ _ _ k.plan r n (not-true p.running t) (λ s. refl) (e ∙ ap opened_of ei)
+  pub fire_no : (refusal : Refusal) → p ≡ Err refusal → (opened_no (refusal_number refusal), b) ≡ call opened_no opened_yes b (fire_timer server timer)
+  fire_no refusal e = if_refused opened_no opened_yes b fires g q F y p _ _ _ _ _ k.plan (opened_no (refusal_number refusal)) refusal e refl
 
-  pub fire_opened : (b' : List ℕ) (kind : Timer) (i : InputNumbers) (r : OpenedAnswer) → p.code ≤ 0 → not p.running ≡ false → kind ≡ timer_given timer → OpensTimer b b' g.capacity p.slot
-      → i ≡ input_of (open_timer (record { 0 = server }) kind) → r ≡ opened_of i → (r, b') ≡ call opened_no opened_yes b (fire_timer server timer)
-  fire_opened b' kind i r n t ek o ei e =
-      if_done opened_no opened_yes b (fire_timer server timer) g q y p.code p.running _ _ _ _ k.plan b' r n (not-false p.running t) o.changes
-      (e ∙ ap opened_of (ei ∙ ap (λ (x : Timer). input_of (open_timer (record { 0 = server }) x)) ek))
+  pub fire_none : (v : DirectAsked) (i : InputNumbers) → p ≡ Ok v → not v.running ≡ true → i ≡ no_input_numbers
+      → (opened_of i, b) ≡ call opened_no opened_yes b (fire_timer server timer)
+  fire_none v i e t ei = else_kept opened_no opened_yes b fires g q F y p _ _ _ _ _ k.plan (opened_of i) v e (not-true v.running t) (λ s. refl) (ap opened_of ei)
+
+  pub fire_opened : (v : DirectAsked) (b' : List ℕ) (kind : Timer) (i : InputNumbers) → p ≡ Ok v → not v.running ≡ false → OpensTimer b b' F v.slot
+      → kind ≡ timer_given timer → i ≡ input_of (open_timer (record { 0 = server }) kind)
+      → (opened_of i, b') ≡ call opened_no opened_yes b (fire_timer server timer)
+  fire_opened v b' kind i e t o ek ei =
+      if_done opened_no opened_yes b fires g q F y p _ _ _ _ _ k.plan b' (opened_of i) v e (not-false v.running t) o.changes
+      (ap opened_of (ei ∙ ap (λ (x : Timer). input_of (open_timer (record { 0 = server }) x)) ek))

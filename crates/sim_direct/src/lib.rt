@@ -5,58 +5,45 @@ ghost use Rattle.std.specs.Prelude.{◌≡◌, ◌<◌};
 ghost use Rattle.model.specs.Calls.{fire_timer};
 ghost use Rattle.state.specs.Changes.{Inside, Gated};
 ghost use Rattle.state.specs.Call.{call};
-ghost use Rattle.answers.specs.Answers.{opened_no, opened_yes};
+ghost use Rattle.answers.specs.Answers.{opened_no, opened_yes, opened_answer};
 ghost use Rattle.sim_direct.specs.Direct.{timer_given, AsksDirect, FirePlanned, timer_open, OpensTimer};
 
-use answers::{OpenedAnswer, opened};
+use answers::{InputNumbers, OpenedAnswer, opened};
 use protocol::Timer;
-use state::{Capacity, Gate, OpenInput};
+use state::{Capacity, OpenInput};
 use units::NodeId;
+use units::refusal::Refusal;
 
 pub mod asked; // a proposal, leadership to be confirmed
 
-// What a direct call asks of its server: 0, or the refusal; its place, and whether it runs.
+// The server of a direct call: its place, and whether it runs.
 #[derive(Clone, Copy)]
 pub struct DirectAsked {
-    pub code: u64,
     pub slot: u64,
     pub running: bool,
 }
 
-// Questions 6 and 7 of a direct call, and whether its server runs.
-fn direct_asked(area: &[u8], f: Capacity, server: u64) -> DirectAsked
+// Questions 6 and 7 of a direct call, and its server.
+fn direct_asked(area: &[u8], f: Capacity, server: u64) -> Result<DirectAsked, Refusal>
     requires { Inside area.now f }
     ensures { AsksDirect area.now f server result }
 {
     let open = state_header::open_of(area, f);
     if open.phase != 0 {
-        return DirectAsked {
-            code: 6,
-            slot: 0,
-            running: false,
-        };
+        return Err(Refusal::Phase);
     }
     if server < 1 {
-        return DirectAsked {
-            code: 7,
-            slot: 0,
-            running: false,
-        };
+        return Err(Refusal::UnknownServer);
     }
     if f.servers < server {
-        return DirectAsked {
-            code: 7,
-            slot: 0,
-            running: false,
-        };
+        return Err(Refusal::UnknownServer);
     }
     let slot = server - 1;
     let status = state_server::status_of(area, f, slot as usize);
-    DirectAsked {
-        code: 0,
+    Ok(DirectAsked {
         slot,
         running: state_server::runs(status),
-    }
+    })
 }
 
 // ---- fire_timer
@@ -73,23 +60,20 @@ fn timer_given(timer: u64) -> Timer
 }
 
 // What firing a timer will do, or the refusal.
-fn fire_timer_plan(area: &[u8], f: Capacity, server: u64, timer: u64) -> DirectAsked
+fn fire_timer_plan(
+    area: &[u8],
+    f: Capacity,
+    server: u64,
+    timer: u64,
+) -> Result<DirectAsked, Refusal>
     requires { Inside area.now f }
     ensures { FirePlanned area.now f server timer result }
 {
-    let asked = direct_asked(area, f, server);
-    let code = asked.code;
-    if 0 < code {
-        return asked;
-    }
+    let asked = direct_asked(area, f, server)?;
     if 1 < timer {
-        return DirectAsked {
-            code: 9,
-            slot: 0,
-            running: false,
-        };
+        return Err(Refusal::Argument);
     }
-    asked
+    Ok(asked)
 }
 
 // The timer's input opens.
@@ -112,26 +96,34 @@ fn open_timer(area: &mut [u8], f: Capacity, slot: u64)
     state_header::set_open(area, f, input);
 }
 
-// A timer fired now, whether or not it is pending: a stopped server does nothing.
-pub fn fire_timer_in(area: &mut [u8], g: Gate, server: u64, timer: u64) -> OpenedAnswer
+// The input that a timer fired now opens, whether or not it is pending: a stopped server does nothing.
+fn fired(
+    area: &mut [u8],
+    g: Result<Capacity, Refusal>,
+    server: u64,
+    timer: u64,
+) -> Result<InputNumbers, Refusal>
+    requires { Gated area.old g }
+    ensures { (opened_answer result, area.new) ≡ call opened_no opened_yes area.old (fire_timer server timer) }
+{
+    let f = g?;
+    let p = fire_timer_plan(area, f, server, timer)?;
+    if !p.running {
+        return Ok(answers::no_input());
+    }
+    open_timer(area, f, p.slot);
+    Ok(opened::timer_input(NodeId(server), timer_given(timer)))
+}
+
+// A timer fired now.
+pub fn fire_timer_in(
+    area: &mut [u8],
+    g: Result<Capacity, Refusal>,
+    server: u64,
+    timer: u64,
+) -> OpenedAnswer
     requires { Gated area.old g }
     ensures { (result, area.new) ≡ call opened_no opened_yes area.old (fire_timer server timer) }
 {
-    let refusal = g.refusal;
-    let f = g.capacity;
-    if 0 < refusal {
-        return opened::opened_no(refusal);
-    }
-    let p = fire_timer_plan(area, f, server, timer);
-    let code = p.code;
-    let running = p.running;
-    if 0 < code {
-        return opened::opened_no(code);
-    }
-    if !running {
-        return opened::opened(answers::no_input());
-    }
-    let kind = timer_given(timer);
-    open_timer(area, f, p.slot);
-    opened::opened(opened::timer_input(NodeId(server), kind))
+    OpenedAnswer::from(fired(area, g, server, timer))
 }

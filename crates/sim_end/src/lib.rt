@@ -51,7 +51,11 @@ fn role_given(n: u64) -> Role
 fn node_given(present: u64, id: u64) -> Option<NodeId>
     ensures { result ≡ node_option present id }
 {
-    if present == 1 { Some(NodeId(id)) } else { None }
+    if present == 1 {
+        Some(NodeId(id))
+    } else {
+        None
+    }
 }
 
 // The status of numbers.
@@ -115,7 +119,11 @@ fn check_status(area: &mut [u8], f: Capacity, slot: u64, status: Status, asked: 
 fn term_given(leads: bool, term: Term) -> Option<Term>
     ensures { result ≡ term_given leads term }
 {
-    if leads { Some(term) } else { None }
+    if leads {
+        Some(term)
+    } else {
+        None
+    }
 }
 
 // A server's state with another status, and the term that it leads.

@@ -1,17 +1,17 @@
 -- What the proofs of lib.rt cite, and what a call in the sending phase gives. Assumes nothing.
-use Rattle.std.specs.Prelude.{◌≡◌, refl, Bool, true, false, not, ◌&&◌, List, ℕ, ◌+◌, ◌-◌, ◌^◌, ◌≤◌, ◌<◌, None, Some}
+use Rattle.std.specs.Prelude.{◌≡◌, refl, Bool, true, false, not, ◌&&◌, List, ℕ, ◌+◌, ◌-◌, ◌^◌, ◌≤◌, ◌<◌, None, Some, Result, Ok}
 use Rattle.std.proofs.Common.{sym, subst, ◌∙◌, arith, Fits, lt-ltb, le-ltb, ltb-true}
 use Rattle.std.proofs.Math.Path.{ap}
 use Rattle.std.proofs.Math.Dec.{eqb}
 use Rattle.std.specs.Int.{w64}
 use Rattle.laws.specs.Bools.{and_left}
 use Rattle.laws.specs.Decides.{false_true}
+use Rattle.units.specs.declared.refusal.Refusal.{Refusal}
 use Rattle.model.specs.State.{State, Phase, closed, writing, sending, accepted, not_leader}
 use Rattle.model.specs.Calls.{done, output, ask}
 use Rattle.model.specs.Fits.{state_fits, phase_fits}
 use Rattle.state.specs.declared.Capacity.{Capacity}
 use Rattle.state.specs.declared.OpenInput.{OpenInput}
-use Rattle.state.specs.declared.Gate.{Gate}
 use Rattle.state.specs.Parts.{open_of, phase_kind, phase_slot, phase_verdict, verdict_kind}
 use Rattle.state.specs.Area.{Area, capacity_of}
 use Rattle.state.specs.Decode.{decode}
@@ -24,8 +24,8 @@ use Rattle.sim_outputs.specs.Outputs.{Passed, sends, sender_of, IsSender, asks_c
 
 -- ---- the gate
 
-pub passed_of : (b : List ℕ) (g : Gate) → Gated b g → g.refusal ≤ 0 → Passed b g.capacity
-passed_of b g q y = let z : g.refusal ≡ 0 = omega arith in record { inside = q.inside z; capacity = q.capacity z; area = q.area z }
+pub passed_of : (b : List ℕ) (g : Result Capacity Refusal) (F : Capacity) → Gated b g → g ≡ Ok F → Passed b F
+passed_of b g F q y = record { inside = q.inside F y; capacity = q.capacity F y; area = q.area F y }
 
 pub passed_inside : (b : List ℕ) (F : Capacity) → Passed b F → Inside b F
 passed_inside b F p = p.inside

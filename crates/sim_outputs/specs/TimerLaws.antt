@@ -1,9 +1,11 @@
 -- What the proofs of timers.rt cite, but for a timer set, and question 10 of both calls. Assumes nothing.
-use Rattle.std.specs.Prelude.{◌≡◌, Bool, true, false, List, ℕ, zero, suc, ◌+◌, ◌^◌, ◌≤◌, ◌<◌, ltb, leb}
+use Rattle.std.specs.Prelude.{◌≡◌, Bool, true, false, List, ℕ, zero, suc, ◌+◌, ◌^◌, ◌≤◌, ◌<◌, ltb, leb, Result, Ok, Err}
 use Rattle.std.proofs.Math.Path.{refl, sym, ap, ap₂}
 use Rattle.std.proofs.Common.{subst, ◌∙◌, arith, lt-ltb, le-leb}
 use Rattle.laws.specs.Bools.{◌and◌, and_true}
 use Rattle.laws.proofs.BoolLaws.{and_both, true_and}
+use Rattle.units.specs.declared.refusal.Refusal.{Refusal}
+use Rattle.units.specs.Refusals.{answer_number}
 use Rattle.protocol.specs.declared.Timer.{Timer}
 use Rattle.protocol.specs.declared.Timer.TheVariants.{Election, Heartbeat}
 use Rattle.queue.specs.Range.{word, message_room}
@@ -23,12 +25,14 @@ use Rattle.state.specs.Fitting.{area_fits, laid_limits}
 use Rattle.state.specs.FitsBy.{server_fits_at, fits_server_one}
 use Rattle.state.specs.Lens.{server_same, fits_on_server, servers_fit_lem}
 use Rattle.state.specs.Changes.{AreaOf, Changes, Reads, judged}
+use Rattle.state.specs.Exits.{planned_err, planned_ok, ok_same}
 use Rattle.state_server.specs.Servers.{server_state_at, server_state_set}
 use Rattle.state_server.specs.ServerLaws.{server_state_set_lem}
 use Rattle.state_queue.specs.Events.{plain, queue_room, event_in_range, pushed}
 use Rattle.state_queue.specs.Fits.{fits_push}
 use Rattle.sim_outputs.specs.declared.Sum.{Sum}
 use Rattle.sim_outputs.specs.declared.Sender.{Sender}
+use Rattle.sim_outputs.specs.declared.TimerPlan.{TimerPlan}
 use Rattle.sim_outputs.specs.Outputs.{sends, IsSender, asks_code, Sums}
 use Rattle.sim_outputs.specs.Timers.{generation_in, generations_put, generation_put, with_generation, generation_at, generation_set, CancelPlanned, timer_event, timer_set}
 use Rattle.sim_outputs.specs.Laws.{ready_is, slot_is, slot_below, third_yes, judged_output, output_done}
@@ -153,8 +157,11 @@ timer_set_lem s k t after = ap (pushed (timer_event k t (generation_of (server_a
 
 -- ---- cancelling
 
-module _ (b : List ℕ) (F : Capacity) (timer : ℕ) (d : Sender) (t : Timer) (n : ℕ) (a : Sum) (c : ℕ) (pd : IsSender b F d) (et : t ≡ timer_of timer) (pn : Reads b F n (generation_at d.slot t)) (pa : Sums n 1 a)
-    (ec : c ≡ asks_code 9 10 d.ready (leb timer 1) a.fits) where
+module _ (b : List ℕ) (F : Capacity) (timer : ℕ) (d : Sender) (t : Timer) (n : ℕ) (a : Sum) (r : Result (Unit {0}) Refusal) (pd : IsSender b F d) (et : t ≡ timer_of timer) (pn : Reads b F n (generation_at d.slot t)) (pa : Sums n 1 a)
+    (ec : answer_number r ≡ asks_code 9 10 d.ready (leb timer 1) a.fits) where
+  abbrev c : ℕ
+  c = answer_number r
+
   module _ (s : State) (h : Area b s) (e : F ≡ capacity_of s) where
     abbrev k : ℕ
     k = phase_slot s.phase
@@ -180,8 +187,18 @@ module _ (b : List ℕ) (F : Capacity) (timer : ℕ) (d : Sender) (t : Timer) (n
         ∙ ap (λ (x : State). done tt x) (cancelled s k (timer_of timer)
         ∙ ap₂ (λ (j m : ℕ). generation_set j (timer_of timer) m s) (sym (slot_is pd h e)) (sym (pa.value (third_yes 9 10 _ _ _ (sym ec ∙ z) (omega arith) (omega arith)) ∙ next_is)))
 
-  pub cancel_planned : CancelPlanned b F timer (record { code = c; slot = d.slot; generation = a.value; time = 0 })
-  cancel_planned = record { plan = record { code = told; gives = made }; below = pd.below }
+  pub cancel_refused : (refusal : Refusal) → r ≡ Err refusal → CancelPlanned b F timer (Err refusal)
+  cancel_refused refusal e = record { plan = planned_err refusal (λ s h ef. sym (ap answer_number e) ∙ told s h ef); below = λ p o. absurd cc }
+
+  pub cancel_planned : (u : Unit {0}) → r ≡ Ok u → CancelPlanned b F timer (Ok (record { slot = d.slot; generation = a.value; time = 0 }))
+  cancel_planned u e = record {
+    plan = planned_ok (record { slot = d.slot; generation = a.value; time = 0 }) (λ s h ef. sym (ap answer_number e) ∙ told s h ef)
+        (λ s h ef. made s h ef (ap answer_number e));
+    below = λ p o. subst (λ (v : TimerPlan). v.slot < F.servers) (ok_same o) pd.below;
+  }
 
 pub cancel_acts : (b b' : List ℕ) (F : Capacity) (k timer : ℕ) (t : Timer) (n : ℕ) → t ≡ timer_of timer → Changes b b' F (generation_set k t n) → Changes b b' F (generation_set k (timer_of timer) n)
 cancel_acts b b' F k timer t n e p = subst (λ (u : Timer). Changes b b' F (generation_set k u n)) e p
+
+pub cancel_below : (b : List ℕ) (F : Capacity) (timer : ℕ) (r : Result TimerPlan Refusal) (p : TimerPlan) → CancelPlanned b F timer r → r ≡ Ok p → p.slot < F.servers
+cancel_below b F timer r p q e = q.below p e

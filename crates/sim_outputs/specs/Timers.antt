@@ -1,6 +1,8 @@
 -- What the calls on timers ask and do (timers.rt): what their contracts cite. Assumes nothing.
-use Rattle.std.specs.Prelude.{◌≡◌, Bool, List, ℕ, ◌+◌, ◌^◌, ◌<◌, ltb, leb}
+use Rattle.std.specs.Prelude.{◌≡◌, Bool, List, ℕ, ◌+◌, ◌^◌, ◌<◌, ltb, leb, Result, Ok}
 use Rattle.laws.specs.Bools.{◌and◌}
+use Rattle.units.specs.declared.refusal.Refusal.{Refusal}
+use Rattle.units.specs.Refusals.{answer_number}
 use Rattle.protocol.specs.declared.Timer.{Timer}
 use Rattle.protocol.specs.declared.Timer.TheVariants.{Election, Heartbeat}
 use Rattle.queue.specs.declared.Event.TheVariants as event
@@ -56,10 +58,10 @@ generation_set k t n s = on_server s k (λ v. with_generation v t n)
 
 -- ---- the calls
 
--- What cancelling a timer will do: p has the refusal, the place of the server, and the timer's next generation.
-pub record CancelPlanned (b : List ℕ) (F : Capacity) (timer : ℕ) (p : TimerPlan) : Type 0 where
-  pub plan : Planned b F p.code (output_cancel_timer timer) tt (generation_set p.slot (timer_of timer) p.generation)
-  pub below : p.slot < F.servers
+-- What cancelling a timer will do: the refusal, or the place of the server, and the timer's next generation.
+pub record CancelPlanned (b : List ℕ) (F : Capacity) (timer : ℕ) (r : Result TimerPlan Refusal) : Type 0 where
+  pub plan : Planned b F r (output_cancel_timer timer) (λ p. tt) (λ p. generation_set p.slot (timer_of timer) p.generation)
+  pub below : (p : TimerPlan) → r ≡ Ok p → p.slot < F.servers
 
 -- The event of a timer of the server at k, of a generation, at a time.
 abbrev pub timer_event : ℕ → Timer → ℕ → ℕ → Scheduled
@@ -70,13 +72,13 @@ unfoldable pub timer_set : ℕ → Timer → ℕ → ℕ → State → State
 timer_set k t n at s = pushed (timer_event k t n at) (generation_set k t n s)
 
 -- The plan of setting a timer, by whether outputs belong, whether the queue has room, the place k, the generation n so far, and the time.
-pub record TimerAnswered (ready room : Bool) (k n now timer after : ℕ) (p : TimerPlan) : Type 0 where
-  pub code : p.code ≡ asks_code 9 10 ready (is_flag timer and leb after (2 ^ 40)) (room and ltb (n + 1) (2 ^ 64) and ltb (now + after) (2 ^ 64))
-  pub slot : p.slot ≡ k
-  pub generation : p.code ≡ 0 → p.generation ≡ n + 1
-  pub time : p.code ≡ 0 → p.time ≡ now + after
+pub record TimerAnswered (ready room : Bool) (k n now timer after : ℕ) (r : Result TimerPlan Refusal) : Type 0 where
+  pub code : answer_number r ≡ asks_code 9 10 ready (is_flag timer and leb after (2 ^ 40)) (room and ltb (n + 1) (2 ^ 64) and ltb (now + after) (2 ^ 64))
+  pub slot : (p : TimerPlan) → r ≡ Ok p → p.slot ≡ k
+  pub generation : (p : TimerPlan) → r ≡ Ok p → p.generation ≡ n + 1
+  pub time : (p : TimerPlan) → r ≡ Ok p → p.time ≡ now + after
 
--- What setting a timer will do: p has the refusal, the place of the server, the timer's next generation, and its time.
-pub record TimerPlanned (b : List ℕ) (F : Capacity) (timer after : ℕ) (p : TimerPlan) : Type 0 where
-  pub plan : Planned b F p.code (output_set_timer timer (record { 0 = after })) tt (timer_set p.slot (timer_of timer) p.generation p.time)
-  pub below : p.slot < F.servers
+-- What setting a timer will do: the refusal, or the place of the server, the timer's next generation, and its time.
+pub record TimerPlanned (b : List ℕ) (F : Capacity) (timer after : ℕ) (r : Result TimerPlan Refusal) : Type 0 where
+  pub plan : Planned b F r (output_set_timer timer (record { 0 = after })) (λ p. tt) (λ p. timer_set p.slot (timer_of timer) p.generation p.time)
+  pub below : (p : TimerPlan) → r ≡ Ok p → p.slot < F.servers

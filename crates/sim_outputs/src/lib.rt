@@ -2,9 +2,11 @@
 #![tactic(auto)]
 
 ghost use Rattle.std.specs.Prelude.{◌≡◌};
+ghost use Rattle.units.specs.Refusals.{refusal_number, answer_number};
 ghost use Rattle.sim_outputs.specs.Outputs.{Passed, IsSender, asks_code, Sums};
 
 use state::Capacity;
+use units::refusal::Refusal;
 
 pub mod timers; // a timer set or cancelled
 pub mod confirmations; // leadership confirmed or lost
@@ -24,10 +26,9 @@ pub struct Sender {
     pub slot: u64,
 }
 
-// What a timer's call will write, or its refusal.
+// What a timer's call will write.
 #[derive(Clone, Copy)]
 pub struct TimerPlan {
-    pub code: u64,
     pub slot: u64,
     pub generation: u64,
     pub time: u64,
@@ -62,18 +63,24 @@ pub fn sender_of(area: &[u8], f: Capacity) -> Sender
     }
 }
 
-// The first of question 6 and two more, by their numbers, that is answered no, or 0.
-pub fn asks_code(second: u64, third: u64, ready: bool, a: bool, b: bool) -> u64
-    ensures { result ≡ asks_code second third ready a b }
+// The first of question 6 and two more that is answered no.
+pub fn first_no(
+    second: Refusal,
+    third: Refusal,
+    ready: bool,
+    a: bool,
+    b: bool,
+) -> Result<(), Refusal>
+    ensures { answer_number result ≡ asks_code (refusal_number second) (refusal_number third) ready a b }
 {
     if !ready {
-        return 6;
+        return Err(Refusal::Phase);
     }
     if !a {
-        return second;
+        return Err(second);
     }
     if !b {
-        return third;
+        return Err(third);
     }
-    0
+    Ok(())
 }

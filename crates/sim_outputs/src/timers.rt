@@ -3,7 +3,7 @@ ghost use Rattle.std.specs.Prelude.{◌≡◌, ◌<◌};
 ghost use Rattle.model.specs.Calls.{output_cancel_timer, output_set_timer, timer_of};
 ghost use Rattle.state.specs.Changes.{Inside, Gated, Reads, Changes};
 ghost use Rattle.state.specs.Call.{call};
-ghost use Rattle.answers.specs.Answers.{done_no, done_yes};
+ghost use Rattle.answers.specs.Answers.{done_no, done_yes, done_answer};
 ghost use Rattle.sim_outputs.specs.Outputs.{Passed};
 ghost use Rattle.sim_outputs.specs.Timers.{
   generation_in,
@@ -17,12 +17,13 @@ ghost use Rattle.sim_outputs.specs.Timers.{
   TimerPlanned,
 };
 
-use crate::{TimerPlan, asks_code, sender_of, sum64};
+use crate::{TimerPlan, first_no, sender_of, sum64};
 use answers::DoneAnswer;
 use protocol::Timer;
 use queue::Event;
-use state::{Capacity, Gate, ServerState};
+use state::{Capacity, ServerState};
 use units::SimTime;
+use units::refusal::Refusal;
 
 // The timer of a number; of another number it is the election timer.
 fn timer_given(n: u64) -> Timer
@@ -99,7 +100,7 @@ fn set_generation(area: &mut [u8], f: Capacity, k: usize, timer: Timer, generati
 // ---- a timer cancelled
 
 // What cancelling a timer will write, or the refusal.
-fn cancel_plan(area: &[u8], f: Capacity, timer: u64) -> TimerPlan
+fn cancel_plan(area: &[u8], f: Capacity, timer: u64) -> Result<TimerPlan, Refusal>
     requires { Passed area.now f }
     ensures { CancelPlanned area.now f timer result }
 {
@@ -107,13 +108,18 @@ fn cancel_plan(area: &[u8], f: Capacity, timer: u64) -> TimerPlan
     let kind = timer_given(timer);
     let generation = generation_of(area, f, sender.slot as usize, kind);
     let next = sum64(generation, 1);
-    let code = asks_code(9, 10, sender.ready, timer <= 1, next.fits);
-    TimerPlan {
-        code,
+    first_no(
+        Refusal::Argument,
+        Refusal::Room,
+        sender.ready,
+        timer <= 1,
+        next.fits,
+    )?;
+    Ok(TimerPlan {
         slot: sender.slot,
         generation: next.value,
         time: 0,
-    }
+    })
 }
 
 // The timer's next generation is written.
@@ -126,28 +132,32 @@ fn cancel_act(area: &mut [u8], f: Capacity, slot: u64, timer: u64, generation: u
     set_generation(area, f, slot as usize, kind, generation);
 }
 
+// A timer cancelled, or the refusal.
+fn cancelled(area: &mut [u8], g: Result<Capacity, Refusal>, timer: u64) -> Result<(), Refusal>
+    requires { Gated area.old g }
+    ensures { (done_answer result, area.new) ≡ call done_no done_yes area.old (output_cancel_timer timer) }
+{
+    let f = g?;
+    let p = cancel_plan(area, f, timer)?;
+    cancel_act(area, f, p.slot, timer, p.generation);
+    Ok(())
+}
+
 // A timer cancelled (Output::CancelTimer).
-pub fn output_cancel_timer_in(area: &mut [u8], g: Gate, timer: u64) -> DoneAnswer
+pub fn output_cancel_timer_in(
+    area: &mut [u8],
+    g: Result<Capacity, Refusal>,
+    timer: u64,
+) -> DoneAnswer
     requires { Gated area.old g }
     ensures { (result, area.new) ≡ call done_no done_yes area.old (output_cancel_timer timer) }
 {
-    let refusal = g.refusal;
-    let f = g.capacity;
-    if 0 < refusal {
-        return answers::done(refusal);
-    }
-    let p = cancel_plan(area, f, timer);
-    let code = p.code;
-    if 0 < code {
-        return answers::done(code);
-    }
-    cancel_act(area, f, p.slot, timer, p.generation);
-    answers::done(0)
+    DoneAnswer::from(cancelled(area, g, timer))
 }
 
 // ---- a timer set
 
-// What setting a timer will write, by the numbers that it needs.
+// What setting a timer will write, by the numbers that it needs, or the refusal.
 fn timer_answer(
     ready: bool,
     room: bool,
@@ -156,23 +166,23 @@ fn timer_answer(
     now: u64,
     timer: u64,
     after: u64,
-) -> TimerPlan
+) -> Result<TimerPlan, Refusal>
     ensures { TimerAnswered ready room slot generation now timer after result }
 {
     let next = sum64(generation, 1);
     let time = sum64(now, after);
     let args = (timer <= 1) & (after <= 1099511627776);
-    let code = asks_code(9, 10, ready, args, room & next.fits & time.fits);
-    TimerPlan {
-        code,
+    let fits = room & next.fits & time.fits;
+    first_no(Refusal::Argument, Refusal::Room, ready, args, fits)?;
+    Ok(TimerPlan {
         slot,
         generation: next.value,
         time: time.value,
-    }
+    })
 }
 
 // What setting a timer will write, or the refusal.
-fn timer_plan(area: &[u8], f: Capacity, timer: u64, after: u64) -> TimerPlan
+fn timer_plan(area: &[u8], f: Capacity, timer: u64, after: u64) -> Result<TimerPlan, Refusal>
     requires { Passed area.now f }
     ensures { TimerPlanned area.now f timer after result }
 {
@@ -208,21 +218,26 @@ fn timer_act(area: &mut [u8], f: Capacity, slot: u64, timer: u64, generation: u6
     state_queue::push_plain(area, f, SimTime(time), event);
 }
 
+// A timer set, in the place of one that is pending, or the refusal.
+fn set(area: &mut [u8], g: Result<Capacity, Refusal>, timer: u64, after: u64) -> Result<(), Refusal>
+    requires { Gated area.old g }
+    ensures { (done_answer result, area.new) ≡ call done_no done_yes area.old (output_set_timer timer (record { 0 = after })) }
+{
+    let f = g?;
+    let p = timer_plan(area, f, timer, after)?;
+    timer_act(area, f, p.slot, timer, p.generation, p.time);
+    Ok(())
+}
+
 // A timer set, in the place of one that is pending (Output::SetTimer).
-pub fn output_set_timer_in(area: &mut [u8], g: Gate, timer: u64, after: u64) -> DoneAnswer
+pub fn output_set_timer_in(
+    area: &mut [u8],
+    g: Result<Capacity, Refusal>,
+    timer: u64,
+    after: u64,
+) -> DoneAnswer
     requires { Gated area.old g }
     ensures { (result, area.new) ≡ call done_no done_yes area.old (output_set_timer timer (record { 0 = after })) }
 {
-    let refusal = g.refusal;
-    let f = g.capacity;
-    if 0 < refusal {
-        return answers::done(refusal);
-    }
-    let p = timer_plan(area, f, timer, after);
-    let code = p.code;
-    if 0 < code {
-        return answers::done(code);
-    }
-    timer_act(area, f, p.slot, timer, p.generation, p.time);
-    answers::done(0)
+    DoneAnswer::from(set(area, g, timer, after))
 }

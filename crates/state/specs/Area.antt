@@ -1,5 +1,5 @@
 -- The area: its regions, and what each holds of a state. Assumes nothing.
-use Rattle.std.specs.Prelude.{◌≡◌, Bool, true, List, [], ℕ, ◌*◌, ◌≤◌, length, get_or}
+use Rattle.std.specs.Prelude.{◌≡◌, true, List, [], ℕ, ◌*◌, ◌≤◌, length, get_or}
 use Rattle.units.specs.Types.{Payload}
 use Rattle.words.specs.Words.{allz}
 use Rattle.layout.specs.Code.{Code}

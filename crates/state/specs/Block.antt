@@ -1,23 +1,21 @@
 -- A server's regions in its block, and the block in the area. Assumes nothing.
-use Rattle.std.specs.Prelude.{◌≡◌, refl, Bool, true, false, List, [], ◌∷◌, ◌++◌, map, ℕ, zero, suc, ◌+◌, ◌-◌, ◌*◌, ◌≤◌, ◌<◌, eqb, leb, length, get_or, set, drop, take}
-use Rattle.std.proofs.Common.{sym, ap, ap₂, subst, ◌∙◌, append_assoc, append-nil, arith, drop_of_length-le, eqb-true, eq-eqb, le-leb}
-use Rattle.laws.specs.Bools.{pick, allb, and_left, ◌and◌}
+use Rattle.std.specs.Prelude.{◌≡◌, refl, List, [], ◌∷◌, ◌++◌, map, ℕ, ◌*◌, length, get_or}
+use Rattle.std.proofs.Common.{sym, ap, ap₂, ◌∙◌, append_assoc, append-nil, arith, drop_of_length-le}
+use Rattle.laws.specs.Bools.{and_left}
 use Rattle.laws.proofs.BoolLaws.{and_right, and_both}
-use Rattle.words.specs.Words.{W, Bytes, bytes, allz}
-use Rattle.words.specs.Zero.{zeros_allz, allz_zeros}
+use Rattle.words.specs.Words.{bytes}
 use Rattle.words.specs.Lift.{bytes_append, length_bytes, bytes_zeros}
-use Rattle.layout.specs.Code.{Code, zeros}
+use Rattle.layout.specs.Code.{zeros}
 use Rattle.layout.specs.Tables.{Holds, Held, content}
-use Rattle.layout.specs.Contents.{holds_length}
 use Rattle.layout.specs.Keys.{keys}
 use Rattle.raft_log.specs.Places.{places}
 use Rattle.storage.specs.Waiting.{waiting_in}
-use Rattle.model.specs.State.{State, Server}
+use Rattle.model.specs.State.{Server}
 use Rattle.state.specs.declared.Capacity.{Capacity}
-use Rattle.layout.specs.Cuts.{cut, total, joined, joined_cut, cut_joined, put}
+use Rattle.layout.specs.Cuts.{cut, total, joined, joined_cut, cut_joined}
 use Rattle.state.specs.Parts.{storage_state_code, server_state_code}
 use Rattle.state.specs.Sizes.{block_words, log_words, waiting_words, pending_words}
-use Rattle.state.specs.Server.{server_code, server_parts, storage_of_server, state_of_server, parts_code}
+use Rattle.state.specs.Server.{server_code, storage_of_server, state_of_server}
 
 pub record Block : Type 0 where
   pub disk : List ℕ

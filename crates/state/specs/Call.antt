@@ -1,5 +1,5 @@
 -- A call on an area: the gate, the call's definition on the state that the bytes say, question 10, and the one content of the state that it gives. Assumes nothing.
-use Rattle.std.specs.Prelude.{Bool, List, ◌++◌, ℕ, eqb, ltb, length, drop}
+use Rattle.std.specs.Prelude.{List, ◌++◌, ℕ, eqb, ltb, length, drop}
 use Rattle.laws.specs.Bools.{pick}
 use Rattle.model.specs.State.{State}
 use Rattle.model.specs.Calls.{Out, refused, done}

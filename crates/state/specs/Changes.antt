@@ -1,12 +1,13 @@
 -- What the functions on an area leave and answer, part by part: what contracts cite. Assumes nothing.
-use Rattle.std.specs.Prelude.{◌≡◌, Bool, true, List, ℕ, ◌≤◌, length, drop}
+use Rattle.std.specs.Prelude.{◌≡◌, true, List, ℕ, ◌≤◌, length, drop, Result, Ok}
 use Rattle.laws.specs.Bools.{pick}
+use Rattle.units.specs.declared.refusal.Refusal.{Refusal}
+use Rattle.units.specs.Refusals.{answer_number}
 use Rattle.model.specs.State.{State}
 use Rattle.model.specs.Calls.{Out, refused, done}
 use Rattle.model.specs.Fits.{state_fits}
 use Rattle.state.specs.declared.Capacity.{Capacity}
 use Rattle.state.specs.Sizes.{bytes_of, Within}
-use Rattle.state.specs.declared.Gate.{Gate}
 use Rattle.state.specs.Area.{Area, capacity_of}
 use Rattle.state.specs.Decode.{gate, decode}
 
@@ -16,12 +17,12 @@ pub record Inside (b : List ℕ) (F : Capacity) : Type 0 where
   pub head : 4096 ≤ length b
   pub long : bytes_of F ≤ length b
 
--- What the gate answers of an area's bytes: 4, 5, or 0 and the counts of the state that lies there.
-pub record Gated (b : List ℕ) (r : Gate) : Type 0 where
-  pub code : r.refusal ≡ gate b
-  pub capacity : r.refusal ≡ 0 → r.capacity ≡ capacity_of (decode b)
-  pub inside : r.refusal ≡ 0 → Inside b r.capacity
-  pub area : r.refusal ≡ 0 → Area b (decode b)
+-- What the gate answers of an area's bytes: question 4 or 5, or the counts of the state that lies there.
+pub record Gated (b : List ℕ) (r : Result Capacity Refusal) : Type 0 where
+  pub code : answer_number r ≡ gate b
+  pub capacity : (F : Capacity) → r ≡ Ok F → F ≡ capacity_of (decode b)
+  pub inside : (F : Capacity) → r ≡ Ok F → Inside b F
+  pub area : (F : Capacity) → r ≡ Ok F → Area b (decode b)
 
 -- The bytes hold s, whose counts are F, and r behind it.
 pub record AreaOf (b r : List ℕ) (F : Capacity) (s : State) : Type 0 where
@@ -42,7 +43,7 @@ unfoldable pub judged : {A : Type 0} → Out A → ℕ
 judged (refused n) = n
 judged (done a s) = pick (state_fits s) 0 10
 
--- Whatever state with these counts the bytes hold: c is the number that the call answers, and where it is 0 the call gives a and `op` of the state.
-pub record Planned {A : Type 0} (b : List ℕ) (F : Capacity) (c : ℕ) (call : State → Out A) (a : A) (op : State → State) : Type 0 where
-  pub code : (s : State) → Area b s → F ≡ capacity_of s → c ≡ judged (call s)
-  pub gives : (s : State) → Area b s → F ≡ capacity_of s → c ≡ 0 → call s ≡ done a (op s)
+-- Whatever state with these counts the bytes hold: r is the refusal that the call answers, or a plan p, and then the call gives `a p` and `op p` of the state.
+pub record Planned {A P : Type 0} (b : List ℕ) (F : Capacity) (r : Result P Refusal) (call : State → Out A) (a : P → A) (op : P → State → State) : Type 0 where
+  pub code : (s : State) → Area b s → F ≡ capacity_of s → answer_number r ≡ judged (call s)
+  pub gives : (p : P) → r ≡ Ok p → (s : State) → Area b s → F ≡ capacity_of s → call s ≡ done (a p) (op p s)

@@ -1,5 +1,5 @@
 -- Decode, and questions 4 and 5 as a test of bytes. Assumes nothing.
-use Rattle.std.specs.Prelude.{Bool, true, false, List, [], ◌∷◌, ℕ, ltb, length}
+use Rattle.std.specs.Prelude.{Bool, List, [], ◌∷◌, ℕ, ltb, length}
 use Rattle.laws.specs.Bools.{pick, allb}
 use Rattle.units.specs.Types.{Payload}
 use Rattle.words.specs.Words.{W, allz}

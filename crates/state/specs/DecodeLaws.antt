@@ -1,11 +1,11 @@
 -- What regions that lay out a state say, and that what regions say is laid out by them. Assumes nothing.
-use Rattle.std.specs.Prelude.{◌≡◌, Bool, true, false, List, [], ◌∷◌, ℕ, ◌*◌, length, get_or}
+use Rattle.std.specs.Prelude.{◌≡◌, true, List, ℕ, ◌*◌, length, get_or}
 use Rattle.std.proofs.Math.Path.{refl, ap, subst}
 use Rattle.std.proofs.Common.{sym, ◌∙◌}
 use Rattle.laws.specs.Bools.{allb}
 use Rattle.laws.proofs.BoolLaws.{allb_in, and_both}
 use Rattle.units.specs.Types.{Payload}
-use Rattle.words.specs.Words.{W, Bytes, allz}
+use Rattle.words.specs.Words.{W, Bytes}
 use Rattle.layout.specs.Code.{Code, length_parse_n}
 use Rattle.layout.specs.Tables.{Holds}
 use Rattle.layout.specs.Contents.{holds_ok, holds_parse, parse_holds}

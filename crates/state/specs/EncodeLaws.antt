@@ -1,31 +1,28 @@
 -- The laws of decode and encode over an area's bytes. Assumes nothing.
-use Rattle.std.specs.Prelude.{◌≡◌, refl, Bool, true, false, List, [], ◌∷◌, ◌++◌, map, ℕ, zero, suc, ◌+◌, ◌-◌, ◌*◌, ◌/◌, ◌≤◌, ◌<◌, ltb, length, get_or, drop, take}
-use Rattle.std.proofs.Common.{sym, ap₂, subst, ◌∙◌, arith, take-append-drop, length-take-le}
+use Rattle.std.specs.Prelude.{◌≡◌, refl, Bool, true, false, List, [], ◌∷◌, ◌++◌, map, ℕ, zero, suc, ◌-◌, ◌*◌, ◌≤◌, ltb, length, get_or, drop, take}
+use Rattle.std.proofs.Common.{sym, ap₂, subst, ◌∙◌, arith, take-append-drop}
 use Rattle.std.proofs.Math.Path.{ap}
 use borrow.Author.Tests.{ltb-false, le-ltb}
-use Rattle.laws.specs.Bools.{pick, ◌and◌}
+use Rattle.laws.specs.Bools.{pick}
 use Rattle.laws.proofs.BoolLaws.{and_right, allb_in}
-use Rattle.words.specs.Words.{W, Bytes, bytes, allz}
+use Rattle.words.specs.Words.{W, Bytes, allz}
 use Rattle.words.specs.Numbers.{each_take, each_drop}
 use Rattle.words.specs.Zero.{zeros_allz}
 use Rattle.words.specs.Lift.{W-append, W-fit, W-part, length_w}
-use Rattle.layout.specs.Code.{Code, zeros}
+use Rattle.layout.specs.Code.{zeros}
 use Rattle.layout.specs.Cuts.{cut, total, joined, joined_cut, lengths_cut}
 use Rattle.layout.specs.Tables.{Holds}
 use Rattle.layout.specs.Contents.{ok_prefix, parse_prefix, parse_holds}
 use Rattle.config.specs.Limits.{area_length}
-use Rattle.network_words.specs.NetworkCode.{network_code}
-use Rattle.metrics_words.specs.MetricsCode.{metrics_code}
 use Rattle.model.specs.State.{State}
-use Rattle.model.specs.Fits.{phase_fits}
 use Rattle.state.specs.declared.Capacity.{Capacity}
 use Rattle.state.specs.Sizes.{whole_words, bytes_of, sizes}
 use Rattle.state.specs.SizeLaws.{room}
-use Rattle.state.specs.Parts.{capacity_code, capacity_in, capacity_fits, capacity_tells, counts_within, settings_code, run_code, counts_code, phase_code}
-use Rattle.state.specs.Area.{Regions, regions, LaysOut, Area, capacity_of, run_of, counts_of, servers_code, queue_code, seen_code, leaders_code, replies_code, confirmations_code, applied_code, clients_code, violations_code}
+use Rattle.state.specs.Parts.{capacity_code, capacity_in, capacity_fits, counts_within}
+use Rattle.state.specs.Area.{regions, Area, capacity_of}
 use Rattle.state.specs.Decode.{gate, decode, settings_said, counts_said, region_tests, ok_regions, said, build}
 use Rattle.state.specs.Encode.{encode, contents}
-use Rattle.state.specs.DecodeLaws.{laid_ok, laid_said, Wide, Sized, said_laid}
+use Rattle.state.specs.DecodeLaws.{laid_ok, laid_said, Sized, said_laid}
 
 -- ---- the parts are as long as the area
 

@@ -1,60 +1,47 @@
 -- Each state that fits has a content: the other half of question 5. Assumes nothing.
-use Rattle.std.specs.Prelude.{◌≡◌, Bool, false, eqb, ltb, ℕ, zero, suc, ◌+◌, ◌-◌, ◌*◌, ◌^◌, ◌≤◌, ◌<◌, length, get_or, Option, None, Some}
+use Rattle.std.specs.Prelude.{◌≡◌, Bool, ltb, ℕ, zero, ◌+◌, ◌-◌, ◌*◌, ◌^◌, ◌≤◌, ◌<◌, length, get_or, Option, None, Some}
 use Rattle.std.proofs.Math.Path.{refl, ap}
-use Rattle.std.proofs.Common.{sym, ap₂, subst, ◌∙◌, arith, eqb-true, eq-eqb, lt-ltb, ltb-true, leb-true, le-leb}
+use Rattle.std.proofs.Common.{sym, subst, ◌∙◌, arith, eqb-true, eq-eqb, lt-ltb, ltb-true, leb-true, le-leb}
 use Rattle.std.proofs.Math.Bool.{true}
 use mathlib.Core.List.{List, [], ◌∷◌, ◌++◌}
 use Rattle.std.proofs.Math.Dec.{leb}
-use Rattle.laws.specs.Bools.{◌and◌, allb, and_left, every}
+use Rattle.laws.specs.Bools.{◌and◌, and_left}
 use Rattle.laws.proofs.BoolLaws.{and_right, and_both, every_by, allb_in}
-use Rattle.units.specs.Types.{Payload}
 use Rattle.units.specs.declared.LogIndex.{LogIndex}
-use Rattle.layout.specs.Code.{Code}
-use Rattle.layout.specs.Tables.{Table, Holds, content}
 use Rattle.layout.specs.Marked.{words_for}
 use Rattle.layout.specs.Applied.{applied}
-use Rattle.config.specs.Limits.{judge, judged_number, InLimits}
+use Rattle.config.specs.Limits.{judge, InLimits}
 use Rattle.config.specs.Laws.{in_limits}
 use Rattle.queue.specs.Table.{events}
-use Rattle.checks.specs.Checks.{Checker, Violation, Seen}
-use Rattle.checks.specs.declared.TermLeader.{TermLeader}
 use Rattle.checks.specs.Violations.{violations}
 use Rattle.checks.specs.Entries.{seen_in}
 use Rattle.checks.specs.Leaders.{leaders}
 use Rattle.checks_durability.specs.Replies.{replies}
-use Rattle.checks_durability.specs.declared.replies.Reply.{Reply}
-use Rattle.model.specs.State.{State, Server, Client, Outstanding, Confirmation}
+use Rattle.model.specs.State.{State, Client, Outstanding, Confirmation}
 use Rattle.model.specs.Fits.{state_fits, state_tests, if_some, table_fits, confirmation_fits, client_state_fits, outstanding_fits}
 use Rattle.state.specs.Fitting.{accepted_is}
-use Rattle.state.specs.Parts.{capacity_fits, settings_good, settings_code, counts_within}
+use Rattle.state.specs.Parts.{capacity_fits, settings_good}
 use Rattle.clients.specs.Clients.{flag_of, number_of, client_code, clients}
 use Rattle.clients.specs.Confirmations.{confirmations}
 use mathlib.Core.List.{List, [], ◌∷◌, ◌++◌, map}
 use Rattle.std.proofs.Math.ListN.{length-append}
 use Rattle.std.proofs.lemmas.List.{length-replicate}
-use Rattle.layout.specs.Code.{fitted, zeros}
 use Rattle.config.specs.Laws.{AllYes, all_yes, limits_counts, area_most}
-use Rattle.config.specs.Limits.{within, duration_fits, durations_fit, settings_fit, servers_fit, limits_fit, counts_fit}
-use Rattle.config.specs.Config.{accepts}
+use Rattle.config.specs.Limits.{within, duration_fits, durations_fit, settings_fit}
 use Rattle.words.specs.Words.{bytes}
 use Rattle.words.specs.Lift.{length_bytes}
 use Rattle.words.specs.Zero.{allz_zeros}
 use Rattle.network_words.specs.NetworkCode.{network_code}
 use Rattle.metrics_words.specs.MetricsCode.{metrics_code}
-use Rattle.checks.specs.declared.Check.{Check}
-use Rattle.checks.specs.declared.Check.TheVariants.{ElectionSafety, StateMachineSafety, ApplyOrder, UniqueEntries, Durability, Liveness, LogMatching, LeaderCompleteness}
-use Rattle.checks.specs.Checks.{check_number}
-use Rattle.model.specs.Fits.{input_fits, verdict_fits, owed_fits, phase_fits, server_fits}
-use Rattle.laws.specs.Order.{numbers, pairs, rising}
-use Rattle.checks.specs.Checks.{leader_key, seen_key}
+use Rattle.model.specs.Fits.{input_fits, verdict_fits, owed_fits, phase_fits}
 use Rattle.model.specs.State.{Phase, closed, writing, sending, Input, start_input, message_input, timer_input, propose_input, direct, from_client, confirm_input, Verdict, accepted, not_leader, Owed, nothing, construction, healing}
-use Rattle.state.specs.Parts.{input_kind, input_number, verdict_kind, verdict_number, owed_kind, owed_slot, capacity_code, run_code, counts_code, phase_code}
+use Rattle.state.specs.Parts.{input_kind, input_number, verdict_kind, verdict_number, owed_kind, owed_slot, run_code, counts_code, phase_code}
 use Rattle.state.specs.declared.Capacity.{Capacity}
 use Rattle.state.specs.declared.TableCounts.{TableCounts}
 use Rattle.layout.specs.Cuts.{cut, cut_joined, joined, total, length_joined}
 use Rattle.state.specs.Sizes.{block_words, queue_at, seen_at, leaders_at, replies_at, confirmations_at, applied_at, clients_at, sizes, bytes_of, whole_words, Within}
 use Rattle.state.specs.SizeLaws.{room, block_most}
-use Rattle.state.specs.Area.{Regions, LaysOut, Area, regions, regions_of, capacity_of, run_of, counts_of, servers, servers_code, queue_code, seen_code, leaders_code, replies_code, confirmations_code, applied_code, clients_code, violations_code}
+use Rattle.state.specs.Area.{LaysOut, Area, regions_of, capacity_of, run_of, counts_of, servers, servers_code, queue_code, seen_code, leaders_code, replies_code, confirmations_code, applied_code, clients_code, violations_code}
 use Rattle.state.specs.Encode.{encode, contents}
 use Rattle.state.specs.EncodeLaws.{total_sizes}
 use Rattle.state.specs.ServerFits.{table_good, server_good_lem}

@@ -1,8 +1,8 @@
 -- Question 10 by parts: of a state with one part another, the test of that part and all tests that were before. Assumes nothing.
 use Rattle.std.specs.Prelude.{◌≡◌, refl, Bool, true, false, List, [], ◌∷◌, ℕ, zero, suc, ◌<◌, eqb, length, get_or, set}
 use Rattle.std.proofs.Common.{sym, ap, ap₂, ◌∙◌, arith, length-set, eqb-true}
-use Rattle.laws.specs.Bools.{◌and◌, allb, and_left, and_true, every}
-use Rattle.laws.proofs.BoolLaws.{allb_in, and_right, true_and, every_get}
+use Rattle.laws.specs.Bools.{◌and◌, allb, and_true, every}
+use Rattle.laws.proofs.BoolLaws.{allb_in, true_and, every_get}
 use Rattle.config.specs.declared.SimConfig.{SimConfig}
 use Rattle.config.specs.declared.Limits.{Limits}
 use Rattle.model.specs.State.{State, Server, new_server, server_at}

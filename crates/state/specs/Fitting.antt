@@ -1,13 +1,10 @@
 -- What laid in an area fits: question 5 lets through only states of which `state_fits` is true. Assumes nothing.
-use Rattle.std.specs.Prelude.{◌≡◌, refl, Bool, true, false, List, [], ◌∷◌, ◌++◌, ℕ, zero, suc, ◌+◌, ◌*◌, ◌^◌, ◌≤◌, ◌<◌, eqb, leb, ltb, length, Option, None, Some, Result, Ok, Err}
-use Rattle.std.proofs.Common.{sym, ap, ap₂, ◌∙◌, arith, eqb-true}
-use Rattle.laws.specs.Bools.{◌and◌, allb, and_left, every}
+use Rattle.std.specs.Prelude.{◌≡◌, refl, true, List, ℕ, ◌+◌, ◌^◌, ◌<◌, eqb, ltb, length, Option, None, Some, Result, Ok, Err}
+use Rattle.std.proofs.Common.{sym, ◌∙◌, arith}
+use Rattle.laws.specs.Bools.{and_left}
 use Rattle.laws.proofs.BoolLaws.{and_right, and_both, every_by}
 use Rattle.laws.specs.Decides.{false_true}
-use Rattle.units.specs.Types.{Payload}
 use Rattle.units.specs.declared.LogIndex.{LogIndex}
-use Rattle.layout.specs.Code.{Code}
-use Rattle.layout.specs.Tables.{Table, Holds, content}
 use Rattle.layout.specs.Marked.{words_for}
 use Rattle.layout.specs.Applied.{applied}
 use Rattle.units.specs.declared.refusal.Refusal.{Refusal}
@@ -15,19 +12,16 @@ use Rattle.units.specs.RefusalLaws.{refusal_positive}
 use Rattle.config.specs.Limits.{judge, judged_number, InLimits}
 use Rattle.config.specs.Laws.{in_limits}
 use Rattle.queue.specs.Table.{events}
-use Rattle.checks.specs.Checks.{Checker, Violation, Seen}
-use Rattle.checks.specs.declared.TermLeader.{TermLeader}
 use Rattle.checks.specs.Violations.{violations}
 use Rattle.checks.specs.Entries.{seen_in}
 use Rattle.checks.specs.Leaders.{leaders}
 use Rattle.checks_durability.specs.Replies.{replies}
-use Rattle.checks_durability.specs.declared.replies.Reply.{Reply}
-use Rattle.model.specs.State.{State, Server, Client, Outstanding, Confirmation}
-use Rattle.model.specs.Fits.{state_fits, state_tests, if_some, confirmation_fits, client_state_fits, outstanding_fits}
-use Rattle.state.specs.Parts.{capacity_fits, settings_good}
-use Rattle.clients.specs.Clients.{flag_of, number_of, client_code, clients}
+use Rattle.model.specs.State.{State, Client, Outstanding, Confirmation}
+use Rattle.model.specs.Fits.{state_fits, if_some, confirmation_fits, client_state_fits, outstanding_fits}
+use Rattle.state.specs.Parts.{settings_good}
+use Rattle.clients.specs.Clients.{number_of, client_code}
 use Rattle.clients.specs.Confirmations.{confirmations}
-use Rattle.state.specs.Area.{Regions, LaysOut, Area, regions, capacity_of, counts_of}
+use Rattle.state.specs.Area.{Regions, LaysOut, Area}
 use Rattle.state.specs.ServerFits.{table_fits_lem, server_fits_lem}
 
 pub accepted_is : (r : Result (Unit {0}) Refusal) → eqb (judged_number r) 0 ≡ true → r ≡ Ok tt

@@ -1,13 +1,12 @@
 -- What the proofs of the loads and stores cite. Assumes nothing.
-use Rattle.std.specs.Prelude.{◌≡◌, refl, Bool, true, false, List, [], ◌∷◌, ℕ, zero, suc, ◌+◌, ◌*◌, ◌≤◌, eqb, length, get_or, Option, None, Some}
+use Rattle.std.specs.Prelude.{◌≡◌, refl, Bool, List, [], ◌∷◌, ℕ, zero, suc, ◌+◌, ◌*◌, eqb, length, get_or, Option, None, Some}
 use Rattle.std.proofs.Math.Path.{sym}
-use Rattle.std.proofs.Common.{ap, ap₂, ◌∙◌, arith, eq-eqb, ne_eqb}
+use Rattle.std.proofs.Common.{ap, ◌∙◌, eq-eqb, ne_eqb}
 use Rattle.std.proofs.lemmas.List.Edits.{sets}
 use Rattle.laws.specs.Bools.{pick}
-use Rattle.words.specs.Words.{W, bytes}
+use Rattle.words.specs.Words.{bytes}
 use Rattle.layout.specs.Regions.{store_whole}
 use Rattle.units.specs.declared.Term.{Term}
-use Rattle.units.specs.declared.LogIndex.{LogIndex}
 use Rattle.protocol.specs.Numbers.{role_number}
 use Rattle.protocol.specs.declared.Role.{Role}
 use Rattle.protocol.specs.declared.Role.TheVariants.{Follower, Candidate, Leader}
@@ -20,8 +19,7 @@ use Rattle.state.specs.declared.Capacity.{Capacity}
 use Rattle.state.specs.declared.Run.{Run}
 use Rattle.state.specs.declared.TableCounts.{TableCounts}
 use Rattle.state.specs.declared.OpenInput.{OpenInput}
-use Rattle.state.specs.declared.ServerState.{ServerState}
-use Rattle.state.specs.Parts.{capacity_in, settings_in, run_in, run_words, counts_in, counts_words, open_in, open_words, node_flag, node_number, node_in, hard_state_at, storage_state_of, storage_state_in, storage_state_words, status_words, term_flag, term_number, term_in, role_in, status_in, server_state_of, server_state_in, bool_in}
+use Rattle.state.specs.Parts.{capacity_in, settings_in, run_in, run_words, counts_in, counts_words, open_in, open_words, node_flag, node_number, node_in, hard_state_at, storage_state_in, storage_state_words, status_words, term_in, role_in, status_in, server_state_in, bool_in}
 use Rattle.units.specs.declared.NodeId.{NodeId}
 
 -- ---- a struct of words that were loaded one by one

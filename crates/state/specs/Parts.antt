@@ -1,6 +1,6 @@
 -- The structs of fixed size and how they lie in words. Assumes nothing.
-use Rattle.std.specs.Prelude.{◌≡◌, refl, Bool, true, false, List, [], ◌∷◌, ◌++◌, ℕ, ◌+◌, ◌^◌, ◌≤◌, ◌<◌, leb, ltb, eqb, length, Option, None, Some}
-use Rattle.std.proofs.Common.{sym, ◌∙◌, arith, eqb-true, eq-eqb}
+use Rattle.std.specs.Prelude.{◌≡◌, refl, Bool, true, false, List, [], ◌∷◌, ◌++◌, ℕ, ◌+◌, ◌^◌, leb, ltb, eqb, Option, None, Some}
+use Rattle.std.proofs.Common.{sym, ◌∙◌, eqb-true, eq-eqb}
 use Rattle.std.proofs.Math.Path.{ap, ap₂}
 use Rattle.std.proofs.Math.ListN.{get_or}
 use Rattle.laws.specs.Bools.{pick, ◌and◌, and_left, allb, every}
@@ -18,13 +18,13 @@ use Rattle.storage.specs.declared.StorageState.{StorageState}
 use Rattle.config.specs.declared.SimConfig.{SimConfig}
 use Rattle.config.specs.declared.Limits.{Limits}
 use Rattle.config.specs.Limits.{judge, judged_number, counts_fit}
-use Rattle.model.specs.State.{Proposer, direct, from_client, Input, start_input, message_input, timer_input, propose_input, confirm_input, Verdict, accepted, not_leader, Owed, nothing, construction, healing, Phase, closed, writing, sending}
+use Rattle.model.specs.State.{direct, from_client, Input, start_input, message_input, timer_input, propose_input, confirm_input, Verdict, accepted, not_leader, Owed, nothing, construction, healing, Phase, closed, writing, sending}
 use Rattle.state.specs.declared.Capacity.{Capacity}
 use Rattle.state.specs.declared.Run.{Run}
 use Rattle.state.specs.declared.TableCounts.{TableCounts}
 use Rattle.state.specs.declared.ServerState.{ServerState}
 use Rattle.state.specs.declared.OpenInput.{OpenInput}
-use Rattle.layout.specs.Structs.{Struct, struct, fitting, tells, told, firsts, firsts_fit}
+use Rattle.layout.specs.Structs.{Struct, struct, fitting, tells, told, firsts_fit}
 use Rattle.state.specs.Sizes.{offsets}
 use Rattle.units.specs.declared.NodeId.{NodeId}
 use Rattle.units.specs.declared.Term.{Term}

@@ -1,6 +1,6 @@
 -- A change of an area, region by region. Assumes nothing.
-use Rattle.std.specs.Prelude.{◌≡◌, refl, Bool, true, List, [], ◌∷◌, ◌++◌, map, ℕ, zero, suc, ◌+◌, ◌-◌, ◌*◌, ◌≤◌, ◌<◌, length, get_or, set, drop, take}
-use Rattle.std.proofs.Common.{sym, ap, ap₂, subst, ◌∙◌, append_assoc, arith, drop-drop}
+use Rattle.std.specs.Prelude.{◌≡◌, refl, true, List, [], ◌∷◌, ◌++◌, map, ℕ, zero, suc, ◌+◌, ◌*◌, ◌≤◌, ◌<◌, length, get_or, set, drop, take}
+use Rattle.std.proofs.Common.{sym, ap, subst, ◌∙◌, append_assoc, arith, drop-drop}
 use Rattle.std.proofs.lemmas.List.Edits.{sets, sets-eq}
 use Rattle.words.specs.Words.{bytes, bytes_of as bytesOfNumber}
 use Rattle.words.specs.Lift.{sets_whole, length_bytes, bytes_one}
@@ -9,7 +9,7 @@ use Rattle.model.specs.State.{State}
 use Rattle.model.specs.Fits.{state_fits}
 use Rattle.state.specs.declared.Capacity.{Capacity}
 use Rattle.state.specs.Sizes.{bytes_of, sizes}
-use Rattle.state.specs.Area.{Area, capacity_of}
+use Rattle.state.specs.Area.{capacity_of}
 use Rattle.state.specs.Encode.{contents}
 use Rattle.state.specs.EncodeLaws.{total_sizes, area_contents}
 use Rattle.state.specs.Exists.{contents_lengths, contents_area}

@@ -1,34 +1,23 @@
 -- A server in words: its storage's fixed part, the rest of its row, its two logs, its waiting writes and its pending keys. Assumes nothing.
-use Rattle.std.specs.Prelude.{◌≡◌, refl, Bool, true, false, List, [], ◌∷◌, ◌++◌, map, ℕ, ◌+◌, ◌*◌, ◌^◌, ◌≤◌, ◌<◌, leb, ltb, eqb, length, Option, None, Some}
-use Rattle.std.proofs.Common.{sym, ap, ap₂, ◌∙◌, arith, mul-le-mul_right, lt-ltb, ltb-true, leb-true, le-leb, eqb-true, eq-eqb}
-use Rattle.laws.specs.Bools.{pick, ◌and◌, and_left, allb, every}
-use Rattle.laws.proofs.BoolLaws.{and_right, and_both, allb_in}
-use Rattle.laws.specs.Order.{pairs, rising}
-use Rattle.units.specs.Types.{Payload, noop, command, Entry}
-use Rattle.units.specs.declared.Term.{Term}
-use Rattle.client.specs.Key.{key_of}
+use Rattle.std.specs.Prelude.{◌≡◌, refl, Bool, true, List, ℕ, length}
+use Rattle.std.proofs.Common.{ap, ap₂, ◌∙◌, eqb-true}
+use Rattle.laws.specs.Bools.{and_left}
+use Rattle.laws.proofs.BoolLaws.{and_right}
 use Rattle.client.specs.declared.ClientKey.{ClientKey}
-use Rattle.protocol.specs.declared.Status.{Status}
 use Rattle.layout.specs.Code.{Code, blank, pair}
-use Rattle.layout.specs.Tables.{Table, content}
-use Rattle.layout.specs.Marked.{words_for}
-use Rattle.layout.specs.Payload.{payload}
+use Rattle.layout.specs.Tables.{content}
 use Rattle.layout.specs.Keys.{keys}
 use Rattle.raft_log.specs.Log.{Log}
-use Rattle.raft_log.specs.Places.{places, place, entry_code}
-use Rattle.storage.specs.Storage.{Disk, Write, write_hard_state, write_put, write_truncate, Storage}
-use Rattle.storage.specs.declared.HardState.{HardState}
+use Rattle.raft_log.specs.Places.{places}
+use Rattle.storage.specs.Storage.{Write}
 use Rattle.storage.specs.declared.StorageState.{StorageState}
 use Rattle.storage.specs.Waiting.{waiting_in}
-use Rattle.queue.specs.Range.{word, byte}
-use Rattle.config.specs.Limits.{InLimits}
-use Rattle.model.specs.State.{State, Server}
+use Rattle.model.specs.State.{Server}
 use Rattle.state.specs.declared.Capacity.{Capacity}
 use Rattle.state.specs.declared.ServerState.{ServerState}
 use Rattle.state.specs.Parts.{storage_state_code, server_state_code}
 use Rattle.layout.specs.Dependent.{dep, Stating, stated}
-use Rattle.state.specs.Sizes.{log_words, waiting_words, pending_words, table_words, block_words}
-use Rattle.units.specs.declared.NodeId.{NodeId}
+use Rattle.state.specs.Sizes.{log_words, waiting_words, pending_words, table_words}
 
 -- ---- the parts of a server
 

@@ -1,44 +1,30 @@
 -- A server fits just where it has a content. Assumes nothing.
-use Rattle.std.specs.Prelude.{◌≡◌, refl, Bool, true, false, List, [], ◌∷◌, ◌++◌, map, ℕ, ◌+◌, ◌*◌, ◌^◌, ◌≤◌, ◌<◌, leb, ltb, eqb, length, get_or, Option, None, Some}
-use Rattle.std.proofs.Common.{sym, ap, ap₂, ◌∙◌, arith, mul-le-mul_right, lt-ltb, ltb-true, leb-true, le-leb, eqb-true, eq-eqb, le_of_mul-le-mul_right}
-use Rattle.laws.specs.Bools.{pick, ◌and◌, and_left, allb, every}
-use Rattle.laws.proofs.BoolLaws.{and_right, and_both, allb_in, every_by}
-use Rattle.laws.specs.Order.{pairs, rising}
-use Rattle.units.specs.Types.{Payload, noop, command, Entry}
+use Rattle.std.specs.Prelude.{◌≡◌, refl, Bool, true, false, List, ℕ, ◌+◌, ◌*◌, ◌^◌, ◌≤◌, ◌<◌, leb, ltb, eqb, length, get_or, Option, None, Some}
+use Rattle.std.proofs.Common.{arith, mul-le-mul_right, lt-ltb, ltb-true, leb-true, le-leb, eqb-true, le_of_mul-le-mul_right}
+use Rattle.laws.specs.Bools.{◌and◌, and_left, every}
+use Rattle.laws.proofs.BoolLaws.{and_right, and_both, allb_in}
 use Rattle.units.specs.declared.Term.{Term}
-use Rattle.client.specs.Key.{key_of}
-use Rattle.client.specs.declared.ClientKey.{ClientKey}
 use Rattle.protocol.specs.declared.Status.{Status}
-use Rattle.layout.specs.Code.{Code, blank, pair}
 use Rattle.layout.specs.Tables.{Table, content}
 use Rattle.layout.specs.Marked.{words_for}
-use Rattle.layout.specs.Payload.{payload}
 use Rattle.layout.specs.Keys.{keys}
 use Rattle.raft_log.specs.Log.{Log}
-use Rattle.raft_log.specs.Places.{places, place, entry_code}
-use Rattle.storage.specs.Storage.{Disk, Write, write_hard_state, write_put, write_truncate, Storage}
-use Rattle.storage.specs.declared.HardState.{HardState}
-use Rattle.storage.specs.declared.StorageState.{StorageState}
+use Rattle.raft_log.specs.Places.{places, place}
 use Rattle.storage.specs.Waiting.{waiting_in}
-use Rattle.queue.specs.Range.{word, byte}
+use Rattle.queue.specs.Range.{word}
 use Rattle.config.specs.Limits.{InLimits}
-use Rattle.model.specs.State.{State, Server}
+use Rattle.model.specs.State.{Server}
 use Rattle.model.specs.Fits.{if_some, node_fits, table_fits, server_fits}
 use Rattle.state.specs.declared.Capacity.{Capacity}
-use Rattle.state.specs.declared.ServerState.{ServerState}
-use Rattle.state.specs.Parts.{storage_state_code, server_state_code}
 use Rattle.config.specs.declared.SimConfig.{SimConfig}
 use Rattle.config.specs.declared.Limits.{Limits}
 use Rattle.protocol.specs.Numbers.{role_number}
 use Rattle.protocol.specs.declared.Role.{Role}
 use Rattle.protocol.specs.declared.Role.TheVariants.{Follower, Candidate, Leader}
 use Rattle.layout.specs.Code.{fitting, fitted}
-use Rattle.layout.specs.UpTo.{is64}
-use Rattle.layout.specs.Marked.{good_m}
-use Rattle.storage.specs.Waiting.{kind_marking, vote_kind, voteNumber, payload_kind, plain}
 use Rattle.model.specs.Fits.{status_fits, server_tests}
 use Rattle.state.specs.Parts.{status_flag, status_role, status_term, status_leader, status_commit, node_flag, node_number, bool_number, term_flag, term_number}
-use Rattle.state.specs.Sizes.{log_words, waiting_words, pending_words}
+use Rattle.state.specs.Sizes.{log_words}
 use Rattle.state.specs.Server.{server_good}
 use Rattle.units.specs.declared.NodeId.{NodeId}
 

@@ -1,5 +1,5 @@
 -- The formula leaves room for every part, and no part is longer than the longest area. Assumes nothing.
-use Rattle.std.specs.Prelude.{◌≡◌, refl, ℕ, ◌+◌, ◌*◌, ◌/◌, ◌≤◌, ◌<◌}
+use Rattle.std.specs.Prelude.{◌≡◌, refl, ℕ, ◌+◌, ◌*◌, ◌≤◌, ◌<◌}
 use Rattle.std.proofs.Common.{ap, ◌∙◌, mul-le-mul, mul-le-mul_right, arith, Fits}
 use Rattle.std.specs.Int.{w64}
 use Rattle.layout.specs.Marked.{words_for}

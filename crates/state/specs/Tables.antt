@@ -1,5 +1,5 @@
 -- A table of an area as it is lent, and put back with another count of its rows. Assumes nothing.
-use Rattle.std.specs.Prelude.{◌≡◌, refl, Bool, true, List, [], ◌∷◌, map, ℕ, zero, suc, ◌+◌, ◌-◌, ◌*◌, ◌≤◌, ◌<◌, length, get_or, set, drop, take}
+use Rattle.std.specs.Prelude.{◌≡◌, refl, true, List, [], ◌∷◌, map, ℕ, zero, suc, ◌+◌, ◌-◌, ◌*◌, ◌<◌, length, get_or, set, drop, take}
 use Rattle.std.proofs.Common.{sym, ap, ap₂, subst, ◌∙◌, arith}
 use Rattle.std.proofs.lemmas.List.Edits.{sets}
 use Rattle.words.specs.Words.{bytes, bytes_of as bytesOfNumber}
@@ -12,7 +12,7 @@ use Rattle.model.specs.Fits.{state_fits}
 use Rattle.state.specs.declared.Capacity.{Capacity}
 use Rattle.state.specs.Sizes.{sizes, queue_at, seen_at, leaders_at, replies_at, confirmations_at, applied_at, clients_at, queue_words, seen_words, applied_words}
 use Rattle.state.specs.Parts.{counts_words}
-use Rattle.state.specs.Area.{Area, capacity_of, counts_of}
+use Rattle.state.specs.Area.{capacity_of, counts_of}
 use Rattle.state.specs.Encode.{contents}
 use Rattle.state.specs.Changes.{AreaOf}
 use Rattle.state.specs.Puts.{Cut, area_cut, cut_area, region_put, region_word, one_put, region_length}

@@ -79,10 +79,3 @@ pub struct OpenInput {
     // The place from which it goes on.
     pub next: u64,
 }
-
-// What the gate answers: 4, 5, or 0 and the counts of the state that lies in the area.
-#[derive(Clone, Copy)]
-pub struct Gate {
-    pub refusal: u64,
-    pub capacity: Capacity,
-}

@@ -1,21 +1,24 @@
 -- What the proofs of lib.rt cite: the exits of the gate. Assumes nothing.
-use Rattle.std.specs.Prelude.{◌≡◌, Bool, true, false, not, ◌&&◌, List, [], ◌∷◌, ◌++◌, ℕ, suc, ◌≤◌, ◌<◌, ltb, length, get_or, take, drop}
-use Rattle.std.proofs.Math.Path.{sym, ap}
+use Rattle.std.specs.Prelude.{Ok, Err, ◌≡◌, Bool, true, false, not, ◌&&◌, List, [], ◌∷◌, ◌++◌, ℕ, ◌≤◌, ◌<◌, ltb, length, get_or, take, drop}
+use Rattle.std.proofs.Math.Path.{sym, ap, subst}
 use Rattle.std.proofs.Common.{ap₂, ◌∙◌, arith, lt-ltb, le-ltb}
 use Rattle.std.proofs.lemmas.Bool.{not-true, not-false}
 use Rattle.laws.specs.Bools.{pick, ◌and◌, allb, and_assoc, and_true}
 use Rattle.laws.proofs.BoolLaws.{true_and, code_and}
+use Rattle.units.specs.declared.refusal.Refusal.{Refusal}
+use Rattle.units.specs.declared.refusal.Refusal.TheVariants.{AreaLength, AreaBytes}
+use Rattle.units.specs.Refusals.{refusal_number}
 use Rattle.words.specs.Words.{W, Bytes}
 use Rattle.config.specs.Limits.{counts_fit, InLimits}
 use Rattle.config.specs.Laws.{counts_limits}
 use Rattle.state.specs.declared.Capacity.{Capacity}
-use Rattle.state.specs.declared.Gate.{Gate}
 use Rattle.state.specs.Sizes.{bytes_of}
 use Rattle.state.specs.Parts.{capacity_in, counts_within}
 use Rattle.state.specs.Area.{regions}
 use Rattle.state.specs.Decode.{gate, decode, ok_regions, said, build}
 use Rattle.state.specs.EncodeLaws.{gate_area}
 use Rattle.state.specs.Changes.{Inside, Gated}
+use Rattle.state.specs.Exits.{ok_same}
 use Rattle.state_gate_header.specs.Regions.{tests, region_ok, regions_ok}
 
 -- ---- all regions
@@ -39,15 +42,13 @@ all_ok F b r₀ r₁ r₂ r₃ e₀ e₁ e₂ e₃ =
 
 -- ---- the exits that refuse
 
-refuses : (b : List ℕ) (r : Gate) (k : ℕ) → r.refusal ≡ suc k → gate b ≡ suc k → Gated b r
-refuses b r k e q =
-    let n : r.refusal ≡ 0 → ⊥ = λ z. let o : ◌≡◌ {A = ℕ} 0 (suc k) = sym z ∙ e in omega arith in
-    record { code = e ∙ sym q; capacity = λ z. absurd (n z); inside = λ z. absurd (n z); area = λ z. absurd (n z) }
+refuses : (b : List ℕ) (refusal : Refusal) → gate b ≡ refusal_number refusal → Gated b (Err refusal)
+refuses b refusal q = record { code = sym q; capacity = λ F e. absurd cc; inside = λ F e. absurd cc; area = λ F e. absurd cc }
 
 -- no header
-pub gate_short : (b : List ℕ) (r : Gate) → length b < 4096 → r.refusal ≡ 4 → Gated b r
+pub gate_short : (b : List ℕ) → length b < 4096 → Gated b (Err AreaLength)
 unfolding gate
-gate_short b r h e = refuses b r 3 e (rw (lt-ltb (length b) 4096 h))
+gate_short b h = refuses b AreaLength (rw (lt-ltb (length b) 4096 h))
 
 -- the gate behind its first test
 gate_behind : (b : List ℕ) (F : Capacity) → 4096 ≤ length b → F ≡ capacity_in (W b) → gate b ≡ pick (counts_within F) (pick (ltb (length b) (bytes_of F)) 4 (pick (ok_regions F (regions F b)) 0 5)) 5
@@ -57,9 +58,9 @@ gate_behind b F h e =
 
 module _ (b : List ℕ) (F : Capacity) (t : Bool) (h : 4096 ≤ length b) (e : F ≡ capacity_in (W b)) (s : t ≡ counts_fit F.servers F.clients F.limits) where
   -- counts outside the limits
-  pub gate_counts : (r : Gate) → not t ≡ true → r.refusal ≡ 5 → Gated b r
-  gate_counts r n er =
-      refuses b r 4 er (gate_behind b F h e ∙ ap (λ (u : Bool). pick u (pick (ltb (length b) (bytes_of F)) 4 (pick (ok_regions F (regions F b)) 0 5)) 5) (sym s ∙ not-true t n))
+  pub gate_counts : not t ≡ true → Gated b (Err AreaBytes)
+  gate_counts n =
+      refuses b AreaBytes (gate_behind b F h e ∙ ap (λ (u : Bool). pick u (pick (ltb (length b) (bytes_of F)) 4 (pick (ok_regions F (regions F b)) 0 5)) 5) (sym s ∙ not-true t n))
 
   module _ (y : not t ≡ false) where
     -- counts within them
@@ -70,8 +71,8 @@ module _ (b : List ℕ) (F : Capacity) (t : Bool) (h : 4096 ≤ length b) (e : F
     gate_counted = gate_behind b F h e ∙ ap (λ (u : Bool). pick u (pick (ltb (length b) (bytes_of F)) 4 (pick (ok_regions F (regions F b)) 0 5)) 5) (sym s ∙ not-false t y)
 
     -- too short
-    pub gate_room : (r : Gate) (n : ℕ) → n ≡ bytes_of F → length b < n → r.refusal ≡ 4 → Gated b r
-    gate_room r n q l er = refuses b r 3 er (gate_counted ∙ rw (lt-ltb (length b) (bytes_of F) (let k : length b < bytes_of F = omega arith in k)))
+    pub gate_room : (n : ℕ) → n ≡ bytes_of F → length b < n → Gated b (Err AreaLength)
+    gate_room n q l = refuses b AreaLength (gate_counted ∙ rw (lt-ltb (length b) (bytes_of F) (let k : length b < bytes_of F = omega arith in k)))
 
     module _ (n : ℕ) (q : n ≡ bytes_of F) (l : n ≤ length b) where
       -- an area with room
@@ -87,12 +88,12 @@ module _ (b : List ℕ) (F : Capacity) (t : Bool) (h : 4096 ≤ length b) (e : F
         gate_told = gate_long ∙ ap (λ (u : Bool). pick u 0 5) (sym eg)
 
         -- a region that is no content
-        pub gate_regions : (r : Gate) → not g ≡ true → r.refusal ≡ 5 → Gated b r
-        gate_regions r m er = refuses b r 4 er (gate_told ∙ ap (λ (u : Bool). pick u 0 5) (not-true g m))
+        pub gate_regions : not g ≡ true → Gated b (Err AreaBytes)
+        gate_regions m = refuses b AreaBytes (gate_told ∙ ap (λ (u : Bool). pick u 0 5) (not-true g m))
 
         -- all are
-        pub gate_open : Bytes b → not g ≡ false → Gated b (record { refusal = 0; capacity = F })
+        pub gate_open : Bytes b → not g ≡ false → Gated b (Ok F)
         unfolding decode said build
         gate_open B m =
             let z : gate b ≡ 0 = gate_told ∙ ap (λ (u : Bool). pick u 0 5) (not-false g m) in
-            record { code = sym z; capacity = λ _. e; inside = λ _. gate_inside; area = λ _. gate_area b B z }
+            record { code = sym z; capacity = λ G o. sym (ok_same o) ∙ e; inside = λ G o. subst (Inside b) (ok_same o) gate_inside; area = λ G o. gate_area b B z }

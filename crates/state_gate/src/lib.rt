@@ -9,29 +9,8 @@ ghost use Rattle.state_gate_header.specs.Regions.{regions_ok};
 
 mod tables; // the servers and the tables
 
-use config::Limits;
-use state::{Capacity, Gate, header};
-
-// A refusal; the counts beside it are 0.
-fn refused(refusal: u64) -> Gate
-    ensures { result.refusal ≡ refusal }
-{
-    Gate {
-        refusal,
-        capacity: Capacity {
-            servers: 0,
-            clients: 0,
-            limits: Limits {
-                log_indexes: 0,
-                payload: 0,
-                message: 0,
-                events: 0,
-                writes: 0,
-                history: 0,
-            },
-        },
-    }
-}
+use state::{Capacity, header};
+use units::refusal::Refusal;
 
 // Whether every region is a content.
 fn contents(area: &[u8], f: Capacity) -> bool
@@ -46,26 +25,23 @@ fn contents(area: &[u8], f: Capacity) -> bool
     header & servers & tables & spare
 }
 
-// The gate: the refusal, or 0 and the counts of the state that lies there.
-pub fn gate(area: &[u8]) -> Gate
+// The gate: question 4 or 5, or the counts of the state that lies there.
+pub fn gate(area: &[u8]) -> Result<Capacity, Refusal>
     ensures { Gated area.now result }
 {
     if area.len() < 4096 {
-        return refused(4); // no header
+        return Err(Refusal::AreaLength); // no header
     }
     let f = header::load_capacity(area);
     if !config::counts_fit(f.servers, f.clients, f.limits) {
-        return refused(5); // counts outside the limits
+        return Err(Refusal::AreaBytes); // counts outside the limits
     }
     let need = config::area_length(f.servers, f.clients, f.limits) as usize;
     if area.len() < need {
-        return refused(4); // shorter than the counts ask
+        return Err(Refusal::AreaLength); // shorter than the counts ask
     }
     if !contents(area, f) {
-        return refused(5); // the content of no state
+        return Err(Refusal::AreaBytes); // the content of no state
     }
-    Gate {
-        refusal: 0,
-        capacity: f,
-    }
+    Ok(f)
 }

@@ -1,6 +1,6 @@
 -- The laws that the proofs of this crate cite. Assumes nothing.
-use Rattle.std.specs.Prelude.{◌≡◌, Bool, List, ◌++◌, ℕ, ◌+◌, ◌-◌, ◌*◌, ◌≤◌, length, take, drop}
-use Rattle.std.proofs.Common.{ap, ◌∙◌, subst, arith, take_at}
+use Rattle.std.specs.Prelude.{◌≡◌, refl, Bool, List, [], ◌++◌, ℕ, ◌+◌, ◌-◌, ◌*◌, ◌≤◌, length, take, drop}
+use Rattle.std.proofs.Common.{sym, ap, ◌∙◌, subst, arith, take_at}
 use Rattle.std.proofs.lemmas.List.Edits.{sets, sets-eq}
 use Rattle.laws.specs.Decides.{Decides}
 use Rattle.words.specs.Words.{bytes}

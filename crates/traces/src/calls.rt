@@ -1,28 +1,31 @@
 // The calls that change a run, made with a row's arguments, each family in one function.
 ghost use Rattle.std.specs.Prelude.{◌≤◌};
 
-use crate::call::{Check, Direct, Output, Write};
-use crate::row::Row;
-use crate::told;
+use crate::{row, told};
 use api::{direct, outputs, requested, run, writes};
 
 // A start.
-pub fn started(row: Row<'_>, area: &mut [u8]) -> bool {
-    let settings = row.settings();
-    let limits = row.limits();
+pub fn started(given: &[u8], answer: &[u8], area: &mut [u8]) -> bool {
+    let settings = row::settings(given);
+    let limits = row::limits(given);
     told::opened(
-        row.answer,
-        run::sim_start(area, settings, limits, row.number(20)),
+        answer,
+        run::sim_start(area, settings, limits, row::number(given, 20)),
     )
 }
 
-// A step, whose message goes to the buffer: of a delivery, kind 2 in the C interface, as many bytes as its second number says.
-fn stepped_in(row: Row<'_>, area: &mut [u8], buffer: &mut [u8]) -> bool {
-    let a = run::sim_step(area, row.number(0), buffer);
+// Bytes of the message that a step delivers, 0 where it delivers none.
+fn message_length(kind: u64, second: u64) -> u64 {
+    if kind == 2 { second } else { 0 }
+}
+
+// A step, whose message goes to the buffer.
+fn stepped_in(given: &[u8], answer: &[u8], area: &mut [u8], buffer: &mut [u8]) -> bool {
+    let a = run::sim_step(area, row::number(given, 0), buffer);
     let i = a.input;
-    let size = if i.kind == 2 { i.second } else { 0 };
+    let size = message_length(i.kind, i.second);
     told::numbers_and_bytes(
-        row.answer,
+        answer,
         &[
             a.refusal, a.taken, i.kind, i.server, i.first, i.second, i.third, size,
         ],
@@ -32,124 +35,125 @@ fn stepped_in(row: Row<'_>, area: &mut [u8], buffer: &mut [u8]) -> bool {
 }
 
 // A step, with a buffer of this length.
-pub fn stepped(row: Row<'_>, area: &mut [u8], longest: usize) -> bool
+pub fn stepped(given: &[u8], answer: &[u8], area: &mut [u8], longest: usize) -> bool
     requires { longest ≤ 4096 }
 {
     let mut buffer = [165u8; 4096];
-    stepped_in(row, area, &mut buffer[0..longest])
+    stepped_in(given, answer, area, &mut buffer[0..longest])
 }
 
 // A seal.
-pub fn sealed(row: Row<'_>, area: &mut [u8]) -> bool {
-    let refused = row.number(0);
-    let present = row.number(1);
+pub fn sealed(given: &[u8], answer: &[u8], area: &mut [u8]) -> bool {
+    let refused = row::number(given, 0);
+    let present = row::number(given, 1);
     told::sealed(
-        row.answer,
-        run::sim_seal(area, refused, present, row.number(2)),
+        answer,
+        run::sim_seal(area, refused, present, row::number(given, 2)),
     )
 }
 
 // An end.
-pub fn ended(row: Row<'_>, area: &mut [u8]) -> bool {
+pub fn ended(given: &[u8], answer: &[u8], area: &mut [u8]) -> bool {
     let a = run::sim_end(
         area,
-        row.number(0),
-        row.number(1),
-        row.number(2),
-        row.number(3),
-        row.number(4),
+        row::number(given, 0),
+        row::number(given, 1),
+        row::number(given, 2),
+        row::number(given, 3),
+        row::number(given, 4),
     );
-    told::opened(row.answer, a)
+    told::opened(answer, a)
 }
 
-// The direct calls.
-pub fn direct_call(call: Direct, row: Row<'_>, area: &mut [u8]) -> bool {
-    let server = row.number(0);
-    let other = row.number(1);
+// The direct calls: 3 propose, 4 fire timer, 5 confirm leadership.
+pub fn direct_call(call: u64, given: &[u8], answer: &[u8], area: &mut [u8]) -> bool {
+    let server = row::number(given, 0);
+    let other = row::number(given, 1);
     match call {
-        Direct::Propose => told::opened(row.answer, direct::sim_propose(area, server)),
-        Direct::FireTimer => told::opened(row.answer, direct::sim_fire_timer(area, server, other)),
-        Direct::ConfirmLeadership => told::opened(
-            row.answer,
-            direct::sim_confirm_leadership(area, server, other),
-        ),
+        3 => told::opened(answer, direct::sim_propose(area, server)),
+        4 => told::opened(answer, direct::sim_fire_timer(area, server, other)),
+        _ => told::opened(answer, direct::sim_confirm_leadership(area, server, other)),
     }
 }
 
 // A fault scheduled.
-pub fn scheduled(row: Row<'_>, area: &mut [u8]) -> bool {
-    let groups = row.bytes(4);
+pub fn scheduled(given: &[u8], answer: &[u8], area: &mut [u8]) -> bool {
+    let groups = row::bytes_at(given, 4);
+    let from = groups.from;
+    let to = groups.to;
     let a = direct::sim_schedule(
         area,
-        row.number(0),
-        row.number(1),
-        row.number(2),
-        row.number(3),
-        groups,
+        row::number(given, 0),
+        row::number(given, 1),
+        row::number(given, 2),
+        row::number(given, 3),
+        &given[from..to],
     );
-    told::done(row.answer, a)
+    told::done(answer, a)
 }
 
-// The writes.
-pub fn write(call: Write, row: Row<'_>, area: &mut [u8]) -> bool {
-    let first = row.number(0);
-    let second = row.number(1);
-    let third = row.number(2);
-    let payload = row.bytes(3);
+// The writes: 7 hard state, 8 put, 9 truncate.
+pub fn write(call: u64, given: &[u8], answer: &[u8], area: &mut [u8]) -> bool {
+    let first = row::number(given, 0);
+    let second = row::number(given, 1);
+    let third = row::number(given, 2);
+    let payload = row::bytes_at(given, 3);
+    let from = payload.from;
+    let to = payload.to;
     match call {
-        Write::HardState => told::done(
-            row.answer,
+        7 => told::done(
+            answer,
             writes::sim_write_hard_state(area, first, second, third),
         ),
-        Write::Put => told::done(
-            row.answer,
-            writes::sim_write_put(area, first, second, third, payload),
+        8 => told::done(
+            answer,
+            writes::sim_write_put(area, first, second, third, &given[from..to]),
         ),
-        Write::Truncate => told::done(row.answer, writes::sim_write_truncate(area, first)),
+        _ => told::done(answer, writes::sim_write_truncate(area, first)),
     }
 }
 
 // A message sent: its receiver, its bytes, and behind them its entries.
-pub fn sent(row: Row<'_>, area: &mut [u8]) -> bool {
-    let message = row.bytes(1);
-    let n = row.given.len() / 8;
+pub fn sent(given: &[u8], answer: &[u8], area: &mut [u8]) -> bool {
+    let message = row::bytes_at(given, 1);
+    let from = message.from;
+    let to = message.to;
+    let n = given.len() / 8;
     if n == 0 {
         return false;
     }
-    let a = outputs::sim_output_send(area, row.number(0), message, row.number(n - 1));
-    told::done(row.answer, a)
+    let a = outputs::sim_output_send(
+        area,
+        row::number(given, 0),
+        &given[from..to],
+        row::number(given, n - 1),
+    );
+    told::done(answer, a)
 }
 
-// The other outputs.
-pub fn output(call: Output, row: Row<'_>, area: &mut [u8]) -> bool {
-    let first = row.number(0);
-    let second = row.number(1);
-    let payload = row.bytes(2);
+// The other outputs: 12 set timer, 13 cancel timer, 14 apply, 15 confirmed, 16 lost.
+pub fn output(call: u64, given: &[u8], answer: &[u8], area: &mut [u8]) -> bool {
+    let first = row::number(given, 0);
+    let second = row::number(given, 1);
+    let payload = row::bytes_at(given, 2);
+    let from = payload.from;
+    let to = payload.to;
     match call {
-        Output::SetTimer => told::done(
-            row.answer,
-            outputs::sim_output_set_timer(area, first, second),
+        12 => told::done(answer, outputs::sim_output_set_timer(area, first, second)),
+        13 => told::done(answer, outputs::sim_output_cancel_timer(area, first)),
+        14 => told::done(
+            answer,
+            outputs::sim_output_apply(area, first, second, &given[from..to]),
         ),
-        Output::CancelTimer => told::done(
-            row.answer,
-            outputs::sim_output_cancel_timer(area, first),
-        ),
-        Output::Apply => told::done(
-            row.answer,
-            outputs::sim_output_apply(area, first, second, payload),
-        ),
-        Output::Confirmed => told::done(
-            row.answer,
-            outputs::sim_output_confirmed(area, first, second),
-        ),
-        Output::Lost => told::done(row.answer, outputs::sim_output_lost(area, first)),
+        15 => told::done(answer, outputs::sim_output_confirmed(area, first, second)),
+        _ => told::done(answer, outputs::sim_output_lost(area, first)),
     }
 }
 
-// The checks on request.
-pub fn check(call: Check, row: Row<'_>, area: &mut [u8]) -> bool {
+// The checks on request: 18 log matching, 19 durability.
+pub fn check(call: u64, answer: &[u8], area: &mut [u8]) -> bool {
     match call {
-        Check::LogMatching => told::done(row.answer, requested::sim_check_log_matching(area)),
-        Check::Durability => told::done(row.answer, requested::sim_check_durability(area)),
+        18 => told::done(answer, requested::sim_check_log_matching(area)),
+        _ => told::done(answer, requested::sim_check_durability(area)),
     }
 }

@@ -1,13 +1,8 @@
 // The reads, made with a row's arguments: what a server has, and what the run has.
 ghost use Rattle.std.specs.Prelude.{◌≤◌};
 
-use crate::call::{EntryRead, RunRead, ServerRead};
-use crate::row::Row;
-use crate::told;
-use answers::{
-    HardStateAnswer, LogAnswer, MetricsAnswer, ReplyAnswer, RunAnswer, SettingsAnswer,
-    StatusAnswer, ViolationAnswer,
-};
+use crate::{row, told};
+use answers::{HardStateAnswer, LogAnswer, MetricsAnswer, ReplyAnswer, RunAnswer, SettingsAnswer, StatusAnswer, ViolationAnswer};
 use api::reads;
 
 fn status(answer: &[u8], a: StatusAnswer) -> bool {
@@ -133,61 +128,61 @@ fn confirmation(answer: &[u8], area: &[u8], place: u64) -> bool {
     )
 }
 
-// The reads of a server.
-pub fn of_server(call: ServerRead, row: Row<'_>, area: &[u8]) -> bool {
-    let server = row.number(0);
+// 20 status, 21 hard state, 22 log, 25 applied, 28 sent by.
+pub fn of_server(call: u64, given: &[u8], answer: &[u8], area: &[u8]) -> bool {
+    let server = row::number(given, 0);
     match call {
-        ServerRead::Status => status(row.answer, reads::sim_read_status(area, server)),
-        ServerRead::HardState => hard_state(row.answer, reads::sim_read_hard_state(area, server)),
-        ServerRead::Log => log(row.answer, reads::sim_read_log(area, server)),
-        ServerRead::Applied => applied(row.answer, area, server),
-        ServerRead::SentBy => sent_by(row.answer, area, server),
+        20 => status(answer, reads::sim_read_status(area, server)),
+        21 => hard_state(answer, reads::sim_read_hard_state(area, server)),
+        22 => log(answer, reads::sim_read_log(area, server)),
+        25 => applied(answer, area, server),
+        _ => sent_by(answer, area, server),
     }
 }
 
-// The reads of a run.
-pub fn of_run(call: RunRead, row: Row<'_>, area: &[u8]) -> bool {
-    let place = row.number(0);
+// 24 leader, 27 metrics, 29 reply, 30 confirmation, 31 violation, 32 run, 34 settings.
+pub fn of_run(call: u64, given: &[u8], answer: &[u8], area: &[u8]) -> bool {
+    let place = row::number(given, 0);
     match call {
-        RunRead::Leader => leader(row.answer, area),
-        RunRead::Metrics => metrics(row.answer, reads::sim_read_metrics(area)),
-        RunRead::Reply => reply(row.answer, reads::sim_read_reply(area, place)),
-        RunRead::Confirmation => confirmation(row.answer, area, place),
-        RunRead::Violation => violation(row.answer, reads::sim_read_violation(area, place)),
-        RunRead::Run => run(row.answer, reads::sim_read_run(area)),
-        RunRead::Settings => settings(row.answer, reads::sim_read_settings(area)),
+        24 => leader(answer, area),
+        27 => metrics(answer, reads::sim_read_metrics(area)),
+        29 => reply(answer, reads::sim_read_reply(area, place)),
+        30 => confirmation(answer, area, place),
+        31 => violation(answer, reads::sim_read_violation(area, place)),
+        32 => run(answer, reads::sim_read_run(area)),
+        _ => settings(answer, reads::sim_read_settings(area)),
     }
 }
 
-// An entry of a log: a command goes to the buffer.
-fn entry(row: Row<'_>, area: &[u8], buffer: &mut [u8]) -> bool {
-    let a = reads::sim_read_entry(area, row.number(0), row.number(1), buffer);
+// 23 entry: a command goes to the buffer.
+fn entry(given: &[u8], answer: &[u8], area: &[u8], buffer: &mut [u8]) -> bool {
+    let a = reads::sim_read_entry(area, row::number(given, 0), row::number(given, 1), buffer);
     told::numbers_and_bytes(
-        row.answer,
+        answer,
         &[a.refusal, a.present, a.term, a.kind, a.length, a.length],
         a.length,
         buffer,
     )
 }
 
-// An applied entry: a command goes to the buffer.
-fn applied_entry(row: Row<'_>, area: &[u8], buffer: &mut [u8]) -> bool {
-    let a = reads::sim_read_applied_entry(area, row.number(0), buffer);
+// 26 applied entry: a command goes to the buffer.
+fn applied_entry(given: &[u8], answer: &[u8], area: &[u8], buffer: &mut [u8]) -> bool {
+    let a = reads::sim_read_applied_entry(area, row::number(given, 0), buffer);
     told::numbers_and_bytes(
-        row.answer,
+        answer,
         &[a.refusal, a.present, a.kind, a.length, a.length],
         a.length,
         buffer,
     )
 }
 
-// The reads of an entry, with a buffer of this length.
-pub fn with_buffer(call: EntryRead, row: Row<'_>, area: &[u8], longest: usize) -> bool
+// 23 entry, 26 applied entry, with a buffer of this length.
+pub fn with_buffer(call: u64, given: &[u8], answer: &[u8], area: &[u8], longest: usize) -> bool
     requires { longest ≤ 4096 }
 {
     let mut buffer = [165u8; 4096];
     match call {
-        EntryRead::Log => entry(row, area, &mut buffer[0..longest]),
-        EntryRead::Applied => applied_entry(row, area, &mut buffer[0..longest]),
+        23 => entry(given, answer, area, &mut buffer[0..longest]),
+        _ => applied_entry(given, answer, area, &mut buffer[0..longest]),
     }
 }

@@ -1,6 +1,10 @@
--- Made by tools/uniform from proofs.txt, not by hand: 5a0aa8768a8ebc99
-use Prim.Native.Nat.{◌≤◌}
+-- Made by tools/uniform from proofs.txt, not by hand: ee54fd46d9db7080
+use Prim.Native.Nat.{◌-◌, ◌≤◌}
+use lib.ListN.{length}
 use Rattle.replay.proofs.compared.Given as goal
 
-abbrev pub invariant-loop-i : goal.invariant-loop-i
-invariant-loop-i g l = (goal.F-IsAlwaysCallable g l.agrees) × (l.differ ≤ l.i)
+abbrev pub invariant-loop-at : goal.invariant-loop-at
+invariant-loop-at l = (l.at ≤ length l.s) × (l.tally.rows ≤ l.at) × (l.tally.differ ≤ l.at) × (8 ≤ l.w)
+
+abbrev pub decreases-loop-at : goal.decreases-loop-at
+decreases-loop-at l = length l.s - l.at

@@ -1,0 +1,10 @@
+-- Made by tools/uniform from proofs.txt, not by hand: 12bfc689e157fe47
+use Prim.Native.Nat.{◌-◌, ◌≤◌}
+use lib.ListN.{length}
+use Rattle.replay.proofs.links.compared.Given as goal
+
+abbrev pub invariant-loop-at : goal.invariant-loop-at
+invariant-loop-at l = (l.at ≤ length l.s) × (l.tally.rows ≤ l.at) × (l.tally.differ ≤ l.at)
+
+abbrev pub decreases-loop-at : goal.decreases-loop-at
+decreases-loop-at l = length l.s - l.at

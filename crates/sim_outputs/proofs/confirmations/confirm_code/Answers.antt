@@ -1,8 +1,0 @@
--- Made by tools/uniform from proofs.txt, not by hand: de3ff397f643f3b9
-use Rattle.sim_outputs.specs.Laws.{passed_inside}
-use Rattle.sim_outputs.specs.ConfirmationLaws.{confirm_asked}
-use borrow.Author.Rules.{rules}
-use Rattle.sim_outputs.proofs.confirmations.confirm_code.Goals as goal
-
-pub returns : goal.returns
-returns c = search (passed_inside, confirm_asked, rules)
