@@ -26,7 +26,7 @@ use Rattle.state.specs.Exits.{refusal_above}
 use Rattle.state.specs.Branches.{if_err, if_ok, if_refused, if_done, else_done, else_kept}
 use Rattle.answers.specs.declared.InputNumbers.{InputNumbers}
 use Rattle.answers.specs.Answers.{no_input_numbers, input_of, opened_no, opened_of, asked_yes}
-use Rattle.state_header.specs.Header.{phase_set, direct_seq_set, SetsPhase}
+use Rattle.state_header.specs.Header.{phase_set, direct_seq_set, PhaseStored}
 use Rattle.state_header.specs.Laws.{fits_phase, fits_direct_seq}
 use Rattle.sim_direct.specs.declared.DirectAsked.{DirectAsked}
 use Rattle.sim_direct.specs.declared.asked.ProposalAsked.{ProposalAsked}
@@ -150,7 +150,7 @@ module _ (b : List ℕ) (F : Capacity) (server : ℕ) (r : Result DirectAsked Re
 -- ---- open_proposal, open_confirmation
 
 pub proposal_opens : (b b₁ b₂ : List ℕ) (F : Capacity) (slot next : ℕ) → Changes b b₁ F (direct_seq_set next)
-    → SetsPhase b₁ b₂ F (record {
+    → PhaseStored b₁ b₂ F (record {
       phase = 1;
       slot = slot;
       input = 3;
@@ -174,7 +174,7 @@ proposal_opens b b₁ b₂ F slot next p q = record {
 }
 
 pub confirmation_opens : (b b₁ : List ℕ) (F : Capacity) (slot : ℕ)
-    → SetsPhase b b₁ F (record {
+    → PhaseStored b b₁ F (record {
       phase = 1;
       slot = slot;
       input = 5;

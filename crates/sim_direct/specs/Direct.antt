@@ -10,7 +10,7 @@ use Rattle.model.specs.Fields.{with_phase}
 use Rattle.model.specs.Simulation.{running, no_input, open_timer}
 use Rattle.model.specs.Calls.{is_closed, in_cluster, fire_timer}
 use Rattle.state.specs.declared.Capacity.{Capacity}
-use Rattle.state.specs.Changes.{Changes, Reads}
+use Rattle.state.specs.Changes.{Reads}
 use Rattle.state.specs.Branches.{PlannedIf}
 use Rattle.sim_direct.specs.declared.DirectAsked.{DirectAsked}
 
@@ -42,7 +42,3 @@ pub record FirePlanned (b : List ℕ) (F : Capacity) (server timer : ℕ) (r : R
   pub plan : PlannedIf b F r (fire_timer server timer) (λ p. p.running)
       (λ p. open_timer (record { 0 = server }) (timer_given timer)) (λ p. timer_open p.slot)
       (λ p. no_input) (λ p s. s)
-
--- The timer's input is open.
-pub record OpensTimer (b b' : List ℕ) (F : Capacity) (slot : ℕ) : Type 0 where
-  pub changes : Changes b b' F (timer_open slot)

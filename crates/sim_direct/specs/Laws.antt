@@ -26,17 +26,17 @@ use Rattle.state.specs.Area.{Area, capacity_of}
 use Rattle.state.specs.Fitting.{area_fits}
 use Rattle.state.specs.FitsBy.{fits_test, server_count}
 use Rattle.state.specs.Call.{call}
-use Rattle.state.specs.Changes.{Gated, Reads, judged}
+use Rattle.state.specs.Changes.{Gated, Changes, Reads, judged}
 use Rattle.state.specs.Exits.{refusal_above, ok_same}
 use Rattle.state.specs.Branches.{if_err, if_ok, if_refused, if_done, else_kept}
 use Rattle.answers.specs.declared.InputNumbers.{InputNumbers}
 use Rattle.answers.specs.Answers.{no_input_numbers, input_of, opened_no, opened_of, opened_yes}
-use Rattle.state_header.specs.Header.{phase_of, phase_set, SetsPhase}
+use Rattle.state_header.specs.Header.{phase_of, phase_set, PhaseStored}
 use Rattle.state_header.specs.Laws.{fits_phase, kind_closed, kind_open}
 use Rattle.state_server.specs.Servers.{status_at, status_runs}
 use Rattle.state_server.specs.Laws.{status_runs_lem}
 use Rattle.sim_direct.specs.declared.DirectAsked.{DirectAsked}
-use Rattle.sim_direct.specs.Direct.{timer_given, direct_code, server_runs, AsksDirect, timer_open, FirePlanned, OpensTimer}
+use Rattle.sim_direct.specs.Direct.{timer_given, direct_code, server_runs, AsksDirect, timer_open, FirePlanned}
 
 -- ---- the timer of a number
 
@@ -94,9 +94,9 @@ module _ (b : List ℕ) (F : Capacity) (server : ℕ) (o : OpenInput) (q : Reads
 -- ---- firing a timer
 
 pub timer_opens : (b b' : List ℕ) (F : Capacity) (slot : ℕ)
-    → SetsPhase b b' F (record { phase = 1; slot = slot; input = 2; client = 0; seq = 0; attempt = 0; verdict = 0; leader = 0; owed = 0; next = 0 }) → OpensTimer b b' F slot
+    → PhaseStored b b' F (record { phase = 1; slot = slot; input = 2; client = 0; seq = 0; attempt = 0; verdict = 0; leader = 0; owed = 0; next = 0 }) → Changes b b' F (timer_open slot)
 unfolding timer_open phase_set
-timer_opens b b' F slot p = record { changes = p.to (writing slot timer_input nothing) refl }
+timer_opens b b' F slot p = p.to (writing slot timer_input nothing) refl
 
 -- what the questions 6 and 7 make of a call
 module _ (server : ℕ) (s : State) where
@@ -211,9 +211,9 @@ module _ (b : List ℕ) (g : Result Capacity Refusal) (server timer : ℕ) (q : 
       → (opened_of i, b) ≡ call opened_no opened_yes b (fire_timer server timer)
   fire_none v i e t ei = else_kept opened_no opened_yes b fires g q F y p _ _ _ _ _ k.plan (opened_of i) v e (not-true v.running t) (λ s. refl) (ap opened_of ei)
 
-  pub fire_opened : (v : DirectAsked) (b' : List ℕ) (kind : Timer) (i : InputNumbers) → p ≡ Ok v → not v.running ≡ false → OpensTimer b b' F v.slot
+  pub fire_opened : (v : DirectAsked) (b' : List ℕ) (kind : Timer) (i : InputNumbers) → p ≡ Ok v → not v.running ≡ false → Changes b b' F (timer_open v.slot)
       → kind ≡ timer_given timer → i ≡ input_of (open_timer (record { 0 = server }) kind)
       → (opened_of i, b') ≡ call opened_no opened_yes b (fire_timer server timer)
   fire_opened v b' kind i e t o ek ei =
-      if_done opened_no opened_yes b fires g q F y p _ _ _ _ _ k.plan b' (opened_of i) v e (not-false v.running t) o.changes
+      if_done opened_no opened_yes b fires g q F y p _ _ _ _ _ k.plan b' (opened_of i) v e (not-false v.running t) o
       (ap opened_of (ei ∙ ap (λ (x : Timer). input_of (open_timer (record { 0 = server }) x)) ek))

@@ -1,7 +1,8 @@
 // What a server is asked directly (propose and confirm_leadership of simulation.rs): a stopped one does not lead, and names nobody.
 ghost use Rattle.std.specs.Prelude.{◌≡◌};
 ghost use Rattle.model.specs.Calls.{propose, confirm_leadership};
-ghost use Rattle.state.specs.Changes.{Inside, Gated, Changes};
+ghost use Rattle.state.specs.Changes.{Gated};
+ghost use Rattle.state.specs.Lent.{Changes, ◌of◌};
 ghost use Rattle.state.specs.Call.{call};
 ghost use Rattle.answers.specs.Answers.{opened_no, asked_yes, opened_answer};
 ghost use Rattle.sim_direct.specs.Asked.{ProposalPlanned, proposal_open, ConfirmPlanned, confirm_open};
@@ -9,6 +10,7 @@ ghost use Rattle.sim_direct.specs.Asked.{ProposalPlanned, proposal_open, Confirm
 use crate::{DirectAsked, direct_asked};
 use answers::{InputNumbers, OpenedAnswer, opened};
 use protocol::RequestId;
+use state::lent::{Lent, LentMut};
 use state::{Capacity, OpenInput};
 use units::NodeId;
 use units::refusal::Refusal;
@@ -27,12 +29,11 @@ pub struct ProposalAsked {
 }
 
 // What a direct proposal will do, or the refusal: a sequence number is used whether or not the server runs, so question 10 is of that number.
-fn propose_plan(area: &[u8], f: Capacity, server: u64) -> Result<ProposalAsked, Refusal>
-    requires { Inside area.now f }
-    ensures { ProposalPlanned area.now f server result }
+fn propose_plan(area: &Lent<'_>, server: u64) -> Result<ProposalAsked, Refusal>
+    ensures { (ProposalPlanned of area.now) server result }
 {
-    let DirectAsked { slot, running } = direct_asked(area, f, server)?;
-    let run = state_header::run_of(area, f);
+    let DirectAsked { slot, running } = direct_asked(area, server)?;
+    let run = state_header::run_of(area);
     let seq = run.direct_seq;
     let Some(next) = seq.checked_add(1) else {
         return Err(Refusal::Room);
@@ -46,9 +47,8 @@ fn propose_plan(area: &[u8], f: Capacity, server: u64) -> Result<ProposalAsked, 
 }
 
 // The proposal's input opens, and its number is used.
-fn open_proposal(area: &mut [u8], f: Capacity, slot: u64, next: u64)
-    requires { Inside area.old f }
-    ensures { Changes area.old area.new f (proposal_open slot next) }
+fn open_proposal(area: &mut LentMut<'_>, slot: u64, next: u64)
+    ensures { Changes area.old area.new (proposal_open slot next) }
 {
     let input = OpenInput {
         phase: 1,
@@ -62,8 +62,8 @@ fn open_proposal(area: &mut [u8], f: Capacity, slot: u64, next: u64)
         owed: 0,
         next: 0,
     };
-    state_header::set_direct_seq(area, f, next);
-    state_header::set_open(area, f, input);
+    state_header::set_direct_seq(area, next);
+    state_header::set_open(area, input);
 }
 
 // The input that a direct proposal opens.
@@ -76,12 +76,24 @@ fn proposed(
     ensures { (opened_answer result, area.new) ≡ call opened_no asked_yes area.old (propose server) }
 {
     let f = g?;
-    let p = propose_plan(area, f, server)?;
+    let lent = Lent {
+        bytes: area,
+        counts: f,
+    };
+    let p = propose_plan(&lent, server)?;
     if !p.running {
-        state_header::set_direct_seq(area, f, p.next);
+        let mut area = LentMut {
+            bytes: area,
+            counts: f,
+        };
+        state_header::set_direct_seq(&mut area, p.next);
         return Ok(answers::no_input());
     }
-    open_proposal(area, f, p.slot, p.next);
+    let mut area = LentMut {
+        bytes: area,
+        counts: f,
+    };
+    open_proposal(&mut area, p.slot, p.next);
     Ok(opened::proposal_input(NodeId(server), client::DIRECT as u64, p.seq))
 }
 
@@ -96,17 +108,15 @@ pub fn propose_in(area: &mut [u8], g: Result<Capacity, Refusal>, server: u64) ->
 // ---- confirm_leadership
 
 // What a request to confirm leadership will do, or the refusal.
-fn confirm_plan(area: &[u8], f: Capacity, server: u64, request: u64) -> Result<DirectAsked, Refusal>
-    requires { Inside area.now f }
-    ensures { ConfirmPlanned area.now f server request result }
+fn confirm_plan(area: &Lent<'_>, server: u64, request: u64) -> Result<DirectAsked, Refusal>
+    ensures { (ConfirmPlanned of area.now) server request result }
 {
-    direct_asked(area, f, server)
+    direct_asked(area, server)
 }
 
 // The confirmation's input opens.
-fn open_confirmation(area: &mut [u8], f: Capacity, slot: u64)
-    requires { Inside area.old f }
-    ensures { Changes area.old area.new f (confirm_open slot) }
+fn open_confirmation(area: &mut LentMut<'_>, slot: u64)
+    ensures { Changes area.old area.new (confirm_open slot) }
 {
     let input = OpenInput {
         phase: 1,
@@ -120,7 +130,7 @@ fn open_confirmation(area: &mut [u8], f: Capacity, slot: u64)
         owed: 0,
         next: 0,
     };
-    state_header::set_open(area, f, input);
+    state_header::set_open(area, input);
 }
 
 // The input that a request to confirm leadership opens.
@@ -135,11 +145,19 @@ fn confirmed(
         (confirm_leadership server (record { 0 = request })) }
 {
     let f = g?;
-    let p = confirm_plan(area, f, server, request)?;
+    let lent = Lent {
+        bytes: area,
+        counts: f,
+    };
+    let p = confirm_plan(&lent, server, request)?;
     if !p.running {
         return Ok(answers::no_input());
     }
-    open_confirmation(area, f, p.slot);
+    let mut area = LentMut {
+        bytes: area,
+        counts: f,
+    };
+    open_confirmation(&mut area, p.slot);
     Ok(opened::confirmation_input(NodeId(server), RequestId(request)))
 }
 

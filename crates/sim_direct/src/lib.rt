@@ -3,13 +3,15 @@
 
 ghost use Rattle.std.specs.Prelude.{◌≡◌, ◌<◌};
 ghost use Rattle.model.specs.Calls.{fire_timer};
-ghost use Rattle.state.specs.Changes.{Inside, Gated};
+ghost use Rattle.state.specs.Changes.{Gated};
+ghost use Rattle.state.specs.Lent.{Changes, ◌of◌};
 ghost use Rattle.state.specs.Call.{call};
 ghost use Rattle.answers.specs.Answers.{opened_no, opened_yes, opened_answer};
-ghost use Rattle.sim_direct.specs.Direct.{timer_given, AsksDirect, FirePlanned, timer_open, OpensTimer};
+ghost use Rattle.sim_direct.specs.Direct.{timer_given, AsksDirect, FirePlanned, timer_open};
 
 use answers::{InputNumbers, OpenedAnswer, opened};
 use protocol::Timer;
+use state::lent::{Lent, LentMut};
 use state::{Capacity, OpenInput};
 use units::NodeId;
 use units::refusal::Refusal;
@@ -24,22 +26,21 @@ pub struct DirectAsked {
 }
 
 // Questions 6 and 7 of a direct call, and its server.
-fn direct_asked(area: &[u8], f: Capacity, server: u64) -> Result<DirectAsked, Refusal>
-    requires { Inside area.now f }
-    ensures { AsksDirect area.now f server result }
+fn direct_asked(area: &Lent<'_>, server: u64) -> Result<DirectAsked, Refusal>
+    ensures { (AsksDirect of area.now) server result }
 {
-    let open = state_header::open_of(area, f);
+    let open = state_header::open_of(area);
     if open.phase != 0 {
         return Err(Refusal::Phase);
     }
     if server < 1 {
         return Err(Refusal::UnknownServer);
     }
-    if f.servers < server {
+    if area.counts.servers < server {
         return Err(Refusal::UnknownServer);
     }
     let slot = server - 1;
-    let status = state_server::status_of(area, f, slot as usize);
+    let status = state_server::status_of(area, slot as usize);
     Ok(DirectAsked {
         slot,
         running: state_server::runs(status),
@@ -60,16 +61,10 @@ fn timer_given(timer: u64) -> Timer
 }
 
 // What firing a timer will do, or the refusal.
-fn fire_timer_plan(
-    area: &[u8],
-    f: Capacity,
-    server: u64,
-    timer: u64,
-) -> Result<DirectAsked, Refusal>
-    requires { Inside area.now f }
-    ensures { FirePlanned area.now f server timer result }
+fn fire_timer_plan(area: &Lent<'_>, server: u64, timer: u64) -> Result<DirectAsked, Refusal>
+    ensures { (FirePlanned of area.now) server timer result }
 {
-    let asked = direct_asked(area, f, server)?;
+    let asked = direct_asked(area, server)?;
     if 1 < timer {
         return Err(Refusal::Argument);
     }
@@ -77,9 +72,8 @@ fn fire_timer_plan(
 }
 
 // The timer's input opens.
-fn open_timer(area: &mut [u8], f: Capacity, slot: u64)
-    requires { Inside area.old f }
-    ensures { OpensTimer area.old area.new f slot }
+fn open_timer(area: &mut LentMut<'_>, slot: u64)
+    ensures { Changes area.old area.new (timer_open slot) }
 {
     let input = OpenInput {
         phase: 1,
@@ -93,7 +87,7 @@ fn open_timer(area: &mut [u8], f: Capacity, slot: u64)
         owed: 0,
         next: 0,
     };
-    state_header::set_open(area, f, input);
+    state_header::set_open(area, input);
 }
 
 // The input that a timer fired now opens, whether or not it is pending: a stopped server does nothing.
@@ -107,11 +101,19 @@ fn fired(
     ensures { (opened_answer result, area.new) ≡ call opened_no opened_yes area.old (fire_timer server timer) }
 {
     let f = g?;
-    let p = fire_timer_plan(area, f, server, timer)?;
+    let lent = Lent {
+        bytes: area,
+        counts: f,
+    };
+    let p = fire_timer_plan(&lent, server, timer)?;
     if !p.running {
         return Ok(answers::no_input());
     }
-    open_timer(area, f, p.slot);
+    let mut area = LentMut {
+        bytes: area,
+        counts: f,
+    };
+    open_timer(&mut area, p.slot);
     Ok(opened::timer_input(NodeId(server), timer_given(timer)))
 }
 

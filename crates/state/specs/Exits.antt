@@ -159,3 +159,7 @@ module _ {A R : Type 0} (no : ℕ → R) (say : A → R) (b : List ℕ) (f : Sta
 
         pub call_done : (b' : List ℕ) (r : R) (v : P) → c ≡ Ok v → Changes b b' F (op v) → r ≡ say (a v) → (r, b') ≡ call no say b f
         call_done b' r v e k er = code_done (a v) (op v) (λ s h ef. sym (ap answer_number e) ∙ p.code s h ef) (p.gives v e) b' r k er
+
+-- what an area's struct held when it was given back
+pub given_back : {R : Type 0} {r : R} {x : List ℕ} {z : R × List ℕ} (y : List ℕ) → (r, y) ≡ z → x ≡ y → (r, x) ≡ z
+given_back y e q = cc

@@ -20,3 +20,4 @@ pub mod Lens
 pub mod Call
 pub mod Exits
 pub mod Branches
+pub mod Lent

@@ -5,6 +5,7 @@
 pub mod sizes; // how long the parts are and where they begin
 pub mod header; // the structs of the header
 pub mod server; // the fixed part of a server's block
+pub mod lent; // an area with its counts
 
 use config::Limits;
 use protocol::Status;

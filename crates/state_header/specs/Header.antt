@@ -9,9 +9,11 @@ use Rattle.metrics.specs.declared.Metrics.{Metrics}
 use Rattle.model.specs.State.{State, Phase}
 use Rattle.model.specs.Fields.{with_now, with_workload, with_max_log_gaps, with_direct_seq, with_events, with_network, with_metrics, with_phase}
 use Rattle.state.specs.declared.Capacity.{Capacity}
+use Rattle.state.specs.declared.lent.LentMut.{LentMut}
 use Rattle.state.specs.declared.OpenInput.{OpenInput}
 use Rattle.state.specs.Parts.{open_of, phase_slot}
-use Rattle.state.specs.Changes.{Changes}
+use Rattle.state.specs.Changes as listed
+use Rattle.state.specs.Lent.{Same}
 
 -- The settings of a state.
 unfoldable pub settings_of : State → SimConfig
@@ -69,6 +71,10 @@ metrics_set m s = with_metrics s m
 unfoldable pub phase_set : Phase → State → State
 phase_set p s = with_phase s p
 
--- The numbers of a phase were stored: whatever phase has them, the area holds the state in that phase.
-pub record SetsPhase (b b' : List ℕ) (F : Capacity) (r : OpenInput) : Type 0 where
-  pub to : (p : Phase) → r ≡ open_of p → Changes b b' F (phase_set p)
+-- The numbers of a phase were stored: whatever phase has them, the bytes hold the state in that phase.
+pub record PhaseStored (b b' : List ℕ) (F : Capacity) (r : OpenInput) : Type 0 where
+  pub to : (p : Phase) → r ≡ open_of p → listed.Changes b b' F (phase_set p)
+
+-- The same of an area.
+abbrev pub SetsPhase : LentMut → LentMut → OpenInput → Type 0
+SetsPhase a a' r = PhaseStored a.bytes.now a'.bytes.now a.counts r × Same a a'

@@ -40,7 +40,7 @@ use Rattle.state.specs.Encode.{contents}
 use Rattle.state.specs.FitsBy.{fits_one, fits_test}
 use Rattle.state.specs.Changes.{Inside, AreaOf, Changes, Reads}
 use Rattle.state.specs.Puts.{one_put, word_put}
-use Rattle.state_header.specs.Header.{settings_of, delay_of, network_of, metrics_of, now_set, workload_set, max_log_gaps_set, direct_seq_set, events_set, network_set, metrics_set, phase_set, SetsPhase}
+use Rattle.state_header.specs.Header.{settings_of, delay_of, network_of, metrics_of, now_set, workload_set, max_log_gaps_set, direct_seq_set, events_set, network_set, metrics_set, phase_set, PhaseStored}
 
 -- ---- getters
 
@@ -122,7 +122,7 @@ module _ (b ys : List ℕ) (F : Capacity) where
     to = λ s r h t. one_put h (metrics_set m s) 4 ys (omega arith) refl (ap (λ (y : List ℕ). set (contents s) 4 y) (p.to s.config.servers (fits_test (metrics_set m s) t 12)).is) t;
   }
 
-  pub phase_put : (o : OpenInput) → ys ≡ bytes (open_words o) → SetsPhase b (take 584 b ++ (ys ++ drop (664 - 584) (drop 584 b))) F o
+  pub phase_put : (o : OpenInput) → ys ≡ bytes (open_words o) → PhaseStored b (take 584 b ++ (ys ++ drop (664 - 584) (drop 584 b))) F o
   unfolding phase_set
   phase_put o e = record {
     to = λ p ep. record {

@@ -5,49 +5,47 @@
 ghost use Rattle.std.specs.Prelude.{◌≡◌, ◌+◌, ◌*◌, ◌<◌, length};
 ghost use Rattle.model.specs.Simulation.{leader_of};
 ghost use Rattle.state.specs.Parts.{bool_number};
-ghost use Rattle.state.specs.Changes.{Inside, Changes, Reads};
+ghost use Rattle.state.specs.Lent.{Changes, Reads, Same, ◌of◌};
 ghost use Rattle.state_server.specs.Servers.{BlockIn, server_state_at, status_at, status_runs, server_state_set, StoresState, PendingIn, PendingCount, Counts, pending_has, pending_room, registered, forgotten, pending_cleared, after_server};
 
 use client::ClientKey;
 use layout::keys;
 use leader::{Leading, Reported};
 use protocol::Status;
-use state::{Capacity, ServerState, server, sizes};
+use state::lent::{Lent, LentMut};
+use state::{ServerState, server, sizes};
 use units::NodeId;
 
 // ---- the fixed part
 
 // The word at which the block of a server begins.
-fn block_in(area: &[u8], f: Capacity, k: usize) -> usize
-    requires inside { Inside area.now f }
-    requires k_lt_servers { k < f.servers }
-    ensures { BlockIn area.now f k result }
+fn block_in(area: &Lent<'_>, k: usize) -> usize
+    requires k_lt_servers { k < area.now.counts.servers }
+    ensures { (BlockIn of area.now) k result }
 {
-    sizes::block_at(f, k)
+    sizes::block_at(area.counts, k)
 }
 
 // A server without its storage and its pending keys, of which it has the count.
-pub fn server_of(area: &[u8], f: Capacity, k: usize) -> ServerState
-    requires inside { Inside area.now f }
-    requires k_lt_servers { k < f.servers }
-    ensures { Reads area.now f result (server_state_at k) }
+pub fn server_of(area: &Lent<'_>, k: usize) -> ServerState
+    requires k_lt_servers { k < area.now.counts.servers }
+    ensures { Reads area.now result (server_state_at k) }
 {
-    let at = block_in(area, f, k);
+    let at = block_in(area, k);
     let a = 8 * at + 64;
     let e = 8 * at + 176;
-    server::load_server_state(&area[a..e])
+    server::load_server_state(&area.bytes[a..e])
 }
 
 // Its status alone.
-pub fn status_of(area: &[u8], f: Capacity, k: usize) -> Option<Status>
-    requires inside { Inside area.now f }
-    requires k_lt_servers { k < f.servers }
-    ensures { Reads area.now f result (status_at k) }
+pub fn status_of(area: &Lent<'_>, k: usize) -> Option<Status>
+    requires k_lt_servers { k < area.now.counts.servers }
+    ensures { Reads area.now result (status_at k) }
 {
-    let at = block_in(area, f, k);
+    let at = block_in(area, k);
     let a = 8 * at + 64;
     let e = 8 * at + 176;
-    server::load_status(&area[a..e])
+    server::load_status(&area.bytes[a..e])
 }
 
 // Whether a server runs: it has a status.
@@ -91,43 +89,41 @@ fn store_state(s: &mut [u8], x: ServerState)
 }
 
 // Another state of a server: its storage and its pending keys stay, and `x.pending` is not looked at.
-pub fn set_server(area: &mut [u8], f: Capacity, k: usize, x: ServerState)
-    requires inside { Inside area.old f }
-    requires k_lt_servers { k < f.servers }
-    ensures { Changes area.old area.new f (server_state_set k x) }
+pub fn set_server(area: &mut LentMut<'_>, k: usize, x: ServerState)
+    requires k_lt_servers { k < area.old.counts.servers }
+    ensures { Changes area.old area.new (server_state_set k x) }
 {
-    let at = block_in(area, f, k);
+    let lent = area.view();
+    let at = block_in(&lent, k);
     let a = 8 * at + 64;
     let e = 8 * at + 176;
-    store_state(&mut area[a..e], x);
+    store_state(&mut area.bytes[a..e], x);
 }
 
 // ---- the pending keys: the commands of clients that a server has accepted and not yet applied, a table of at most H rows at the end of its
 // block; their count is a word of the fixed part
 
 // The byte at which a server's pending keys begin.
-fn pending_in(area: &[u8], f: Capacity, k: usize) -> usize
-    requires inside { Inside area.now f }
-    requires k_lt_servers { k < f.servers }
-    ensures { PendingIn area.now f k result }
+fn pending_in(area: &Lent<'_>, k: usize) -> usize
+    requires k_lt_servers { k < area.now.counts.servers }
+    ensures { (PendingIn of area.now) k result }
 {
-    let at = sizes::block_at(f, k);
-    let z = sizes::block_words(f);
-    let limits = f.limits;
+    let at = sizes::block_at(area.counts, k);
+    let z = sizes::block_words(area.counts);
+    let limits = area.counts.limits;
     8 * (at + z - limits.history as usize * 2)
 }
 
 // How many they are.
-fn pending_count(area: &[u8], f: Capacity, k: usize) -> usize
-    requires inside { Inside area.now f }
-    requires k_lt_servers { k < f.servers }
-    ensures { PendingCount area.now f k result }
+fn pending_count(area: &Lent<'_>, k: usize) -> usize
+    requires k_lt_servers { k < area.now.counts.servers }
+    ensures { (PendingCount of area.now) k result }
 {
-    let at = block_in(area, f, k);
-    let limits = f.limits;
+    let at = block_in(area, k);
+    let limits = area.counts.limits;
     let a = 8 * at + 64;
     let e = 8 * at + 176;
-    let n = words::load(&area[a..e], 11);
+    let n = words::load(&area.bytes[a..e], 11);
     if limits.history < n {
         return 0;
     }
@@ -135,85 +131,83 @@ fn pending_count(area: &[u8], f: Capacity, k: usize) -> usize
 }
 
 // Writes how many they are.
-fn store_count(area: &mut [u8], f: Capacity, k: usize, n: usize)
-    requires inside { Inside area.old f }
-    requires k_lt_servers { k < f.servers }
-    ensures { Counts area.old area.new f k n }
+fn store_count(area: &mut LentMut<'_>, k: usize, n: usize)
+    requires k_lt_servers { k < area.old.counts.servers }
+    ensures { Counts area.old.bytes.now area.new.bytes.now area.old.counts k n × Same area.old area.new }
 {
-    let at = block_in(area, f, k);
+    let lent = area.view();
+    let at = block_in(&lent, k);
     let a = 8 * at + 64;
     let e = 8 * at + 176;
-    words::store(&mut area[a..e], 11, n as u64);
+    words::store(&mut area.bytes[a..e], 11, n as u64);
 }
 
 // Whether a key is registered.
-pub fn has_pending(area: &[u8], f: Capacity, k: usize, key: ClientKey) -> bool
-    requires inside { Inside area.now f }
-    requires k_lt_servers { k < f.servers }
-    ensures { Reads area.now f result (pending_has k key) }
+pub fn has_pending(area: &Lent<'_>, k: usize, key: ClientKey) -> bool
+    requires k_lt_servers { k < area.now.counts.servers }
+    ensures { Reads area.now result (pending_has k key) }
 {
-    let n = pending_count(area, f, k);
-    let limits = f.limits;
-    let a = pending_in(area, f, k);
+    let n = pending_count(area, k);
+    let limits = area.counts.limits;
+    let a = pending_in(area, k);
     let e = a + 16 * limits.history as usize;
-    keys::contains(&area[a..e], n, key)
+    keys::contains(&area.bytes[a..e], n, key)
 }
 
 // Whether the keys with this one are at most H; one that is registered already needs no room.
-pub fn pending_room(area: &[u8], f: Capacity, k: usize, key: ClientKey) -> bool
-    requires inside { Inside area.now f }
-    requires k_lt_servers { k < f.servers }
-    ensures { Reads area.now f result (pending_room k key) }
+pub fn pending_room(area: &Lent<'_>, k: usize, key: ClientKey) -> bool
+    requires k_lt_servers { k < area.now.counts.servers }
+    ensures { Reads area.now result (pending_room k key) }
 {
-    let n = pending_count(area, f, k);
-    let limits = f.limits;
-    let known = has_pending(area, f, k, key);
+    let n = pending_count(area, k);
+    let limits = area.counts.limits;
+    let known = has_pending(area, k, key);
     known | (n < limits.history as usize)
 }
 
 // Registers a key, unless it is registered already.
-pub fn register(area: &mut [u8], f: Capacity, k: usize, key: ClientKey)
-    requires inside { Inside area.old f }
-    requires k_lt_servers { k < f.servers }
-    ensures { Changes area.old area.new f (registered k key) }
+pub fn register(area: &mut LentMut<'_>, k: usize, key: ClientKey)
+    requires k_lt_servers { k < area.old.counts.servers }
+    ensures { Changes area.old area.new (registered k key) }
 {
-    let n = pending_count(area, f, k);
-    let limits = f.limits;
+    let lent = area.view();
+    let n = pending_count(&lent, k);
+    let limits = area.counts.limits;
     let room = limits.history as usize;
-    let a = pending_in(area, f, k);
+    let a = pending_in(&lent, k);
     let e = a + 16 * room;
-    match keys::insert(&mut area[a..e], n, room, key) {
-        Ok(m) => store_count(area, f, k, m),
+    match keys::insert(&mut area.bytes[a..e], n, room, key) {
+        Ok(m) => store_count(area, k, m),
         Err(_) => {}
     }
 }
 
 // Takes a key out, if it is registered.
-pub fn forget(area: &mut [u8], f: Capacity, k: usize, key: ClientKey)
-    requires inside { Inside area.old f }
-    requires k_lt_servers { k < f.servers }
-    ensures { Changes area.old area.new f (forgotten k key) }
+pub fn forget(area: &mut LentMut<'_>, k: usize, key: ClientKey)
+    requires k_lt_servers { k < area.old.counts.servers }
+    ensures { Changes area.old area.new (forgotten k key) }
 {
-    let n = pending_count(area, f, k);
-    let limits = f.limits;
-    let a = pending_in(area, f, k);
+    let lent = area.view();
+    let n = pending_count(&lent, k);
+    let limits = area.counts.limits;
+    let a = pending_in(&lent, k);
     let e = a + 16 * limits.history as usize;
-    let m = keys::remove(&mut area[a..e], n, key);
-    store_count(area, f, k, m);
+    let m = keys::remove(&mut area.bytes[a..e], n, key);
+    store_count(area, k, m);
 }
 
 // Takes all keys out.
-pub fn clear_pending(area: &mut [u8], f: Capacity, k: usize)
-    requires inside { Inside area.old f }
-    requires k_lt_servers { k < f.servers }
-    ensures { Changes area.old area.new f (pending_cleared k) }
+pub fn clear_pending(area: &mut LentMut<'_>, k: usize)
+    requires k_lt_servers { k < area.old.counts.servers }
+    ensures { Changes area.old area.new (pending_cleared k) }
 {
-    let n = pending_count(area, f, k);
-    let limits = f.limits;
-    let a = pending_in(area, f, k);
+    let lent = area.view();
+    let n = pending_count(&lent, k);
+    let limits = area.counts.limits;
+    let a = pending_in(&lent, k);
     let e = a + 16 * limits.history as usize;
-    words::fill_zero(&mut area[a..e], 0, 16 * n);
-    store_count(area, f, k, 0);
+    words::fill_zero(&mut area.bytes[a..e], 0, 16 * n);
+    store_count(area, k, 0);
 }
 
 // ---- the leader
@@ -233,14 +227,13 @@ fn after_server(best: Option<Leading>, k: usize, status: Option<Status>) -> Opti
 }
 
 // The running server that leads the highest term, and among equals the last, with that term.
-pub fn leader_of(area: &[u8], f: Capacity) -> Option<Leading>
-    requires { Inside area.now f }
-    ensures { Reads area.now f result leader_of }
+pub fn leader_of(area: &Lent<'_>) -> Option<Leading>
+    ensures { Reads area.now result leader_of }
 {
-    let n = f.servers as usize;
+    let n = area.counts.servers as usize;
     let mut best = None;
     for k in 0..n {
-        let status = status_of(area, f, k);
+        let status = status_of(area, k);
         best = after_server(best, k, status);
     }
     best

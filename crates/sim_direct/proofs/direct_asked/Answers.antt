@@ -1,4 +1,4 @@
--- Made by tools/uniform from proofs.txt, not by hand: a96cfd1cfbab75c2
+-- Made by tools/uniform from proofs.txt, not by hand: e7d2c7783b2378a0
 use Rattle.sim_direct.specs.Laws.{asked_open, asked_low, asked_high, asked_yes_lem}
 use borrow.Author.Rules.{rules}
 use Rattle.sim_direct.proofs.direct_asked.Goals as goal
@@ -9,8 +9,8 @@ returns-then-open-ne0 c = search (asked_open, asked_low, asked_high, asked_yes_l
 pub returns-then-server-lt1 : goal.returns-then-server-lt1
 returns-then-server-lt1 c = search (asked_open, asked_low, asked_high, asked_yes_lem, rules)
 
-pub returns-then-f-server : goal.returns-then-f-server
-returns-then-f-server c = search (asked_open, asked_low, asked_high, asked_yes_lem, rules)
+pub returns-then-area-server : goal.returns-then-area-server
+returns-then-area-server c = search (asked_open, asked_low, asked_high, asked_yes_lem, rules)
 
 pub returns : goal.returns
 returns c = search (asked_open, asked_low, asked_high, asked_yes_lem, rules)

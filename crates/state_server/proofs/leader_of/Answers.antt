@@ -1,5 +1,4 @@
--- Made by tools/uniform from proofs.txt, not by hand: 0f6e5f5e8745b3bd
-use Prim.Native.Nat.{◌-◌}
+-- Made by tools/uniform from proofs.txt, not by hand: 844a1d8979d36b9d
 use Rattle.state_server.specs.Laws.{choosing, choosing_start, choosing_turn}
 use borrow.Author.Rules.{rules}
 use Rattle.state_server.proofs.leader_of.Goals as goal

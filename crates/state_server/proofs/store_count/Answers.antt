@@ -1,6 +1,7 @@
--- Made by tools/uniform from proofs.txt, not by hand: 89379e22eecf33e2
+-- Made by tools/uniform from proofs.txt, not by hand: d4cdd789baa402f3
 use Rattle.state_server.specs.Laws.{count_stored}
+use borrow.Author.Rules.{rules}
 use Rattle.state_server.proofs.store_count.Goals as goal
 
 pub returns : goal.returns
-returns c = count_stored _ _ _ _ _ c.requires.k_lt_servers c.block_in-at.ensures _ c.store.ensures
+returns c = search (count_stored, rules)

@@ -1,5 +1,5 @@
--- Made by tools/uniform from proofs.txt, not by hand: 25c0c0864ca783d7
-use Rattle.state.specs.Exits.{ok_branch, err_returned, inside_of, call_shut}
+-- Made by tools/uniform from proofs.txt, not by hand: d1bc0d898806d4a7
+use Rattle.state.specs.Exits.{ok_branch, err_returned, call_shut, given_back}
 use Rattle.sim_direct.specs.AskedLaws.{confirm_no, confirm_none, confirm_opened}
 use borrow.Author.Rules.{rules}
 use Rattle.sim_direct.proofs.asked.confirmed.Goals as goal
@@ -7,17 +7,11 @@ use Rattle.sim_direct.proofs.asked.confirmed.Goals as goal
 pub returns-in_err-f : goal.returns-in_err-f
 returns-in_err-f c = search (call_shut, c.in_err-f.was, err_returned c.from_residual.ensures.1, rules)
 
-pub confirm_plan-requires : goal.confirm_plan-requires
-confirm_plan-requires c = search (inside_of, ok_branch, rules)
-
 pub returns-in_err-p : goal.returns-in_err-p
 returns-in_err-p c = search (confirm_no, c.in_ok-f.was, c.in_err-p.was, err_returned c.from_residual-in_err-p.ensures.1, rules)
 
 pub returns-then-not-p : goal.returns-then-not-p
 returns-then-not-p c = search (confirm_none, ok_branch, rules)
 
-pub open_confirmation-requires : goal.open_confirmation-requires
-open_confirmation-requires c = search (inside_of, ok_branch, rules)
-
 pub returns : goal.returns
-returns c = search (confirm_opened, ok_branch, rules)
+returns c = given_back c.open_confirmation.new.area.bytes.now (search (confirm_opened, ok_branch, rules)) (search rules)
