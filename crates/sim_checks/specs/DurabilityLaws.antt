@@ -13,7 +13,8 @@ use Rattle.units.specs.declared.LogIndex.{LogIndex}
 use Rattle.units.specs.declared.refusal.Refusal.{Refusal}
 use Rattle.units.specs.declared.refusal.Refusal.TheVariants as question
 use Rattle.units.specs.declared.refusal.Refusal.TheVariants.{Room}
-use Rattle.units.specs.Refusals.{refusal_number}
+use Rattle.units.specs.Refusals.{refusal_number, answer_number}
+use Rattle.checks.specs.AskedLaws.{picked_ok}
 use Rattle.units.specs.declared.SimTime.{SimTime}
 use Rattle.checks.specs.Checks.{Acknowledged, AppliedUpTo, check_acknowledged, check_applied_up_to, check_durability}
 use Rattle.checks_durability.specs.declared.replies.Reply.{Reply}
@@ -47,26 +48,29 @@ module _ (b : List ℕ) (F : Capacity) (c : Bool) (q : Reads b F c closed_of) wh
   unfolding check_durability_call after_durability acknowledged_of
   durability_open n = record { plan = check_open q check_durability_call after_durability (λ s. refl) durability_checked n }
 
-  module _ (n : not c ≡ false) (r : DurabilityAsked) (p : Asks b F (DurabilityTold r)) where
-    ten : (t : Bool) (m : ℕ) → m ≡ pick t 0 10 → 0 < m → ◌≡◌ {A = ℕ} 10 (pick t 0 10)
-    ten true m e l = absurd (omega arith)
-    ten false m e l = refl
+  module _ (r : Result DurabilityAsked Refusal) (n : not c ≡ false) (p : Asks b F (DurabilityTold r)) where
+    number : (t : Bool) (a : DurabilityAsked) → answer_number (pick t (Ok a) (Err Room)) ≡ pick t 0 10
+    number true a = refl
+    number false a = refl
 
-    pub durability_full : 0 < r.code → DurabilityPlanned b F (Err Room)
+    pub durability_full : (refusal : Refusal) → r ≡ Err refusal → DurabilityPlanned b F (Err refusal)
     unfolding check_durability_call after_durability acknowledged_of checker_code
-    durability_full l = record {
-      plan = check_asked q check_durability_call after_durability (λ s. refl) n (Err Room)
-          (λ s h ef. ten (checker_fits s.config s.limits (after_durability s)) r.code (p.to s h ef).code l)
-          durability_checked (λ v e s h ef. absurd cc);
+    durability_full refusal e = record {
+      plan = check_asked q check_durability_call after_durability (λ s. refl) n (Err refusal)
+          (λ s h ef. sym (ap answer_number e) ∙ ap answer_number (p.to s h ef).is ∙ number (checker_fits s.config s.limits (after_durability s)) (p.to s h ef).asked)
+          durability_checked (λ v o s h ef. absurd cc);
     }
 
-    pub durability_planned : r.code ≤ 0 → DurabilityPlanned b F (Ok r.highest)
-    unfolding check_durability_call after_durability acknowledged_of durability_checked check_durability
-    durability_planned l = record {
-      plan = check_asked q check_durability_call after_durability (λ s. refl) n (Ok r.highest)
-          (λ s h ef. let z : 0 ≡ r.code = omega arith in z ∙ (p.to s h ef).code)
+    pub durability_planned : (a : DurabilityAsked) → r ≡ Ok a → DurabilityPlanned b F (Ok a.highest)
+    unfolding check_durability_call after_durability acknowledged_of durability_checked check_durability checker_code
+    durability_planned a e = record {
+      plan = check_asked q check_durability_call after_durability (λ s. refl) n (Ok a.highest)
+          (λ s h ef. sym (ap answer_number e) ∙ ap answer_number (p.to s h ef).is ∙ number (checker_fits s.config s.limits (after_durability s)) (p.to s h ef).asked)
           durability_checked
-          (λ v e s h ef. ap (λ (m : ℕ). durability_checked m s) (sym (p.to s h ef).highest ∙ ok_same e));
+          (λ v o s h ef.
+          let w = p.to s h ef in
+          let same = (picked_ok (checker_fits s.config s.limits (after_durability s)) w.asked a (sym e ∙ w.is)).1 in
+          ap (λ (m : ℕ). durability_checked m s) (sym w.highest ∙ ap (λ (x : DurabilityAsked). x.highest) same ∙ ok_same o));
     }
 
 -- ---- one reply, one server

@@ -23,10 +23,7 @@ fn durability_plan(area: &[u8], f: Capacity) -> Result<u64, Refusal>
     if !is_closed(area, f) {
         return Err(Refusal::Phase);
     }
-    let asked = durability::durability_asked(area, f);
-    if 0 < asked.code {
-        return Err(Refusal::Room);
-    }
+    let asked = durability::durability_asked(area, f)?;
     Ok(asked.highest)
 }
 

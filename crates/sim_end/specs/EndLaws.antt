@@ -1,5 +1,5 @@
 -- What the proofs of the act and of the call cite, and question 10 of an end. Assumes nothing.
-use Rattle.std.specs.Prelude.{◌≡◌, false, not, List, ℕ, zero, suc, ◌+◌, ◌≤◌, ◌<◌, eqb, leb, Result, Ok, Err}
+use Rattle.std.specs.Prelude.{◌≡◌, false, not, List, ℕ, zero, suc, ◌+◌, ◌≤◌, ◌<◌, eqb, leb, Option, Result, Ok, Err}
 use Rattle.std.proofs.Math.Path.{refl, sym, ap, ap₂, subst}
 use Rattle.std.proofs.Common.{◌∙◌, eqb-true, eq-eqb}
 use Rattle.std.proofs.Math.Bool.{Bool, true}
@@ -53,7 +53,7 @@ use Rattle.sim_owed.specs.Closes.{flags_of, close_at, close_test, Agrees}
 use Rattle.sim_owed.specs.ServerLaws.{opens_after}
 use Rattle.sim_owed.specs.Fits.{map_kept, agrees_one, fits_close, before_close}
 use Rattle.sim_end.specs.Ends.{status_of, status_in, GivesStatus, end_code, end_room, status_ended, end_at, end_ten, EndsAt}
-use Rattle.sim_end.specs.StatusLaws.{led_term, with_end, fits_ended, kept_ended}
+use Rattle.sim_end.specs.StatusLaws.{led_term, with_end, told_led, told_fits, fits_ended, kept_ended}
 
 -- ---- what agrees behind a redirect
 
@@ -166,8 +166,8 @@ module _ {b : List ℕ} {s : State} (h : Area b s) (o : OpenInput) (eo : o ≡ o
 
 -- ---- the act
 
-pub end_acts : (b b₁ b₂ b₃ : List ℕ) (F : Capacity) (o : OpenInput) (x : Status) (r : StatusAsked) (owed : OwedKind) (n : InputNumbers) → o.slot < F.servers → Reads b F o (λ s. open_of (phase_of s))
-    → status_in x ≡ true → Asks b F (StatusTold o.slot x r) → Changes b b₁ F (status_ended o.slot x) → Changes b₁ b₂ F (redirected o) → owed_of owed ≡ owed_in o.owed o.next
+pub end_acts : (b b₁ b₂ b₃ : List ℕ) (F : Capacity) (o : OpenInput) (x : Status) (r : Option StatusAsked) (owed : OwedKind) (n : InputNumbers) → o.slot < F.servers → Reads b F o (λ s. open_of (phase_of s))
+    → status_in x ≡ true → Asks b F (StatusTold o.slot x (Ok r)) → Changes b b₁ F (status_ended o.slot x) → Changes b₁ b₂ F (redirected o) → owed_of owed ≡ owed_in o.owed o.next
     → Opens b₂ b₃ F n (close_at (owed_of owed)) → Opens b b₃ F n (end_at o x)
 unfolding end_at
 end_acts b b₁ b₂ b₃ F o x r owed n i q w a p₁ p₂ eo p₃ =
@@ -176,39 +176,43 @@ end_acts b b₁ b₂ b₃ F o x r owed n i q w a p₁ p₂ eo p₃ =
     record {
       to = λ s l h t.
           p₂.to (status_ended o.slot x s) l
-          (p₁.to s l h (fits_status h.area o (q.to s h.area h.capacity) x r.leads (below s h.capacity) w (a.to s h.area h.capacity).led t)) t;
+          (p₁.to s l h (fits_status h.area o (q.to s h.area h.capacity) x (is_some r) (below s h.capacity) w (told_led (a.to s h.area h.capacity) (is_some r) refl) t)) t;
     } in
     opens_after (λ s. redirected o (status_ended o.slot x s)) (close_at (owed_of owed)) (end_at o x) both p₃
-    (λ s h ef t. (ap (λ (y : Owed). close_at y (redirected o (status_ended o.slot x s))) eo, fits_told h o (q.to s h ef) x r.leads (below s ef) w (a.to s h ef).led t))
+    (λ s h ef t. (ap (λ (y : Owed). close_at y (redirected o (status_ended o.slot x s))) eo, fits_told h o (q.to s h ef) x (is_some r) (below s ef) w (told_led (a.to s h ef) (is_some r) refl) t))
 
 -- ---- question 10 asked
 
-module _ (b : List ℕ) (F : Capacity) (o : OpenInput) (x : Status) (r : StatusAsked) (i : o.slot < F.servers) (q : Reads b F o (λ s. open_of (phase_of s))) (w : status_in x ≡ true)
-    (a : Asks b F (StatusTold o.slot x r)) where
+pub told_ok : {b : List ℕ} {F : Capacity} {k : ℕ} {x : Status} {r : Result (Option StatusAsked) Refusal} (y : Option StatusAsked) → r ≡ Ok y
+    → Asks b F (StatusTold k x r) → Asks b F (StatusTold k x (Ok y))
+told_ok {b} {F} {k} {x} y e a = subst (λ (u : Result (Option StatusAsked) Refusal). Asks b F (StatusTold k x u)) e a
+
+module _ (b : List ℕ) (F : Capacity) (o : OpenInput) (x : Status) (r : Result (Option StatusAsked) Refusal) (i : o.slot < F.servers) (q : Reads b F o (λ s. open_of (phase_of s)))
+    (w : status_in x ≡ true) (a : Asks b F (StatusTold o.slot x r)) where
   ten_is : (s : State) → Area b s → F ≡ capacity_of s → end_ten o x s ≡ pick (end_room o s and checker_fits s.config s.limits (after_status o.slot x s).checker) 0 10
   unfolding end_ten
-  ten_is s h ef = ap (λ (t : Bool). pick t 0 10) (fits_end h o (q.to s h ef) x r.leads (subst (λ (G : Capacity). o.slot < G.servers) ef i) w (a.to s h ef).led)
+  ten_is s h ef =
+      let t = a.to s h ef in
+      ap (λ (u : Bool). pick u 0 10) (fits_end h o (q.to s h ef) x (is_some t.asked) (subst (λ (G : Capacity). o.slot < G.servers) ef i) w t.led)
 
-  code_is : (s : State) → Area b s → F ≡ capacity_of s → r.code ≡ pick (checker_fits s.config s.limits (after_status o.slot x s).checker) 0 10
-  unfolding checker_code
-  code_is s h ef = (a.to s h ef).code
+  past : (fits room : Bool) (y : Option StatusAsked) (refusal : Refusal) → Err refusal ≡ pick fits (Ok y) (Err Room)
+      → refusal_number refusal ≡ pick (room and fits) 0 10
+  past true room y refusal e = absurd cc
+  past false room y refusal e =
+      let same : refusal ≡ Room = cc in
+      ap refusal_number same ∙ sym (ap (λ (t : Bool). pick t 0 10) (and_no room false refl))
 
-  past : (fits : Bool) (n : ℕ) → n ≡ pick fits 0 10 → 0 < n → (room : Bool) → ◌≡◌ {A = ℕ} 10 (pick (room and fits) 0 10)
-  past true n e l room = absurd (omega arith)
-  past false n e l room = sym (ap (λ (t : Bool). pick t 0 10) (and_no room false refl))
-
-  yes : (fits : Bool) (n : ℕ) → n ≡ pick fits 0 10 → n ≤ 0 → fits ≡ true
-  yes true n e l = refl
-  yes false n e l = absurd (omega arith)
-
-  pub at_checks : 0 < r.code → EndsAt b b F o x (Err Room)
-  at_checks l = record {
-    code = record { to = λ s h ef. past _ r.code (code_is s h ef) l (end_room o s) ∙ sym (ten_is s h ef) };
+  pub at_checks : (refusal : Refusal) → r ≡ Err refusal → EndsAt b b F o x (Err refusal)
+  at_checks refusal e = record {
+    code = record { to = λ s h ef. let t = a.to s h ef in past _ (end_room o s) t.asked refusal (sym e ∙ t.is) ∙ sym (ten_is s h ef) };
     opens = λ n e. absurd cc;
     kept = λ z. refl;
   }
 
-  module _ (z : r.code ≤ 0) (room : Bool) (pr : Reads b F room (end_room o)) where
+  module _ (y : Option StatusAsked) (z : r ≡ Ok y) (room : Bool) (pr : Reads b F room (end_room o)) where
+    fitting : (s : State) → Area b s → F ≡ capacity_of s → checker_fits s.config s.limits (after_status o.slot x s).checker ≡ true
+    fitting s h ef = told_fits (subst (λ (u : Result (Option StatusAsked) Refusal). StatusTold o.slot x u s) z (a.to s h ef))
+
     pub at_full : not room ≡ true → EndsAt b b F o x (Err Room)
     at_full n = record {
       code = record { to = λ s h ef. sym (ap (λ (t : Bool). pick t 0 10) (no_and _ _ (sym (pr.to s h ef) ∙ no room n))) ∙ sym (ten_is s h ef) };
@@ -224,7 +228,7 @@ module _ (b : List ℕ) (F : Capacity) (o : OpenInput) (x : Status) (r : StatusA
     at_done b' n t p = record {
       code = record {
         to = λ s h ef.
-            sym (ap₂ (λ (y u : Bool). pick (y and u) 0 10) (sym (pr.to s h ef) ∙ got room t) (yes _ r.code (code_is s h ef) z) ∙ ap (λ (u : Bool). pick u 0 10) (and_true true)) ∙ sym (ten_is s h ef);
+            sym (ap₂ (λ (y u : Bool). pick (y and u) 0 10) (sym (pr.to s h ef) ∙ got room t) (fitting s h ef) ∙ ap (λ (u : Bool). pick u 0 10) (and_true true)) ∙ sym (ten_is s h ef);
       };
       opens = λ i e. subst (λ (m : InputNumbers). Opens b b' F m (end_at o x)) (ok_same e) p;
       kept = λ m. absurd (omega arith);

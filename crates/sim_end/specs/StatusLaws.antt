@@ -1,5 +1,5 @@
 -- What the proofs of a status checked and set cite, and question 10 of it. Assumes nothing.
-use Rattle.std.specs.Prelude.{◌≡◌, refl, Bool, List, [], ◌∷◌, ℕ, suc, ◌+◌, ◌^◌, ◌≤◌, ◌<◌, max, eqb, length, set, Option, None, Some}
+use Rattle.std.specs.Prelude.{◌≡◌, refl, Bool, List, [], ◌∷◌, ℕ, suc, ◌+◌, ◌^◌, ◌≤◌, ◌<◌, max, eqb, length, set, Option, None, Some, Ok}
 use Rattle.std.proofs.Math.Path.{sym, ap, ap₂}
 use Rattle.std.proofs.Common.{subst, ◌∙◌, arith, lt-ltb, ltb-true, eqb-true}
 use Rattle.std.proofs.Math.Bool.{true, false}
@@ -11,6 +11,8 @@ use Rattle.protocol.specs.declared.Status.{Status}
 use Rattle.raft_log.specs.Log.{Log, last_index, gaps}
 use Rattle.queue.specs.Range.{word}
 use Rattle.checks_on_status.specs.declared.StatusAsked.{StatusAsked}
+use Rattle.checks_on_status.specs.OnStatus.{status_acts}
+use Rattle.checks.specs.AskedLaws.{picked_ok}
 use Rattle.model.specs.State.{State, Server, server_at, id_of}
 use Rattle.model.specs.Fields.{with_status, with_leading, with_checker, with_max_log_gaps}
 use Rattle.model.specs.Simulation.{on_server}
@@ -35,16 +37,28 @@ use Rattle.state_checks.specs.FitLaws.{fits_checks}
 use Rattle.state_asks.specs.Asks.{Asks, StatusTold, after_status, raft_checks_of, log_of}
 use Rattle.sim_end.specs.Ends.{status_in, checked_at, term_given, status_put, status_set, gaps_raised, status_ended}
 
+-- ---- an answer that is none of refusal
+
+module _ {k : ℕ} {x : Status} {r : Option StatusAsked} {s : State} (t : StatusTold k x (Ok r) s) where
+  told_asked : t.asked ≡ r
+  told_asked = (picked_ok (checker_fits s.config s.limits (after_status k x s).checker) t.asked r t.is).1
+
+  pub told_fits : checker_fits s.config s.limits (after_status k x s).checker ≡ true
+  told_fits = (picked_ok (checker_fits s.config s.limits (after_status k x s).checker) t.asked r t.is).0
+
 -- ---- the status checked
 
-pub check_acts : (b b' : List ℕ) (F : Capacity) (k : ℕ) (x : Status) (r : StatusAsked) (w : Run) → Asks b F (StatusTold k x r) → Reads b F w run_of
+pub check_acts : (b b' : List ℕ) (F : Capacity) (k : ℕ) (x : Status) (r : Option StatusAsked) (w : Run) → Asks b F (StatusTold k x (Ok r)) → Reads b F w run_of
     → ActsStatus b b' F r w.now (record { 0 = k + 1 }) x → Changes b b' F (checked_at k x)
 unfolding checked_at after_status StatusFlags status_checked
 check_acts b b' F k x r w a pw c = record {
   to = λ s l h fit.
       let now : w.now ≡ s.now = ap (λ (y : Run). y.now) (pw.to s h.area h.capacity) in
       let acts : ActsStatus b b' F r s.now (id_of k) x = subst (λ (t : _). ActsStatus b b' F r t (id_of k) x) now c in
-      (acts.to (raft_checks_of s) (log_of k s) (server_at s k).leading).to s l h (a.to s h.area h.capacity).does fit;
+      let t = a.to s h.area h.capacity in
+      let does : (after_status k x s).checker ≡ status_acts r s.checker s.now (id_of k) x.term =
+      subst (λ (o : Option StatusAsked). (after_status k x s).checker ≡ status_acts o s.checker s.now (id_of k) x.term) (told_asked t) t.does in
+      (acts.to (raft_checks_of s) (log_of k s) (server_at s k).leading).to s l h does fit;
 }
 
 -- ---- the status set
@@ -60,6 +74,10 @@ term_none leads t e = sym (ap (λ (u : Bool). pick u (Some t) None) e)
 -- The term that a status leads, or none.
 abbrev pub led_term : Status → Bool → Option Term
 led_term x leads = pick leads (Some x.term) None
+
+module _ {k : ℕ} {x : Status} {r : Option StatusAsked} {s : State} (t : StatusTold k x (Ok r) s) where
+  pub told_led : (leads : Bool) → leads ≡ is_some r → (after_status k x s).leading ≡ led_term x leads
+  told_led leads e = t.led ∙ ap (λ (u : Bool). led_term x u) (ap is_some told_asked ∙ sym e)
 
 term_is : (x : Status) (leads : Bool) → term_given leads x.term ≡ (led_term x leads)
 unfolding term_given
@@ -204,19 +222,20 @@ module _ (s : State) (k : ℕ) (x : Status) where
       pub kept_ended : ServersFit (status_ended k x s)
       kept_ended = subst (λ (t : State). ServersFit t) (sym (ended_is e)) (raised_servers second (gaps (log_of k s)) (kept_status first k x leads (servers_first h) (below_first i) w))
 
-pub status_acts_lem : (b b₁ b₂ b₃ : List ℕ) (F : Capacity) (k : ℕ) (x : Status) (r : StatusAsked) (n : LogNumbers) → k < F.servers → status_in x ≡ true → Asks b F (StatusTold k x r) → Reads b F n (log_numbers_at k)
-    → Changes b b₁ F (checked_at k x) → Changes b₁ b₂ F (status_set k x r.leads) → Changes b₂ b₃ F (gaps_raised n.gaps) → Changes b b₃ F (status_ended k x)
+pub status_acts_lem : (b b₁ b₂ b₃ : List ℕ) (F : Capacity) (k : ℕ) (x : Status) (r : Option StatusAsked) (leads : Bool) (n : LogNumbers) → k < F.servers → status_in x ≡ true
+    → Asks b F (StatusTold k x (Ok r)) → leads ≡ is_some r → Reads b F n (log_numbers_at k)
+    → Changes b b₁ F (checked_at k x) → Changes b₁ b₂ F (status_set k x leads) → Changes b₂ b₃ F (gaps_raised n.gaps) → Changes b b₃ F (status_ended k x)
 unfolding log_numbers_at log_at log_of
-status_acts_lem b b₁ b₂ b₃ F k x r n i w a q p₁ p₂ p₃ = record {
+status_acts_lem b b₁ b₂ b₃ F k x r leads n i w a el q p₁ p₂ p₃ = record {
   to = λ s l h fit.
       let f : state_fits s ≡ true = area_fits h.area in
       let j : k < s.config.servers = subst (λ (G : Capacity). k < G.servers) h.capacity i in
-      let e : (after_status k x s).leading ≡ led_term x r.leads = (a.to s h.area h.capacity).led in
+      let e : (after_status k x s).leading ≡ led_term x leads = told_led (a.to s h.area h.capacity) leads el in
       let few = (laid_limits h.area.laid).log_indexes in
-      let t₂ : state_fits (status_set k x r.leads (checked_at k x s)) ≡ true = sym (ended_second s k x r.leads (servers_fit_lem s f) j w (fits_test s f 16) few e) ∙ fit in
-      let t₁ : state_fits (checked_at k x s) ≡ true = sym (second_first s k x r.leads (servers_fit_lem s f) j w (fits_test s f 16) few e) ∙ t₂ in
-      let is : gaps_raised n.gaps (status_set k x r.leads (checked_at k x s)) ≡ status_ended k x s =
-      ap (λ (y : LogNumbers). gaps_raised y.gaps (status_set k x r.leads (checked_at k x s))) (q.to s h.area h.capacity) ∙ sym (ended_is s k x r.leads e) in
+      let t₂ : state_fits (status_set k x leads (checked_at k x s)) ≡ true = sym (ended_second s k x leads (servers_fit_lem s f) j w (fits_test s f 16) few e) ∙ fit in
+      let t₁ : state_fits (checked_at k x s) ≡ true = sym (second_first s k x leads (servers_fit_lem s f) j w (fits_test s f 16) few e) ∙ t₂ in
+      let is : gaps_raised n.gaps (status_set k x leads (checked_at k x s)) ≡ status_ended k x s =
+      ap (λ (y : LogNumbers). gaps_raised y.gaps (status_set k x leads (checked_at k x s))) (q.to s h.area h.capacity) ∙ sym (ended_is s k x leads e) in
       subst (λ (u : State). AreaOf b₃ l F u) is
-      (p₃.to (status_set k x r.leads (checked_at k x s)) l (p₂.to (checked_at k x s) l (p₁.to s l h t₁) t₂) (ap state_fits is ∙ fit));
+      (p₃.to (status_set k x leads (checked_at k x s)) l (p₂.to (checked_at k x s) l (p₁.to s l h t₁) t₂) (ap state_fits is ∙ fit));
 }

@@ -2,7 +2,7 @@
 // client's redirect, and what is owed.
 #![tactic(auto)]
 
-ghost use Rattle.std.specs.Prelude.{◌≡◌, true, ◌<◌};
+ghost use Rattle.std.specs.Prelude.{◌≡◌, true, ◌<◌, Ok};
 ghost use Rattle.model.specs.Calls.{role_of, node_option, end};
 ghost use Rattle.state.specs.Parts.{open_of};
 ghost use Rattle.state.specs.Changes.{Inside, Gated, Reads, Changes};
@@ -103,10 +103,16 @@ fn end_room(area: &[u8], f: Capacity, input: OpenInput) -> bool
 // ---- what is done
 
 // The status checked, by the answer to what the checks ask.
-fn check_status(area: &mut [u8], f: Capacity, slot: u64, status: Status, asked: StatusAsked)
+fn check_status(
+    area: &mut [u8],
+    f: Capacity,
+    slot: u64,
+    status: Status,
+    asked: Option<StatusAsked>,
+)
     requires inside { Inside area.old f }
     requires slot_lt_servers { slot < f.servers }
-    requires asks { Asks area.old f (StatusTold slot status asked) }
+    requires asks { Asks area.old f (StatusTold slot status (Ok asked)) }
     ensures { Changes area.old area.new f (checked_at slot status) }
 {
     let run = state_header::run_of(area, f);
@@ -161,16 +167,22 @@ fn raise_gaps(area: &mut [u8], f: Capacity, gaps: u64)
 }
 
 // The status is checked and set, and the gaps of the log counted.
-fn end_status(area: &mut [u8], f: Capacity, slot: u64, status: Status, asked: StatusAsked)
+fn end_status(
+    area: &mut [u8],
+    f: Capacity,
+    slot: u64,
+    status: Status,
+    asked: Option<StatusAsked>,
+)
     requires inside { Inside area.old f }
     requires slot_lt_servers { slot < f.servers }
     requires status_value { status_in status ≡ true }
-    requires asks { Asks area.old f (StatusTold slot status asked) }
+    requires asks { Asks area.old f (StatusTold slot status (Ok asked)) }
     ensures { Changes area.old area.new f (status_ended slot status) }
 {
     let numbers = state_disk::log_numbers(area, f, slot as usize);
     check_status(area, f, slot, status, asked);
-    set_status(area, f, slot, status, asked.leads);
+    set_status(area, f, slot, status, asked.is_some());
     raise_gaps(area, f, numbers.gaps);
 }
 
@@ -180,13 +192,13 @@ fn end_act(
     f: Capacity,
     input: OpenInput,
     status: Status,
-    asked: StatusAsked,
+    asked: Option<StatusAsked>,
 ) -> InputNumbers
     requires inside { Inside area.old f }
     requires slot_lt_servers { input.slot < f.servers }
     requires reads { Reads area.old f input (λ s. open_of (phase_of s)) }
     requires status_value { status_in status ≡ true }
-    requires asks { Asks area.old f (StatusTold input.slot status asked) }
+    requires asks { Asks area.old f (StatusTold input.slot status (Ok asked)) }
     ensures { Opens area.old area.new f result (end_at input status) }
 {
     end_status(area, f, input.slot, status, asked);
@@ -208,10 +220,7 @@ fn end_at(
     requires status_value { status_in status ≡ true }
     ensures { EndsAt area.old area.new f input status result }
 {
-    let asked = state_asks::status::status_asked(area, f, input.slot as usize, status);
-    if 0 < asked.code {
-        return Err(Refusal::Room);
-    }
+    let asked = state_asks::status::status_asked(area, f, input.slot as usize, status)?;
     if !end_room(area, f, input) {
         return Err(Refusal::Room);
     }

@@ -12,7 +12,9 @@ use Rattle.laws.specs.Decides.{false_true}
 use Rattle.units.specs.declared.refusal.Refusal.{Refusal}
 use Rattle.units.specs.Refusals.{refusal_number, answer_number}
 use Rattle.queue.specs.Range.{word}
-use Rattle.storage.specs.Storage.{unsynced}
+use Rattle.storage.specs.Storage.{unsynced, unsynced_bytes}
+use Rattle.std.specs.Bool.{then_some}
+use Rattle.std.specs.Option.{is_some}
 use Rattle.model.specs.State.{State, server_at, direct, from_client, Input, start_input, message_input, timer_input, propose_input, confirm_input, Verdict, accepted, not_leader, Owed, Phase, closed, writing, sending}
 use Rattle.model.specs.Simulation.{no_input}
 use Rattle.model.specs.Calls.{Out, refused, done, ask, is_flag, node_option, while_writing, synced, nothing_to_sync, cut, Sealed, can_be_refused, verdict_of, sealed, seal}
@@ -31,7 +33,6 @@ use Rattle.state.specs.Changes.{Gated, Changes, Reads, judged}
 use Rattle.state.specs.Exits.{ok_same, code_refused, code_done}
 use Rattle.state_header.specs.Header.{phase_of}
 use Rattle.state_server.specs.Servers.{server_state_at}
-use Rattle.state_disk.specs.declared.SyncTold.{SyncTold}
 use Rattle.state_disk.specs.Disks.{unsynced_at}
 use Rattle.answers.specs.declared.InputNumbers.{InputNumbers}
 use Rattle.answers.specs.declared.SealedAnswer.{SealedAnswer}
@@ -126,18 +127,24 @@ pub crashes_read : (b : List ℕ) (F : Capacity) (slot : ℕ) (x : ServerState) 
 unfolding server_state_at crashes_at
 crashes_read b F slot x q = record { to = λ s h ef. ap (λ (y : ServerState). y.crash_on_next_input) (q.to s h ef) }
 
-module _ (b : List ℕ) (F : Capacity) (slot : ℕ) (told : SyncTold) (q : Reads b F told (unsynced_at slot)) where
-  pub outcome_synced : told.wrote ≡ true → Reads b F Synced (ended_at slot)
-  unfolding unsynced_at ended_at
-  outcome_synced t = record {
-    to = λ s h ef. sym (ap (λ (u : Bool). pick u Synced NothingToSync) (sym (ap (λ (x : SyncTold). x.wrote) (q.to s h ef)) ∙ t));
-  }
+told_if : (t : Bool) (n : ℕ) → is_some (then_some t n) ≡ t
+told_if true n = refl
+told_if false n = refl
 
-  pub outcome_none : told.wrote ≡ false → Reads b F NothingToSync (ended_at slot)
-  unfolding unsynced_at ended_at
-  outcome_none t = record {
-    to = λ s h ef. sym (ap (λ (u : Bool). pick u Synced NothingToSync) (sym (ap (λ (x : SyncTold). x.wrote) (q.to s h ef)) ∙ t));
-  }
+module _ (b : List ℕ) (F : Capacity) (slot : ℕ) (told : Option ℕ) (q : Reads b F told (unsynced_at slot)) (y : Bool) (e : y ≡ is_some told) where
+  waits : (s : State) → Area b s → F ≡ capacity_of s → unsynced (server_at s slot).storage ≡ y
+  unfolding unsynced_at
+  waits s h ef =
+      let v = (server_at s slot).storage in
+      sym (told_if (unsynced v) (unsynced_bytes v.waiting)) ∙ sym (ap is_some (q.to s h ef)) ∙ sym e
+
+  pub outcome_synced : y ≡ true → Reads b F Synced (ended_at slot)
+  unfolding ended_at
+  outcome_synced t = record { to = λ s h ef. sym (ap (λ (u : Bool). pick u Synced NothingToSync) (waits s h ef ∙ t)) }
+
+  pub outcome_none : y ≡ false → Reads b F NothingToSync (ended_at slot)
+  unfolding ended_at
+  outcome_none t = record { to = λ s h ef. sym (ap (λ (u : Bool). pick u Synced NothingToSync) (waits s h ef ∙ t)) }
 
 module _ (b : List ℕ) (F : Capacity) (o : OpenInput) (cuts r : Bool) where
   pub fits_cuts : cuts ≡ true → Reads b F r (cut_test o) → Reads b F r (seal_test o cuts)

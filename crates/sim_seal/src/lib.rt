@@ -98,7 +98,7 @@ fn outcome_of(area: &[u8], f: Capacity, slot: u64) -> Sealing
     ensures { Reads area.now f result (ended_at slot) }
 {
     let told = state_disk::unsynced_of(area, f, slot as usize);
-    if told.wrote {
+    if told.is_some() {
         Sealing::Synced
     } else {
         Sealing::NothingToSync

@@ -40,7 +40,6 @@ use Rattle.state.specs.FitsBy.{server_count}
 use Rattle.state.specs.Changes.{Inside, AreaOf, Changes, Reads}
 use Rattle.state.specs.Lens.{area_of, ServerCut, server_contents, server_cut, server_at_held, part_lent, part_put, cut_server, server_in_range, pending_content}
 use Rattle.state_server.specs.Servers.{BlockIn, server_state_at, status_at, status_runs, with_count, with_state, server_state_set, StoresState, PendingIn, pending_at, PendingCount, Counts, pending_has, pending_room, registered, forgotten, pending_cleared, after_server}
-use Rattle.units.specs.declared.Term.{Term}
 use Rattle.leader.specs.declared.Leading.{Leading}
 
 -- ---- places

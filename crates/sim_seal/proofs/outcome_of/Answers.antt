@@ -1,13 +1,10 @@
--- Made by tools/uniform from proofs.txt, not by hand: f7a733938db85217
+-- Made by tools/uniform from proofs.txt, not by hand: 77768e58e01bf830
 use Rattle.sim_seal.specs.SealLaws.{outcome_synced, outcome_none}
 use borrow.Author.Rules.{rules}
 use Rattle.sim_seal.proofs.outcome_of.Goals as goal
 
-pub unsynced_of-told-requires : goal.unsynced_of-told-requires
-unsynced_of-told-requires c = search (outcome_synced, outcome_none, rules)
+pub returns-then-is_some : goal.returns-then-is_some
+returns-then-is_some c = outcome_synced _ _ _ _ c.unsynced_of-told.ensures _ c.is_some.ensures (search rules)
 
-pub returns-then-told : goal.returns-then-told
-returns-then-told c = search (outcome_synced, outcome_none, rules)
-
-pub returns-else-told : goal.returns-else-told
-returns-else-told c = search (outcome_synced, outcome_none, rules)
+pub returns-else-is_some : goal.returns-else-is_some
+returns-else-is_some c = outcome_none _ _ _ _ c.unsynced_of-told.ensures _ c.is_some.ensures (search rules)
