@@ -32,10 +32,8 @@ fn first_applied(area: &mut [u8], f: Capacity) -> bool
     requires le_servers { 1 ≤ f.servers }
     requires le_payload { 3 ≤ f.limits.payload }
 {
-    let Ok(asked) = state_asks::apply::apply_asked(area, f, 0, LogIndex(1), 1, b"abc") else {
-        return false;
-    };
-    let next = asked.next;
+    let asked = state_asks::apply::apply_asked(area, f, 0, LogIndex(1), 1, b"abc");
+    let next = asked.room.is_ok() & asked.next;
     let expected = state_asks::apply::next_apply_of(area, f, 0);
     state_checks::acts::on_apply_act(
         area,
@@ -96,10 +94,8 @@ fn other_applied(area: &mut [u8], f: Capacity) -> bool
     requires le_servers { 2 ≤ f.servers }
     requires le_payload { 3 ≤ f.limits.payload }
 {
-    let Ok(asked) = state_asks::apply::apply_asked(area, f, 1, LogIndex(1), 1, b"xyz") else {
-        return false;
-    };
-    let both = asked.late & asked.other & !asked.next;
+    let asked = state_asks::apply::apply_asked(area, f, 1, LogIndex(1), 1, b"xyz");
+    let both = asked.room.is_ok() & asked.late & asked.other & !asked.next;
     let expected = state_asks::apply::next_apply_of(area, f, 1);
     state_checks::acts::on_apply_act(
         area,
@@ -194,7 +190,7 @@ fn matching_asked(area: &mut [u8]) -> bool {
     let asked = state_asks::matching::matching_asked(area, f);
     let found = state_asks::matching::mismatch_of(area, f, 0, 1);
     state_checks::acts::matching_act(area, f, SimTime(9), NodeId(1), NodeId(2), found);
-    matches!(asked, Ok(0)) & accepted(area)
+    asked.room.is_ok() & (asked.reports == 0) & accepted(area)
 }
 
 // Payloads applied.

@@ -1,7 +1,6 @@
 -- What the proofs of questions cite: the code of a refusal, and what flags make of the counts. Assumes nothing.
 use Rattle.std.specs.Prelude.{◌≡◌, ◌⊎◌, refl, Bool, true, false, Ok, Err, ℕ, ◌+◌, ◌-◌, ◌^◌, ◌≤◌, ◌<◌, leb, ltb}
-use Rattle.std.proofs.Math.Path.{sym}
-use Rattle.std.proofs.Common.{ap, inl, inr, arith, Fits, lt-ltb, le-ltb, le-leb}
+use Rattle.std.proofs.Common.{inl, inr, arith, Fits, lt-ltb, le-ltb, le-leb}
 use Rattle.std.specs.Int.{w64}
 use Rattle.std.proofs.lemmas.Bool.{lt-leb}
 use Rattle.laws.specs.Bools.{pick, cases, ◌and◌, no_and}
@@ -12,17 +11,31 @@ use Rattle.units.specs.Refusals.{answer_number}
 use Rattle.checks.specs.Asked.{counts_code, where_fits}
 
 module _ (rows room total reports : ℕ) where
-  rows_past : room < rows → (leb rows room and ltb (total + reports) (2 ^ 64)) ≡ false
-  rows_past h = no_and _ (ltb (total + reports) (2 ^ 64)) (lt-leb rows room h)
+  no_room : room < rows → (leb rows room and ltb (total + reports) (2 ^ 64)) ≡ false
+  no_room h = no_and _ (ltb (total + reports) (2 ^ 64)) (lt-leb rows room h)
 
-  total_past : 18446744073709551615 - reports < total → (leb rows room and ltb (total + reports) (2 ^ 64)) ≡ false
-  total_past h = and_no (leb rows room) _ (le-ltb (total + reports) (2 ^ 64) (omega arith))
+  no_total : 18446744073709551615 - reports < total → (leb rows room and ltb (total + reports) (2 ^ 64)) ≡ false
+  no_total h = and_no (leb rows room) _ (le-ltb (total + reports) (2 ^ 64) (omega arith))
 
+  -- as a code
+  pub rows_past : room < rows → 10 ≡ counts_code rows room (total + reports)
+  unfolding counts_code
+  rows_past h = rw (no_room h)
+
+  pub total_past : 18446744073709551615 - reports < total → 10 ≡ counts_code rows room (total + reports)
+  unfolding counts_code
+  total_past h = rw (no_total h)
+
+  pub counts_fit_lem : rows ≤ room → Fits w64 reports → total ≤ 18446744073709551615 - reports → 0 ≡ counts_code rows room (total + reports)
+  unfolding counts_code
+  counts_fit_lem h f k = rw (and_both _ _ (le-leb rows room h) (lt-ltb (total + reports) (2 ^ 64) (omega (arith, f.fits))))
+
+  -- as an answer
   pub counts_past : {A : Type 0} (a : A) → (room < rows) ⊎ ((rows ≤ room) × (18446744073709551615 - reports < total))
       → Err Room ≡ where_fits rows room (total + reports) a
   unfolding where_fits
-  counts_past a (inl h) = rw (rows_past h)
-  counts_past a (inr h) = rw (total_past h.1)
+  counts_past a (inl h) = rw (no_room h)
+  counts_past a (inr h) = rw (no_total h.1)
 
   pub counts_held : {A : Type 0} (a : A) → rows ≤ room → Fits w64 reports → total ≤ 18446744073709551615 - reports
       → Ok a ≡ where_fits rows room (total + reports) a

@@ -1,16 +1,17 @@
 -- What the proofs of violations.rt cite. Assumes nothing.
-use Rattle.std.specs.Prelude.{◌≡◌, ◌⊎◌, Bool, true, false, ℕ, ◌+◌, ◌-◌, ◌*◌, ◌^◌, ◌≤◌, ◌<◌, ltb, leb, get_or, take, drop, replicate}
-use Rattle.std.proofs.Common.{sym, inl, inr, ap₂, ◌∙◌, append_assoc, add-zero, arith, get_or-drop, drop-drop, Fits}
+use Rattle.std.specs.Prelude.{◌≡◌, ◌⊎◌, Bool, true, false, ℕ, ◌+◌, ◌-◌, ◌*◌, ◌^◌, ◌≤◌, ◌<◌, min, ltb, leb, get_or, take, drop, replicate}
+use Rattle.std.proofs.Common.{sym, inl, inr, ap₂, ◌∙◌, append_assoc, add-zero, arith, get_or-drop, drop-drop, take_all, length-take-le, leb-true, leb-false, Fits}
 use Rattle.std.proofs.Math.Path.{ap}
 use mathlib.Core.List.{List, [], ◌∷◌, ◌++◌}
 use Rattle.std.proofs.Math.ListN.{length, length-append}
 use Rattle.std.proofs.Math.Seq.{sets}
 use Rattle.std.specs.Int.{w64}
 use borrow.Author.Tests.{lt-ltb, le-ltb, le-leb, lt-leb}
-use Rattle.laws.specs.Bools.{◌and◌, no_and}
+use Rattle.laws.specs.Bools.{◌and◌, cases, no_and}
 use Rattle.laws.proofs.BoolLaws.{and_both, and_no, true_and}
 use Rattle.words.specs.Words.{bytes, W, allz, Fit}
 use Rattle.std.proofs.lemmas.List.{drop-take}
+use Rattle.words.specs.Numbers.{each_take}
 use Rattle.words.specs.Sets.{sets_append}
 use Rattle.words.specs.Lift.{length_bytes, bytes_append, bytes_zeros}
 use Rattle.units.specs.declared.SimTime.{SimTime}
@@ -78,7 +79,7 @@ module _ (time : SimTime) (check : Check) (detail : List ℕ) (kept : ℕ) (b : 
   }
 
   module _ (t : due ≡ true) where
-    pub keep_row : (n : ℕ) (b₁ b₂ b₃ : List ℕ) → 2048 ≤ length b → length detail ≤ 5 → kept < 32 → Fits w64 time.0 → Fit detail → n ≡ check_number check
+    keep_row : (n : ℕ) (b₁ b₂ b₃ : List ℕ) → 2048 ≤ length b → length detail ≤ 5 → kept < 32 → Fits w64 time.0 → Fit detail → n ≡ check_number check
         → b₁ ≡ sets b (8 * (kept * 8)) (bytes (time.0 ∷ n ∷ length detail ∷ [])) → b₂ ≡ sets b₁ (8 * (kept * 8 + 3)) (bytes detail)
         → b₃ ≡ sets b₂ (8 * (kept * 8 + 3 + length detail)) (replicate (8 * (kept * 8 + 8) - 8 * (kept * 8 + 3 + length detail)) 0)
         → Keeps due time check detail kept (kept + 1) b b₃
@@ -93,7 +94,32 @@ module _ (time : SimTime) (check : Check) (detail : List ℕ) (kept : ℕ) (b : 
           (written time check detail b b₁ b₂ b₃ (kept * 8) n e few e₁ e₂ e₃));
     }
 
-pub ruleset keeping = (keep_none, keep_row)
+-- of the numbers that are given, k and thus at most five are kept
+module _ (given_numbers : List ℕ) (k : ℕ) (ek : k ≡ min (length given_numbers) 5) where
+  first_few : take k given_numbers ≡ take 5 given_numbers
+  first_few = cases (leb 5 (length given_numbers)) all_five fewer
+    where
+      all_five : leb 5 (length given_numbers) ≡ true → take k given_numbers ≡ take 5 given_numbers
+      all_five t = ap (λ (j : ℕ). take j given_numbers) (let e : k ≡ 5 = omega (arith, leb-true 5 (length given_numbers) t) in e)
+
+      fewer : leb 5 (length given_numbers) ≡ false → take k given_numbers ≡ take 5 given_numbers
+      fewer t =
+          let l : length given_numbers < 5 = omega (arith, leb-false 5 (length given_numbers) t) in
+          take_all k given_numbers (omega arith) ∙ sym (take_all 5 given_numbers (omega arith))
+
+  first_count : length (take 5 given_numbers) ≡ k
+  first_count = ap length (sym first_few) ∙ length-take-le k given_numbers (omega arith)
+
+  module _ (time : SimTime) (check : Check) (kept : ℕ) (b : List ℕ) (due : Bool) (t : due ≡ true) where
+    pub keep_first : (n : ℕ) (b₁ b₂ b₃ : List ℕ) → 2048 ≤ length b → kept < 32 → Fits w64 time.0 → Fit given_numbers → n ≡ check_number check
+        → b₁ ≡ sets b (8 * (kept * 8)) (bytes (time.0 ∷ n ∷ k ∷ [])) → b₂ ≡ sets b₁ (8 * (kept * 8 + 3)) (bytes (take k given_numbers))
+        → b₃ ≡ sets b₂ (8 * (kept * 8 + 3 + k)) (replicate (8 * (kept * 8 + 8) - 8 * (kept * 8 + 3 + k)) 0)
+        → Keeps due time check (take 5 given_numbers) kept (kept + 1) b b₃
+    keep_first n b₁ b₂ b₃ room h f g e e₁ e₂ e₃ =
+        keep_row time check (take 5 given_numbers) kept b due t n b₁ b₂ b₃ room (omega (arith, first_count)) h f (each_take 5 given_numbers g) e (rw first_count e₁)
+        (e₂ ∙ ap (λ (l : List ℕ). sets b₁ (8 * (kept * 8 + 3)) (bytes l)) first_few) (rw first_count e₃)
+
+pub ruleset keeping = (keep_none, keep_first)
 
 -- ---- read
 

@@ -1,6 +1,6 @@
 // The violations that are kept (`violations` of checks.rs): rows of 8 words, in the order in which they were reported, the first 32 of all.
 // The caller keeps how many are kept, and how many there were.
-ghost use Rattle.std.specs.Prelude.{◌≡◌, ◌+◌, ◌*◌, ◌≤◌, ◌<◌, length, get_or, drop};
+ghost use Rattle.std.specs.Prelude.{◌≡◌, ◌+◌, ◌*◌, ◌≤◌, ◌<◌, length, get_or, take, drop};
 ghost use Rattle.laws.specs.Decides.{Decides};
 ghost use Rattle.words.specs.Words.{W};
 ghost use Rattle.layout.specs.Code.{ok_n};
@@ -35,7 +35,8 @@ pub fn one_if(due: bool) -> u64
     u64::from(due)
 }
 
-// Keeps a violation that is due, while fewer than 32 are kept, and answers how many are. `detail` has the numbers of its text, in its order.
+// Keeps a violation that is due, while fewer than 32 are kept, and answers how many are. The first five of `detail` are the numbers of its
+// text, in its order.
 pub fn keep(
     s: &mut [u8],
     kept: usize,
@@ -45,16 +46,15 @@ pub fn keep(
     detail: &[u64],
 ) -> usize
     requires room { 2048 ≤ length s.old }
-    requires few { length detail.now ≤ 5 }
-    ensures { Keeps due time check detail.now kept result s.old s.new }
+    ensures { Keeps due time check (take 5 detail.now) kept result s.old s.new }
 {
     if !due || 32 <= kept {
         return kept;
     }
     let at = kept * 8;
-    let numbers = detail.len();
+    let numbers = detail.len().min(5);
     words::store_all(s, at, &[time.0, u64::from(check), numbers as u64]);
-    words::store_all(s, at + 3, detail);
+    words::store_all(s, at + 3, &detail[..numbers]);
     words::fill_zero(s, 8 * (at + 3 + numbers), 8 * (at + 8));
     kept + 1
 }
@@ -70,8 +70,7 @@ pub fn report(
     detail: &[u64],
 ) -> Option<Tally>
     requires room { 2048 ≤ length s.old }
-    requires few { length detail.now ≤ 5 }
-    ensures { Reports time check detail.now kept total result s.old s.new }
+    ensures { Reports time check (take 5 detail.now) kept total result s.old s.new }
 {
     let total = total.checked_add(1)?;
     let kept = keep(s, kept, true, time, check, detail);

@@ -16,6 +16,7 @@ use Rattle.checks.specs.Asked.{where_fits}
 use Rattle.std.specs.declared.result.Result.{Result}
 use Rattle.units.specs.declared.refusal.Refusal.{Refusal}
 use Rattle.checks_log_matching.specs.Matching.{Compares}
+use Rattle.checks_log_matching.specs.declared.pairs.MatchingAsked.{MatchingAsked}
 use Rattle.checks_log_matching.specs.Pairs.{log_bytes, Logs, server_log, server_logs, Between, reported_mismatch, Records, one_of}
 use Rattle.checks_log_matching.specs.Pairs.{failures_with, failures, CountsAfter, Counts, AsksLogs, check_rest}
 use Rattle.checks.specs.declared.Mismatch.{Mismatch}
@@ -195,18 +196,17 @@ pairs_none c time slot (x ∷ xs) h =
 
 -- ---- the question
 
-pub asked : {held : List Log → Type 0} (total reports : ℕ) (r : Result ℕ Refusal) → Counts held reports → r ≡ where_fits 0 0 (total + reports) reports
-    → AsksLogs held total r
-asked total reports r q e = record {
-  reports = reports;
-  is = λ xs l c time t.
+pub asked : {held : List Log → Type 0} (total reports : ℕ) (room : Result (Unit {0}) Refusal) → Counts held reports
+    → room ≡ where_fits 0 0 (total + reports) tt → AsksLogs held total (record { room = room; reports = reports })
+asked total reports room q e = record {
+  room = λ xs l c time t.
       let s : total + reports ≡ (check_log_matching c time (server_logs 0 xs)).total = omega (arith, q.is xs l, pairs_total c time 0 xs) in
-      e ∙ ap (λ (n : ℕ). where_fits 0 0 n reports) s;
+      e ∙ ap (λ (n : ℕ). where_fits 0 0 n tt) s;
   counted = λ xs l c time t. omega (arith, q.is xs l, pairs_total c time 0 xs);
 }
 
 -- with nothing to report the checks are as they were
-pub none_reported : {held : List Log → Type 0} (total : ℕ) (r : Result ℕ Refusal) (q : AsksLogs held total r) → q.reports ≡ 0 → (xs : List Log)
+pub none_reported : {held : List Log → Type 0} (total : ℕ) (r : MatchingAsked) → AsksLogs held total r → r.reports ≡ 0 → (xs : List Log)
     → held xs → (c : Checker) (time : SimTime) → c.total ≡ total
     → check_log_matching c time (server_logs 0 xs) ≡ c
 none_reported total r q z xs l c time t = pairs_none c time 0 xs (omega (arith, q.counted xs l c time t, pairs_total c time 0 xs))

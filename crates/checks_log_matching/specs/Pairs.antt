@@ -1,7 +1,5 @@
 -- Every pair of servers' logs (pairs.rt): where the logs lie, how many pairs break log matching, and what is reported. Assumes nothing.
 use Rattle.std.specs.Prelude.{◌≡◌, List, [], ◌∷◌, ℕ, suc, ◌+◌, ◌*◌, ◌≤◌, ◌<◌, length, get_or, take, drop, Option, None, Some}
-use Rattle.std.specs.declared.result.Result.{Result}
-use Rattle.units.specs.declared.refusal.Refusal.{Refusal}
 use Rattle.units.specs.declared.NodeId.{NodeId}
 use Rattle.units.specs.declared.SimTime.{SimTime}
 use Rattle.layout.specs.Tables.{Held}
@@ -12,6 +10,7 @@ use Rattle.checks.specs.declared.Mismatch.{Mismatch}
 use Rattle.checks.specs.Checks.{Checker, log_matching_failure, report_mismatch, ServerLog, check_against, check_log_matching}
 use Rattle.checks.specs.Violations.{violations}
 use Rattle.checks.specs.Asked.{where_fits}
+use Rattle.checks_log_matching.specs.declared.pairs.MatchingAsked.{MatchingAsked}
 
 -- ---- where the logs lie
 
@@ -76,13 +75,13 @@ pub record Counts (held : List Log → Type 0) (r : ℕ) : Type 0 where
 
 -- ---- the question
 
--- Whatever logs are held, whatever checks have the total: how many pairs are reported, where the total has 64 bits with every pair checked.
-pub record AsksLogs (held : List Log → Type 0) (total : ℕ) (r : Result ℕ Refusal) : Type 0 where
-  pub reports : ℕ
-  pub is : (xs : List Log) → held xs → (c : Checker) (time : SimTime) → c.total ≡ total
-      → r ≡ where_fits 0 0 (check_log_matching c time (server_logs 0 xs)).total reports
+-- Whatever logs are held, whatever checks have the total: whether the total has 64 bits with every pair checked, and how many pairs are
+-- reported, also where it has not.
+pub record AsksLogs (held : List Log → Type 0) (total : ℕ) (r : MatchingAsked) : Type 0 where
+  pub room : (xs : List Log) → held xs → (c : Checker) (time : SimTime) → c.total ≡ total
+      → r.room ≡ where_fits 0 0 (check_log_matching c time (server_logs 0 xs)).total tt
   pub counted : (xs : List Log) → held xs → (c : Checker) (time : SimTime) → c.total ≡ total
-      → (check_log_matching c time (server_logs 0 xs)).total ≡ total + reports
+      → (check_log_matching c time (server_logs 0 xs)).total ≡ total + r.reports
 
 -- ---- a loop over the pairs
 

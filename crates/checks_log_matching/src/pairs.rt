@@ -11,6 +11,13 @@ use layout::rows;
 use units::refusal::Refusal;
 use units::{NodeId, SimTime};
 
+// Question 10, answered no where the total of violations would have no 64 bits; and, then too, how many pairs are to be reported.
+#[derive(Clone, Copy)]
+pub struct MatchingAsked {
+    pub room: Result<(), Refusal>,
+    pub reports: u64,
+}
+
 // ---- one pair
 
 // How the logs of two slots break log matching.
@@ -118,8 +125,7 @@ pub fn count_mismatches(
 
 // ---- the question
 
-// Asks log matching of every pair of logs, before anything is reported: how many pairs are to be reported, or question 10 where the total of
-// violations would have no 64 bits.
+// Asks log matching of every pair of logs, before anything is reported.
 pub fn check_log_matching(
     blocks: &[u8],
     servers: usize,
@@ -128,7 +134,7 @@ pub fn check_log_matching(
     n: usize,
     p: usize,
     total: u64,
-) -> Result<u64, Refusal>
+) -> MatchingAsked
     requires servers_bound { servers ≤ 8 }
     requires p_bound { p ≤ 256 }
     requires p_bound_2 { from + n * (2 + words_for p) ≤ stride }
@@ -136,5 +142,8 @@ pub fn check_log_matching(
     ensures { AsksLogs (Logs p n servers stride from blocks.now) total result }
 {
     let reports = count_mismatches(blocks, servers, stride, from, n, p);
-    checks::where_fits(0, 0, total, reports, reports)
+    MatchingAsked {
+        room: checks::where_fits(0, 0, total, reports, ()),
+        reports,
+    }
 }

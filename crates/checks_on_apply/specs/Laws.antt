@@ -58,30 +58,29 @@ module _ (r : ApplyAsked) (index : LogIndex) (expected : ℕ) (c : Checker) (tim
 
 -- ---- on_apply
 
-pub apply_asked : {g : ApplyGiven} {seen : AppliedSeen} {other next : Bool} {one two three : ℕ} {r : Result ApplyAsked Refusal}
+pub apply_asked : {g : ApplyGiven} {seen : AppliedSeen} {other next : Bool} {one two three : ℕ} {room : Result (Unit {0}) Refusal}
     → AsksApplied g.longest g.index g.content g.count seen g.applied → other ≡ is_other seen → next ≡ is_next seen
     → one ≡ pick next 1 0 → two ≡ pick (not (eqb g.index.0 g.expected)) 1 0 → three ≡ pick other 1 0
-    → r ≡ where_fits (g.count + one) g.room (g.total + (two + three)) (record { late = not (eqb g.index.0 g.expected); other = other; next = next })
-    → AsksApply g r
+    → room ≡ where_fits (g.count + one) g.room (g.total + (two + three)) tt
+    → AsksApply g (record { room = room; late = not (eqb g.index.0 g.expected); other = other; next = next })
 unfolding on_apply
-apply_asked {g} {seen} {other} {next} {one} {two} {three} {r} q eo en e₁ e₂ e₃ er = record {
-  asked = record { late = not (eqb g.index.0 g.expected); other = other; next = next };
+apply_asked {g} {seen} {other} {next} {one} {two} {three} {room} q eo en e₁ e₂ e₃ er = record {
   to = λ N c time server x k h t.
       let index : LogIndex = g.index in
       let late : Bool = not (eqb index.0 g.expected) in
       let detail : List ℕ = server.0 ∷ index.0 ∷ g.expected ∷ [] in
-      let asked : ApplyAsked = record { late = late; other = other; next = next } in
+      let r : ApplyAsked = record { room = room; late = late; other = other; next = next } in
       let ordered : Checker = report_if late c time ApplyOrder detail in
       let es : applied_seen ordered.applied index.0 x ≡ seen =
       ap (λ (y : List Payload). applied_seen y index.0 x) (applied_if_lem late c time ApplyOrder detail) ∙ sym (q.to N c.applied x k h) in
-      let d : on_apply c time server index x g.expected ≡ apply_acts asked index g.expected c time server x =
+      let d : on_apply c time server index x g.expected ≡ apply_acts r index g.expected c time server x =
       applied_after_lem ordered time server x index.0 ∙ ap (λ (s : AppliedSeen). applied_after s ordered time server index.0 x) es
       ∙ ap₂ (λ (a b : Bool). append_if a x (report_if b ordered time StateMachineSafety (server.0 ∷ index.0 ∷ []))) (sym en) (sym eo) in
       let rows : g.count + one ≡ length (on_apply c time server index x g.expected).applied =
-      omega (arith, e₁, (held_rows h).count, acts_rows asked index g.expected c time server x, ap (λ (y : Checker). length y.applied) d) in
+      omega (arith, e₁, (held_rows h).count, acts_rows r index g.expected c time server x, ap (λ (y : Checker). length y.applied) d) in
       let sum : g.total + (two + three) ≡ (on_apply c time server index x g.expected).total =
-      omega (arith, e₂, e₃, t, acts_total asked index g.expected c time server x, ap (λ (y : Checker). y.total) d) in
-      record { is = er ∙ ap₂ (λ (y z : ℕ). where_fits y g.room z asked) rows sum; does = d };
+      omega (arith, e₂, e₃, t, acts_total r index g.expected c time server x, ap (λ (y : Checker). y.total) d) in
+      record { room = er ∙ ap₂ (λ (y z : ℕ). where_fits y g.room z tt) rows sum; does = d };
 }
 
 -- ---- a full table and a payload that is there: no row is added, so it is accepted

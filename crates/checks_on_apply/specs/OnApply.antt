@@ -1,8 +1,6 @@
 -- A server applied a payload (on_apply): what the question answers, over the region of applied payloads. Assumes nothing.
 use Rattle.std.specs.Prelude.{◌≡◌, List, [], ◌∷◌, ℕ, length}
 use Rattle.units.specs.Types.{Payload}
-use Rattle.std.specs.declared.result.Result.{Result}
-use Rattle.units.specs.declared.refusal.Refusal.{Refusal}
 use Rattle.units.specs.declared.NodeId.{NodeId}
 use Rattle.units.specs.declared.LogIndex.{LogIndex}
 use Rattle.units.specs.declared.SimTime.{SimTime}
@@ -33,17 +31,15 @@ apply_acts r index expected c time server x =
     (report_if r.other (report_if r.late c time ApplyOrder (server.0 ∷ index.0 ∷ expected ∷ [])) time StateMachineSafety
     (server.0 ∷ index.0 ∷ []))
 
--- The answer for given checks: the flags, where what the unlimited definition gives has room, and they say what that does, also where it has
--- none.
-pub record ApplyAnswered (g : ApplyGiven) (r : Result ApplyAsked Refusal) (asked : ApplyAsked) (c : Checker) (time : SimTime) (server : NodeId)
-    (x : Payload) : Type 0 where
-  pub is : r
+-- The answer for given checks: question 10 is answered of what the unlimited definition gives, and the flags say what that does, also where
+-- it has no room.
+pub record ApplyAnswered (g : ApplyGiven) (r : ApplyAsked) (c : Checker) (time : SimTime) (server : NodeId) (x : Payload) : Type 0 where
+  pub room : r.room
       ≡ where_fits (length (on_apply c time server g.index x g.expected).applied) g.room
-      (on_apply c time server g.index x g.expected).total asked
-  pub does : on_apply c time server g.index x g.expected ≡ apply_acts asked g.index g.expected c time server x
+      (on_apply c time server g.index x g.expected).total tt
+  pub does : on_apply c time server g.index x g.expected ≡ apply_acts r g.index g.expected c time server x
 
 -- The same whatever the checks are whose payloads and total are given, and whatever payload the lent words hold.
-pub record AsksApply (g : ApplyGiven) (r : Result ApplyAsked Refusal) : Type 0 where
-  pub asked : ApplyAsked
+pub record AsksApply (g : ApplyGiven) (r : ApplyAsked) : Type 0 where
   pub to : (N : ℕ) (c : Checker) (time : SimTime) (server : NodeId) (x : Payload) → Holds (payload g.longest) g.content x
-      → Held (payloads g.longest) N g.count g.applied c.applied → c.total ≡ g.total → ApplyAnswered g r asked c time server x
+      → Held (payloads g.longest) N g.count g.applied c.applied → c.total ≡ g.total → ApplyAnswered g r c time server x

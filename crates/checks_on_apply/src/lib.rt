@@ -11,16 +11,17 @@ use checks::{applied, violations};
 use units::LogIndex;
 use units::refusal::Refusal;
 
-// Whether another index was expected, whether another payload was applied at the index before, and whether the payload goes to the next free
-// place.
+// Question 10, answered no where the payloads have no room or the total no 64 bits; and, then too, whether another index was expected,
+// whether another payload was applied at the index before, and whether the payload goes to the next free place.
 #[derive(Clone, Copy)]
 pub struct ApplyAsked {
+    pub room: Result<(), Refusal>,
     pub late: bool,
     pub other: bool,
     pub next: bool,
 }
 
-// What an applied payload, lent in words, gives to report and to keep; question 10 where the payloads have no room or the total no 64 bits.
+// What an applied payload, lent in words, gives to report and to keep.
 // (d) The regions and their counts come one by one: each is used once, and a struct of them would be made for this call alone.
 pub fn on_apply(
     applied: &[u8],
@@ -31,7 +32,7 @@ pub fn on_apply(
     index: LogIndex,
     expected: u64,
     content: &[u8],
-) -> Result<ApplyAsked, Refusal>
+) -> ApplyAsked
     requires p_bound { p ≤ 256 }
     requires p_in_bounds { 8 * (n * (1 + words_for p)) ≤ length applied.now }
     requires content_len { length content.now ≡ 8 * (1 + words_for p) }
@@ -53,6 +54,10 @@ pub fn on_apply(
     let next = seen.is_next();
     let rows = n as u64 + violations::one_if(next);
     let reports = violations::one_if(late) + violations::one_if(other);
-    let asked = ApplyAsked { late, other, next };
-    checks::where_fits(rows, room, total, reports, asked)
+    ApplyAsked {
+        room: checks::where_fits(rows, room, total, reports, ()),
+        late,
+        other,
+        next,
+    }
 }

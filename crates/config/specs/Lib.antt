@@ -2,3 +2,4 @@ pub mod Questions
 pub mod Config
 pub mod Limits
 pub mod Laws
+pub mod Facts

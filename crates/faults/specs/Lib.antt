@@ -1,2 +1,3 @@
 pub mod Fault
 pub mod Laws
+pub mod Facts

@@ -51,54 +51,38 @@ pub server_draws : (servers : List NodeId) (g : Rng) → (pick_server servers g)
 unfolding pick_server
 server_draws servers g = refl
 
--- The redraw of the other server: i draws are made, and those that are left decide.
-abbrev pub later : ℕ → Draws (Option NodeId) → Draws (Option NodeId)
-later i d = record { result = d.result; draws = i + d.draws; next = d.next }
-
-pub record Redrawn (most : ℕ) (server : NodeId) (ids : List NodeId) (g next : Rng) (i : ℕ) : Type 0 where
-  pub rest : pick_other most server ids g ≡ later i (pick_other (most - i) server ids next)
-
-module _ (server : NodeId) (ids : List NodeId) where
-  -- one draw, by a test of the server that it gives
-  drawn_one : (left : ℕ) (g : Rng) (d : Draws NodeId) (t : Bool) → d ≡ pick_server ids g → eqb d.result.0 server.0 ≡ t
-      → pick_other (suc left) server ids g ≡ then d (λ other. pick t (pick_other left server ids) (give (Some other)))
+-- The redraw of the other server: none left, another one, the same one again.
+module _ (server : NodeId) (ids : List NodeId) (g : Rng) where
+  pub other_none : (left : ℕ) → left ≡ 0 → record { result = None; draws = 0; next = g } ≡ pick_other left server ids g
   unfolding pick_other
-  drawn_one left g d t e h =
-      ap (λ (x : Draws NodeId). then x (λ other. pick (eqb other.0 server.0) (pick_other left server ids) (give (Some other)))) (sym e)
-      ∙ ap (λ (b : Bool). then d (λ other. pick b (pick_other left server ids) (give (Some other)))) h
+  other_none left e = rw e
 
-  module _ (most : ℕ) (g : Rng) where
-    pub redraw_start : Redrawn most server ids g g 0
-    redraw_start = record { rest = let z : most - 0 ≡ most = omega arith in rw (z, zero-add) refl }
+  module _ (p : Draws NodeId) (h : p ≡ pick_server ids g) where
+    one_draw : p.draws ≡ 1
+    one_draw = ap (λ (x : Draws NodeId). x.draws) h ∙ server_draws ids g
 
-    module _ (next : Rng) (i : ℕ) (r : Redrawn most server ids g next i) where
-      pub redraw_none : most ≤ i → i ≤ most → record { result = None; draws = most; next = next } ≡ pick_other most server ids g
-      unfolding pick_other
-      redraw_none h k =
-          let z : most - i ≡ 0 = omega arith in
-          let e : i ≡ most = omega arith in
-          sym (r.rest ∙ rw (z, e, add-zero))
+    -- one draw, by a test of the server that it gives
+    drawn_one : (left : ℕ) (t : Bool) → eqb p.result.0 server.0 ≡ t
+        → pick_other (suc left) server ids g ≡ then p (λ other. pick t (pick_other left server ids) (give (Some other)))
+    unfolding pick_other
+    drawn_one left t e =
+        ap (λ (x : Draws NodeId). then x (λ other. pick (eqb other.0 server.0) (pick_other left server ids) (give (Some other)))) (sym h)
+        ∙ ap (λ (b : Bool). then p (λ other. pick b (pick_other left server ids) (give (Some other)))) e
 
-      module _ (h : i < most) (d : Draws NodeId) (e : d ≡ pick_server ids next) where
-        one_draw : d.draws ≡ 1
-        one_draw = ap (λ (x : Draws NodeId). x.draws) e ∙ server_draws ids next
+    pub other_found : (left : ℕ) → (left ≡ 0 → ⊥) → (p.result.0 ≡ server.0 → ⊥)
+        → record { result = Some p.result; draws = 1; next = p.next } ≡ pick_other left server ids g
+    other_found left z n =
+        let e : left ≡ suc (left - 1) = omega arith in
+        let draws : p.draws + 0 ≡ 1 = omega (arith, one_draw) in
+        sym (ap (λ (k : ℕ). pick_other k server ids g) e ∙ drawn_one (left - 1) false (ne_eqb _ _ n) ∙ rw draws)
 
-        one : most - i ≡ suc (most - (i + 1))
-        one = omega arith
+    pub other_again : (left : ℕ) (r : Draws (Option NodeId)) → (left ≡ 0 → ⊥) → p.result.0 ≡ server.0
+        → r ≡ pick_other (left - 1) server ids p.next
+        → record { result = r.result; draws = 1 + r.draws; next = r.next } ≡ pick_other left server ids g
+    other_again left r z q k =
+        let e : left ≡ suc (left - 1) = omega arith in
+        let rest : Draws (Option NodeId) = pick_other (left - 1) server ids p.next in
+        let draws : p.draws + rest.draws ≡ 1 + rest.draws = omega (arith, one_draw) in
+        rw k (sym (ap (λ (n : ℕ). pick_other n server ids g) e ∙ drawn_one (left - 1) true (eq-eqb _ _ q) ∙ rw draws))
 
-        left : pick_other most server ids g ≡ later i (pick_other (suc (most - (i + 1))) server ids next)
-        left = r.rest ∙ ap (λ (n : ℕ). later i (pick_other n server ids next)) one
-
-        pub redraw_found : (d.result.0 ≡ server.0 → ⊥)
-            → record { result = Some d.result; draws = i + 1; next = d.next } ≡ pick_other most server ids g
-        redraw_found n =
-            let draws : i + (d.draws + 0) ≡ i + 1 = omega (arith, one_draw) in
-            sym (left ∙ ap (later i) (drawn_one (most - (i + 1)) next d false e (ne_eqb _ _ n)) ∙ rw draws)
-
-        pub redraw_again : d.result.0 ≡ server.0 → Redrawn most server ids g d.next (i + 1)
-        redraw_again q =
-            let rest : Draws (Option NodeId) = pick_other (most - (i + 1)) server ids d.next in
-            let draws : i + (d.draws + rest.draws) ≡ i + 1 + rest.draws = omega (arith, one_draw) in
-            record { rest = left ∙ ap (later i) (drawn_one (most - (i + 1)) next d true e (eq-eqb _ _ q)) ∙ rw draws }
-
-pub ruleset redraw = (redraw_start, redraw_none, redraw_found, redraw_again)
+pub ruleset redraw = (other_none, other_found, other_again)

@@ -107,22 +107,26 @@ impl<'a> Servers<'a> {
         ensures result_value { result ≡ pick_other most server (ids_of self.entry.ids.now) g }
         ensures draws_bound { result.draws ≤ most }
     {
-        let mut next = g;
-        for draws in 0..most {
-            let other = self.pick_server(next);
-            next = other.next;
-            if other.result != server {
-                return Draws {
-                    result: Some(other.result),
-                    draws: draws + 1,
-                    next,
-                };
-            }
+        if most == 0 {
+            return Draws {
+                result: None,
+                draws: 0,
+                next: g,
+            };
         }
+        let other = self.pick_server(g);
+        if other.result != server {
+            return Draws {
+                result: Some(other.result),
+                draws: 1,
+                next: other.next,
+            };
+        }
+        let rest = self.pick_other(most - 1, server, other.next);
         Draws {
-            result: None,
-            draws: most,
-            next,
+            result: rest.result,
+            draws: 1 + rest.draws,
+            next: rest.next,
         }
     }
 

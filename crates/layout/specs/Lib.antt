@@ -24,3 +24,4 @@ pub mod AppliedLaws
 pub mod Cuts
 pub mod Structs
 pub mod Dependent
+pub mod Facts

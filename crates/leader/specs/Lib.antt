@@ -1,3 +1,4 @@
 pub mod Leader
 pub mod Laws
 pub mod Chosen
+pub mod Facts

@@ -1,2 +1,3 @@
 pub mod Metrics
 pub mod Laws
+pub mod Facts

@@ -1,3 +1,4 @@
 pub mod Network
 pub mod Laws
 pub mod Ranges
+pub mod Facts

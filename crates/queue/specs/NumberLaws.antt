@@ -7,7 +7,7 @@ use Rattle.std.proofs.lemmas.Option.{none-some}
 use Rattle.std.proofs.Math.Path.{sym, ap}
 use Rattle.std.proofs.Common.{ap₂, ◌∙◌, arith, eq-eqb, ne_eqb, eqb-true}
 use Rattle.std.proofs.Math.ListN.{get_or-eq_default}
-use Rattle.laws.specs.Bools.{pick, and_true}
+use Rattle.laws.specs.Bools.{pick, and_assoc, and_true}
 use Rattle.laws.proofs.BoolLaws.{allb_in, and_both, code_and}
 use Rattle.protocol.specs.declared.Timer.{Timer}
 use Rattle.protocol.specs.declared.Timer.TheVariants.{Election}
@@ -98,7 +98,15 @@ or_else : {A E : Type 0} (r : Result A E) (d : A) → result_unwrap_or r d ≡ u
 or_else (Ok x) d = refl
 or_else (Err e) d = refl
 
-leader_there : (present id : ℕ) → then_some {T = NodeId} (not (eqb present 0)) (record { 0 = id }) ≡ leader_of present id
+pub leader_none : (present id : ℕ) → present ≡ 0 → None ≡ leader_of present id
+unfolding leader_of
+leader_none present id h = rw (eq-eqb present 0 h)
+
+pub leader_some : (present id : ℕ) → (present ≡ 0 → ⊥) → Some (record { 0 = id }) ≡ leader_of present id
+unfolding leader_of
+leader_some present id h = rw (ne_eqb present 0 h)
+
+pub leader_there : (present id : ℕ) → then_some {T = NodeId} (not (eqb present 0)) (record { 0 = id }) ≡ leader_of present id
 unfolding leader_of
 leader_there present id = by (eqb present 0)
   where
@@ -125,15 +133,21 @@ pub candidate_last : (w : EventWords) → 9 ≤ w.kind → event.ClientTimeout w
 unfolding candidate
 candidate_last w h = sym (get_or-eq_default (candidates w) _ h)
 
--- the code's comparison of two times five numbers
-same_words_is : (x y : EventWords) → (eqb x.kind y.kind && (eqb x.a y.a && (eqb x.b y.b && (eqb x.c y.c && eqb x.d y.d)))) ≡ same_words x y
+-- a comparison of two times five numbers, from the left and, as the derived one is, from the right
+pub same_words_is : (x y : EventWords)
+    → ((((eqb x.kind y.kind && eqb x.a y.a) && eqb x.b y.b) && eqb x.c y.c) && eqb x.d y.d) ≡ same_words x y
 unfolding same_words
-same_words_is x y = simp (code_and, and_true)
+same_words_is x y = simp (code_and, and_assoc, and_true)
+
+same_derived : (x y : EventWords)
+    → (eqb x.kind y.kind && (eqb x.a y.a && (eqb x.b y.b && (eqb x.c y.c && eqb x.d y.d)))) ≡ same_words x y
+unfolding same_words
+same_derived x y = simp (code_and, and_true)
 
 module _ (w x : EventWords) (e : Event) (p : e ≡ candidate w) (q : x ≡ words_of e) (t : Bool)
     (h : t ≡ (eqb x.kind w.kind && (eqb x.a w.a && (eqb x.b w.b && (eqb x.c w.c && eqb x.d w.d))))) where
   tested : t ≡ same_words (words_of (candidate w)) w
-  tested = h ∙ same_words_is x w ∙ ap (λ (y : EventWords). same_words y w) (q ∙ ap words_of p)
+  tested = h ∙ same_derived x w ∙ ap (λ (y : EventWords). same_words y w) (q ∙ ap words_of p)
 
   pub event_there : t ≡ true → Some e ≡ event_of w
   unfolding event_of

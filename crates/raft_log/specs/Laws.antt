@@ -46,13 +46,13 @@ said_as : (m : ℕ) (t : Term) (b c : Bool) → eqb m 0 ≡ b → eqb m 1 ≡ c 
 unfolding said
 said_as m t b c e f = ap₂ (λ (u v : Bool). pick u None (Some (record { term = t; payload = pick v Noop (Command (m - 2)) }))) e f
 
-said_none : (m : ℕ) (t : Term) → m ≡ 0 → None ≡ said m t
+pub said_none : (m : ℕ) (t : Term) → m ≡ 0 → None ≡ said m t
 said_none m t h = sym (said_as m t true false (eq-eqb m 0 h) (ne_eqb m 1 (omega arith)))
 
-said_noop : (m : ℕ) (t : Term) → m ≡ 1 → Some (record { term = t; payload = Noop }) ≡ said m t
+pub said_noop : (m : ℕ) (t : Term) → m ≡ 1 → Some (record { term = t; payload = Noop }) ≡ said m t
 said_noop m t h = sym (said_as m t false true (ne_eqb m 0 (omega arith)) (eq-eqb m 1 h))
 
-said_command : (m : ℕ) (t : Term) → 2 ≤ m → Some (record { term = t; payload = Command (m - 2) }) ≡ said m t
+pub said_command : (m : ℕ) (t : Term) → 2 ≤ m → Some (record { term = t; payload = Command (m - 2) }) ≡ said m t
 said_command m t h = sym (said_as m t false false (ne_eqb m 0 (omega arith)) (ne_eqb m 1 (omega arith)))
 
 -- the first word of a place and its last

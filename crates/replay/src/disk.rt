@@ -62,12 +62,14 @@ fn mark(place: Option<EntryShape>) -> u64 {
     }
 }
 
-// Whether three words are a hard state.
+// Whether three words are a hard state: term, 1 where voted, vote, 0 where there is none.
 fn state_told(state: HardState, told: &[u8]) -> bool
     requires { length told.now ≡ 24 }
 {
-    let same = hard_state(told);
-    (state.term == same.term) & (state.voted_for == same.voted_for)
+    let vote = state.voted_for;
+    (state.term.0 == words::load(told, 0))
+        & (u64::from(vote.is_some()) == words::load(told, 1))
+        & (vote.map_or(0, |id| id.0) == words::load(told, 2))
 }
 
 // Whether three words are a log's entries, last index, gaps.

@@ -32,6 +32,15 @@ fn numbers(row: &[u8; 104]) -> EventWords {
     }
 }
 
+// The event of a row, whatever its numbers: a timer's number above 1 is the heartbeat's, and the rest is read as `candidate` reads it.
+fn event(row: &[u8; 104]) -> Event {
+    let mut words = numbers(row);
+    if words.kind == 2 {
+        words.b = words.b.min(1);
+    }
+    queue::numbers::candidate(words)
+}
+
 impl Events {
     // A queue of no events.
     pub fn new() -> Events {
@@ -43,15 +52,19 @@ impl Events {
 
     // A row's event pushed at its time with its message, where there is room.
     fn pushed(&mut self, row: &[u8; 104]) -> bool {
-        let Ok(event) = Event::try_from(numbers(row)) else {
-            return false;
-        };
         if self.count == 128 {
             return false;
         }
         let end = 72 + message_length(row);
         let time = SimTime(words::load(row, 2));
-        table::push(&mut self.area, self.count, 32, time, event, &row[72..end]);
+        table::push(
+            &mut self.area,
+            self.count,
+            32,
+            time,
+            event(row),
+            &row[72..end],
+        );
         self.count += 1;
         true
     }

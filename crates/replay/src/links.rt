@@ -19,15 +19,15 @@ fn link_of(from: u64, to: u64) -> Option<Link> {
     })
 }
 
-// A network after a row's operation (kind, from, to, groups); ids that are no server's change nothing. No enum of the kinds: it would be
-// matched once, right after the match that reads it.
+// A network after a row's operation (kind, from, to, groups): 0 partitions, 1 blocks, 3 heals, any other kind unblocks; ids that are no
+// server's change nothing. No enum of the kinds: it would be matched once, right after the match that reads it.
 fn after_operation(n: Network, row: &[u8; 40]) -> Network {
     let link = link_of(words::load(row, 1), words::load(row, 2));
     match words::load(row, 0) {
         0 => n.partition(words::load(row, 3)),
         1 => link.map_or(n, |link| n.block(link)),
-        2 => link.map_or(n, |link| n.unblock(link)),
-        _ => n.heal_links(),
+        3 => n.heal_links(),
+        _ => link.map_or(n, |link| n.unblock(link)),
     }
 }
 

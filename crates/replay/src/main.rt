@@ -1,7 +1,7 @@
 // Replays recorded answers of the Rust's modules (data/, made by host/record): each row is computed again and compared. One line a file.
 #![tactic(auto)]
 
-ghost use Rattle.std.specs.Prelude.{◌<◌};
+ghost use Rattle.std.specs.Prelude.{◌≡◌, ◌<◌, IfOk, vec_len};
 
 mod links; // operations on a network's links
 mod events; // a queue's events and their order
@@ -210,61 +210,68 @@ fn report(rt: &impl Print, name: &str, t: Tally) -> io::Result<()> {
     println!(rt;)
 }
 
-// Reads a file into a buffer, in place of what it held; gives its rows of N bytes.
-fn read<'a, const N: usize>(
+// Reads a file into a buffer, in place of what it held; gives how many bytes.
+fn read(rt: &impl Files, path: &str, buffer: &mut Vec<u8>) -> io::Result<usize>
+    ensures { IfOk result (λ n. n ≡ vec_len buffer.new) }
+{
+    buffer.clear();
+    let mut file = fs::open(rt, path)?;
+    file.read_to_end(buffer)
+}
+
+// The rows of N bytes of a file that is read into a buffer.
+fn read_rows<'a, const N: usize>(
     rt: &impl Files,
     path: &str,
     buffer: &'a mut Vec<u8>,
 ) -> io::Result<&'a [[u8; N]]>
     requires { 0 < N }
 {
-    buffer.clear();
-    let mut file = fs::open(rt, path)?;
-    file.read_to_end(buffer)?;
+    read(rt, path, buffer)?;
     Ok(buffer.as_chunks::<N>().0)
 }
 
 // The files whose rows stand alone.
 fn replay_rows(rt: &(impl Files + Print), buffer: &mut Vec<u8>) -> io::Result<()> {
-    let rows = read::<24>(rt, "draws.bin", buffer)?;
+    let rows = read_rows::<24>(rt, "draws.bin", buffer)?;
     report(rt, "draws", compared(rows, draw_agrees))?;
-    let rows = read::<32>(rt, "below.bin", buffer)?;
+    let rows = read_rows::<32>(rt, "below.bin", buffer)?;
     report(rt, "below", compared(rows, below_agrees))?;
-    let rows = read::<48>(rt, "seeds.bin", buffer)?;
+    let rows = read_rows::<48>(rt, "seeds.bin", buffer)?;
     report(rt, "seeds", compared(rows, seed_agrees))?;
-    let rows = read::<288>(rt, "client_encode.bin", buffer)?;
+    let rows = read_rows::<288>(rt, "client_encode.bin", buffer)?;
     report(rt, "client encode", compared(rows, encode_agrees))?;
-    let rows = read::<288>(rt, "client_decode.bin", buffer)?;
+    let rows = read_rows::<288>(rt, "client_decode.bin", buffer)?;
     report(rt, "client decode", compared(rows, decode_agrees))?;
-    let rows = read::<48>(rt, "config.bin", buffer)?;
+    let rows = read_rows::<48>(rt, "config.bin", buffer)?;
     report(rt, "config", compared(rows, config_agrees))?;
-    let rows = read::<176>(rt, "settings.bin", buffer)?;
+    let rows = read_rows::<176>(rt, "settings.bin", buffer)?;
     report(rt, "settings", compared(rows, settings::agrees))?;
-    let rows = read::<48>(rt, "records.bin", buffer)?;
+    let rows = read_rows::<48>(rt, "records.bin", buffer)?;
     report(rt, "records", compared(rows, record_agrees))?;
-    let rows = read::<96>(rt, "routes.bin", buffer)?;
+    let rows = read_rows::<96>(rt, "routes.bin", buffer)?;
     report(rt, "routes", compared(rows, route_agrees))
 }
 
 fn main(rt: HostRuntime) -> io::Result<()> {
     let mut buffer = Vec::new(rt.alloc());
     replay_rows(&rt, &mut buffer)?;
-    let rows = read::<40>(&rt, "links.bin", &mut buffer)?;
+    let rows = read_rows::<40>(&rt, "links.bin", &mut buffer)?;
     let mut network = links::start();
     let tally = compared(rows, |row| links::agrees(&mut network, row));
     report(&rt, "links", tally)?;
-    let rows = read::<104>(&rt, "queue.bin", &mut buffer)?;
+    let rows = read_rows::<104>(&rt, "queue.bin", &mut buffer)?;
     let mut queue = Events::new();
     let tally = compared(rows, |row| queue.agrees(row));
     report(&rt, "queue", tally)?;
-    let rows = read::<384>(&rt, "disk.bin", &mut buffer)?;
+    let rows = read_rows::<384>(&rt, "disk.bin", &mut buffer)?;
     let mut disk = Disk::new();
     let tally = compared(rows, |row| disk.agrees(row));
     report(&rt, "disk", tally)?;
-    let rows = read::<160>(&rt, "log_matching.bin", &mut buffer)?;
+    let rows = read_rows::<160>(&rt, "log_matching.bin", &mut buffer)?;
     let tally = compared(rows, matching::agrees);
     report(&rt, "log matching", tally)?;
-    let rows = read::<128>(&rt, "schedules.bin", &mut buffer)?;
+    let rows = read_rows::<128>(&rt, "schedules.bin", &mut buffer)?;
     let mut lists = Schedules::new();
     let tally = compared(rows, |row| lists.agrees(row));
     report(&rt, "schedules", tally)

@@ -5,12 +5,12 @@ use leader::{Leading, Reported};
 use protocol::{Role, Status};
 use units::{LogIndex, NodeId, Term};
 
-// What a row's server k reports: 0 where it is stopped, else its role's number and 1; its term.
+// What a row's server k reports: 0 where it is stopped, else its role's number and 1; its term. A number above a leader's is a leader's.
 fn reported(row: &[u8; 152], k: usize) -> Option<Reported>
     requires { k < 8 }
 {
     let number = words::load(row, 2 * k).checked_sub(1)?;
-    let role = Role::try_from(number).ok()?;
+    let role = Role::try_from(number).unwrap_or(Role::Leader);
     let status = Status {
         role,
         term: Term(words::load(row, 2 * k + 1)),
@@ -30,7 +30,7 @@ fn leader_of(row: &[u8; 152]) -> Option<Leading> {
         .fold(None, |best, server| leader::better(best, server))
 }
 
-// The same by the lists of ids, roles and terms of the servers that run.
+// The same by the lists of ids, roles' numbers as they stand and terms of the servers that run.
 fn leader_listed(row: &[u8; 152]) -> Option<Leading> {
     let mut ids = [0u64; 8];
     let mut roles = [0u64; 8];
@@ -39,7 +39,7 @@ fn leader_listed(row: &[u8; 152]) -> Option<Leading> {
     for k in 0..8 {
         if let Some(server) = reported(row, k) {
             ids[n] = server.id.0;
-            roles[n] = u64::from(server.status.role);
+            roles[n] = words::load(row, 2 * k).saturating_sub(1);
             terms[n] = server.status.term.0;
             n += 1;
         }

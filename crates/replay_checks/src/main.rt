@@ -2,7 +2,7 @@
 // compared. One line a file.
 #![tactic(auto)]
 
-ghost use Rattle.std.specs.Prelude.{◌<◌};
+ghost use Rattle.std.specs.Prelude.{◌≡◌, ◌<◌, IfOk, vec_len};
 
 mod leading; // the leader of a list of statuses
 mod counters; // operations on the counters
@@ -52,29 +52,36 @@ fn report(rt: &impl Print, name: &str, t: Tally) -> io::Result<()> {
     println!(rt;)
 }
 
-// Reads a file into a buffer, in place of what it held; gives its rows of N bytes.
-fn read<'a, const N: usize>(
+// Reads a file into a buffer, in place of what it held; gives how many bytes.
+fn read(rt: &impl Files, path: &str, buffer: &mut Vec<u8>) -> io::Result<usize>
+    ensures { IfOk result (λ n. n ≡ vec_len buffer.new) }
+{
+    buffer.clear();
+    let mut file = fs::open(rt, path)?;
+    file.read_to_end(buffer)
+}
+
+// The rows of N bytes of a file that is read into a buffer.
+fn read_rows<'a, const N: usize>(
     rt: &impl Files,
     path: &str,
     buffer: &'a mut Vec<u8>,
 ) -> io::Result<&'a [[u8; N]]>
     requires { 0 < N }
 {
-    buffer.clear();
-    let mut file = fs::open(rt, path)?;
-    file.read_to_end(buffer)?;
+    read(rt, path, buffer)?;
     Ok(buffer.as_chunks::<N>().0)
 }
 
 fn main(rt: HostRuntime) -> io::Result<()> {
     let mut buffer = Vec::new(rt.alloc());
-    let rows = read::<152>(&rt, "leader.bin", &mut buffer)?;
+    let rows = read_rows::<152>(&rt, "leader.bin", &mut buffer)?;
     report(&rt, "leader", compared(rows, leading::agrees))?;
-    let rows = read::<288>(&rt, "metrics.bin", &mut buffer)?;
+    let rows = read_rows::<288>(&rt, "metrics.bin", &mut buffer)?;
     let mut metrics = Metrics::new();
     let tally = compared(rows, |row| counters::agrees(&mut metrics, row));
     report(&rt, "metrics", tally)?;
-    let rows = read::<488>(&rt, "checks.bin", &mut buffer)?;
+    let rows = read_rows::<488>(&rt, "checks.bin", &mut buffer)?;
     let mut area = [0u8; 7880];
     let tally = compared(rows, |row| checking::agrees(&mut area, row));
     report(&rt, "checks", tally)

@@ -137,10 +137,10 @@ fn apply(
     requires index_bound { index.0 ≤ 3 }
     requires kind_bound { (kind ≤ 1) × (length src.now ≤ 256 * kind) × (length src.now ≤ f.limits.payload) }
 {
-    let asked = match state_asks::apply::apply_asked(area, f, k, index, kind, src) {
-        Ok(asked) => asked,
-        Err(refusal) => return u64::from(refusal),
-    };
+    let asked = state_asks::apply::apply_asked(area, f, k, index, kind, src);
+    if let Err(refusal) = asked.room {
+        return u64::from(refusal);
+    }
     let expected = state_asks::apply::next_apply_of(area, f, k);
     let server = NodeId(k as u64 + 1);
     state_checks::acts::on_apply_act(area, f, time, server, index, expected, kind, src, asked);
@@ -183,14 +183,12 @@ fn status(area: &mut [u8], f: Capacity, k: usize, time: SimTime, status: Status)
     0
 }
 
-// The status of a row: time, server, role, term.
+// The status of a row: time, server, role, term. A number above a leader's is a leader's.
 fn status_row(area: &mut [u8], f: Capacity, row: &[u8; 488]) -> u64
     requires inside { Inside area.old f }
     requires le_servers { 3 ≤ f.servers }
 {
-    let Ok(role) = Role::try_from(words::load(row, 3)) else {
-        return 99;
-    };
+    let role = Role::try_from(words::load(row, 3)).unwrap_or(Role::Leader);
     let time = SimTime(words::load(row, 1));
     let k = slot_of(words::load(row, 2));
     let reported = Status {

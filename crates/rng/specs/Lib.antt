@@ -1,2 +1,3 @@
 pub mod Rng
 pub mod Laws
+pub mod Facts

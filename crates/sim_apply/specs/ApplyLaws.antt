@@ -5,7 +5,6 @@ use Rattle.std.proofs.Common.{◌∙◌, le-leb, eqb-true, eq-eqb}
 use Rattle.std.proofs.Math.Bool.{Bool, true}
 use native.Mathlib.Omega.{arith}
 use Rattle.std.specs.Prelude.{not, Ok, Err}
-use Rattle.std.specs.declared.result.Result.{Result}
 use Rattle.std.proofs.lemmas.Bool.{not-true, not-false}
 use Rattle.laws.specs.Bools.{pick, cases, ◌and◌, allb, and_true, no_and}
 use Rattle.laws.proofs.BoolLaws.{allb_in, true_and, and_no}
@@ -85,7 +84,7 @@ module _ (s : State) (k n : ℕ) (h : ServersFit s) (i : k < s.config.servers) (
 
 -- ---- the payload checked
 
-pub check_acts : (b b' : List ℕ) (F : Capacity) (k : ℕ) (index : LogIndex) (x : Payload) (r : ApplyAsked) (w : Run) (expected : ℕ) → Asks b F (ApplyTold k index x (Ok r)) → Reads b F w run_of
+pub check_acts : (b b' : List ℕ) (F : Capacity) (k : ℕ) (index : LogIndex) (x : Payload) (r : ApplyAsked) (w : Run) (expected : ℕ) → Asks b F (ApplyTold k index x r) → Reads b F w run_of
     → Reads b F expected (next_apply_of k) → ChangesWhere b b' F (ApplyFlags r w.now (record { 0 = k + 1 }) index x expected) (apply_checked w.now (record { 0 = k + 1 }) index x expected)
     → Changes b b' F (checked_at k index x)
 unfolding next_apply_of ApplyFlags apply_checked checked_at after_apply
@@ -95,9 +94,7 @@ check_acts b b' F k index x r w expected a pw pe c = record {
       let now : w.now ≡ s.now = ap (λ (y : Run). y.now) (pw.to s h.area h.capacity) in
       let due : expected ≡ (server_at s k).next_apply = pe.to s h.area h.capacity in
       let is : apply_checked w.now (id_of k) index x expected s ≡ checked_at k index x s = ap₂ (λ (t : SimTime) (m : ℕ). apply_checked t (id_of k) index x m s) now due in
-      let does : ApplyFlags r s.now (id_of k) index x (server_at s k).next_apply s =
-      subst (λ (z : ApplyAsked). ApplyFlags z s.now (id_of k) index x (server_at s k).next_apply s) (picked_ok _ told.asked r told.is).1 told.does in
-      let flags : ApplyFlags r w.now (id_of k) index x expected s = subst (λ (t : SimTime). ApplyFlags r t (id_of k) index x expected s) (sym now) (subst (λ (m : ℕ). ApplyFlags r s.now (id_of k) index x m s) (sym due) does) in
+      let flags : ApplyFlags r w.now (id_of k) index x expected s = subst (λ (t : SimTime). ApplyFlags r t (id_of k) index x expected s) (sym now) (subst (λ (m : ℕ). ApplyFlags r s.now (id_of k) index x m s) (sym due) told.does) in
       subst (λ (u : State). AreaOf b' l F u) is (c.to s l h flags (ap state_fits is ∙ fit));
 }
 
@@ -237,11 +234,11 @@ module _ {b : List ℕ} {F : Capacity} (k index kind : ℕ) (bytes : List ℕ) (
         ∙ sym (fits_applied s k index kind bytes (servers_fit_lem s f) j (network_fits_lem s f) o (fits_test s f 13) (laid_limits h.laid).log_indexes));
   }
 
-module _ {b : List ℕ} {F : Capacity} {k index kind : ℕ} {bytes : List ℕ} {r : Result ApplyAsked Refusal} (i : k < F.servers) (m : index ≤ F.limits.log_indexes)
+module _ {b : List ℕ} {F : Capacity} {k index kind : ℕ} {bytes : List ℕ} {r : ApplyAsked} (i : k < F.servers) (m : index ≤ F.limits.log_indexes)
     (a : Asks b F (ApplyTold k (record { 0 = index }) (payload_of kind bytes) r)) where
-  pub at_refused : (refusal : Refusal) → r ≡ Err refusal → AppliesAt b b F k index kind bytes 10
+  pub at_refused : (refusal : Refusal) → r.room ≡ Err refusal → AppliesAt b b F k index kind bytes 10
   at_refused refusal e = record {
-    code = ten_read k index kind bytes i m false (λ s h ef. and_no (reply_test k (key_given kind bytes) s) _ (picked_err _ _ refusal (sym e ∙ (a.to s h ef).is)));
+    code = ten_read k index kind bytes i m false (λ s h ef. and_no (reply_test k (key_given kind bytes) s) _ (picked_err _ _ refusal (sym e ∙ (a.to s h ef).room)));
     changes = λ z. absurd (omega arith);
     kept = λ o. refl;
   }
@@ -254,10 +251,10 @@ module _ {b : List ℕ} {F : Capacity} {k index kind : ℕ} {bytes : List ℕ} {
       kept = λ o. refl;
     }
 
-    pub at_done : (asked : ApplyAsked) (b' : List ℕ) → r ≡ Ok asked → not room ≡ false → Changes b b' F (applied k index kind bytes)
+    pub at_done : (b' : List ℕ) → r.room ≡ Ok tt → not room ≡ false → Changes b b' F (applied k index kind bytes)
         → AppliesAt b b' F k index kind bytes 0
-    at_done asked b' e t p = record {
-      code = ten_read k index kind bytes i m true (λ s h ef. ap₂ (λ (x y : Bool). x and y) (room_is k kind bytes ek pr s h ef ∙ not-false room t) (picked_ok _ _ asked (sym e ∙ (a.to s h ef).is)).0 ∙ true_and true);
+    at_done b' e t p = record {
+      code = ten_read k index kind bytes i m true (λ s h ef. ap₂ (λ (x y : Bool). x and y) (room_is k kind bytes ek pr s h ef ∙ not-false room t) (picked_ok _ _ tt (sym e ∙ (a.to s h ef).room)).0 ∙ true_and true);
       changes = λ z. p;
       kept = λ o. absurd (omega arith);
     }

@@ -2,7 +2,7 @@
 // the server had accepted it from a client, the reply is sent.
 #![tactic(auto)]
 
-ghost use Rattle.std.specs.Prelude.{◌≡◌, ◌*◌, ◌≤◌, ◌<◌, length, Ok};
+ghost use Rattle.std.specs.Prelude.{◌≡◌, ◌*◌, ◌≤◌, ◌<◌, length};
 ghost use Rattle.units.specs.Types.{payload_of};
 ghost use Rattle.model.specs.Calls.{output_apply};
 ghost use Rattle.state.specs.Changes.{Inside, Gated, Reads, Changes};
@@ -166,7 +166,7 @@ fn check_apply(
     requires inside { Inside area.old f }
     requires slot_lt_servers { slot < f.servers }
     requires kind_bound { (kind ≤ 1) × (length payload.now ≤ 256 * kind) × (length payload.now ≤ f.limits.payload) }
-    requires asks { Asks area.old f (ApplyTold slot index (payload_of kind payload.now) (Ok asked)) }
+    requires asks { Asks area.old f (ApplyTold slot index (payload_of kind payload.now) asked) }
     ensures { Changes area.old area.new f (checked_at slot index (payload_of kind payload.now)) }
 {
     let run = state_header::run_of(area, f);
@@ -198,7 +198,7 @@ fn apply_act(
     requires slot_lt_servers { slot < f.servers }
     requires index_bound { index ≤ f.limits.log_indexes }
     requires kind_bound { (kind ≤ 1) × (length payload.now ≤ 256 * kind) × (length payload.now ≤ f.limits.payload) }
-    requires asks { Asks area.old f (ApplyTold slot (record { 0 = index }) (payload_of kind payload.now) (Ok asked)) }
+    requires asks { Asks area.old f (ApplyTold slot (record { 0 = index }) (payload_of kind payload.now) asked) }
     ensures { Changes area.old area.new f (applied slot index kind payload.now) }
 {
     let key = key_given(kind, payload);
@@ -216,9 +216,10 @@ fn apply_at(area: &mut [u8], f: Capacity, slot: u64, index: u64, kind: u64, payl
     ensures { AppliesAt area.old area.new f slot index kind payload.now result }
 {
     let at = slot as usize;
-    match state_asks::apply::apply_asked(area, f, at, LogIndex(index), kind, payload) {
+    let asked = state_asks::apply::apply_asked(area, f, at, LogIndex(index), kind, payload);
+    match asked.room {
         Err(_) => 10,
-        Ok(asked) => {
+        Ok(()) => {
             let key = key_given(kind, payload);
             let room = reply_room(area, f, slot, key);
             if !room {

@@ -7,12 +7,11 @@ use Prim.Native.Nat.{ℕ, zero, suc, ◌+◌, ◌-◌, ◌≤◌, ◌<◌}
 use Rattle.units.specs.declared.SimTime.{SimTime}
 use Rattle.checks.specs.Checks.{ServerLog, check_against, check_log_matching}
 use Rattle.std.specs.Prelude.{Ok, Err}
-use Rattle.std.specs.declared.result.Result.{Result}
 use Rattle.laws.specs.Bools.{pick}
-use Rattle.units.specs.declared.refusal.Refusal.{Refusal}
 use Rattle.units.specs.declared.refusal.Refusal.TheVariants.{Room}
-use Rattle.units.specs.Refusals.{refusal_number, answer_number}
+use Rattle.units.specs.Refusals.{answer_number}
 use Rattle.model.specs.Fits.{checker_fits}
+use Rattle.checks_log_matching.specs.declared.pairs.MatchingAsked.{MatchingAsked}
 use Rattle.checks_log_matching.specs.Pairs.{reported_mismatch}
 use Rattle.model.specs.State.{State, new_server, server_at, id_of}
 use Rattle.model.specs.Fields.{with_checker}
@@ -39,24 +38,17 @@ module _ (b : List ℕ) (F : Capacity) (c : Bool) (q : Reads b F c closed_of) wh
   unfolding check_log_matching_call after_matching
   matching_open n = check_open q check_log_matching_call after_matching (λ s. refl) matching_checked n
 
-  module _ (r : Result ℕ Refusal) (n : not c ≡ false) (p : Asks b F (MatchingTold r)) where
-    matching_planned : (k : ℕ) → k ≡ answer_number r → Planned b F k check_log_matching_call tt matching_checked
-    unfolding check_log_matching_call after_matching matching_checked checker_code
-    matching_planned k e =
-        check_asked q check_log_matching_call after_matching (λ s. refl) n k
-        (λ s h ef. e ∙ ap answer_number (p.to s h ef).is ∙ number (checker_fits s.config s.limits (after_matching s)) (p.to s h ef).reports) matching_checked
-        (λ s h ef. refl)
-      where
-        number : (t : Bool) (m : ℕ) → answer_number (pick t (Ok m) (Err Room)) ≡ pick t 0 10
-        number true m = refl
-        number false m = refl
-
-    pub matching_fits : (m : ℕ) → r ≡ Ok m → Planned b F 0 check_log_matching_call tt matching_checked
-    matching_fits m e = matching_planned 0 (sym (ap answer_number e))
-
-    pub matching_full : (refusal : Refusal) (k : ℕ) → r ≡ Err refusal → k ≡ refusal_number refusal
-        → Planned b F k check_log_matching_call tt matching_checked
-    matching_full refusal k e f = matching_planned k (f ∙ sym (ap answer_number e))
+  pub matching_planned : (r : MatchingAsked) (k : ℕ) → not c ≡ false → Asks b F (MatchingTold r) → k ≡ answer_number r.room
+      → Planned b F k check_log_matching_call tt matching_checked
+  unfolding check_log_matching_call after_matching matching_checked checker_code
+  matching_planned r k n p e =
+      check_asked q check_log_matching_call after_matching (λ s. refl) n k
+      (λ s h ef. e ∙ ap answer_number (p.to s h ef).room ∙ number (checker_fits s.config s.limits (after_matching s)) tt) matching_checked
+      (λ s h ef. refl)
+    where
+      number : (t : Bool) (answer : Unit {0}) → answer_number (pick t (Ok answer) (Err Room)) ≡ pick t 0 10
+      number true answer = refl
+      number false answer = refl
 
 -- ---- check_pair
 

@@ -12,6 +12,7 @@ use answers::DoneAnswer;
 use state::{Capacity, Gate};
 use state_asks::matching;
 use state_checks::acts;
+use units::refusal::answer_number;
 use units::{NodeId, SimTime};
 
 // Questions 6 and 10.
@@ -23,10 +24,7 @@ fn matching_plan(area: &[u8], f: Capacity) -> u64
     if !closed {
         return 6;
     }
-    match matching::matching_asked(area, f) {
-        Ok(_) => 0,
-        Err(refusal) => u64::from(refusal),
-    }
+    answer_number(matching::matching_asked(area, f).room)
 }
 
 // The logs of the servers at two places.

@@ -33,7 +33,7 @@ use Rattle.answers.specs.Answers.{input_of, no_input_numbers}
 use Rattle.sim_owed.specs.declared.Owed.{Owed as OwedKind}
 use Rattle.sim_owed.specs.declared.Owed.TheVariants.{Nothing, Construction, Healing}
 use Rattle.sim_owed.specs.Servers.{owed_of, Opens, start_at, restart_test, restart_at}
-use Rattle.sim_owed.specs.Closes.{idle_at, construct_at, construct_test, runs_at, runs_as, flags_of, first_stopped, stopped_from, Seeking, stopped_test, heal_test, heal_at, uncrashed_state, uncrashed_at, HealsOne, HealedTo, close_at, close_test}
+use Rattle.sim_owed.specs.Closes.{idle_at, construct_at, construct_test, runs_at, runs_as, flags_of, first_stopped, stopped_from, Seeking, Sought, stopped_test, heal_test, heal_at, uncrashed_state, uncrashed_at, HealsOne, HealedTo, close_at, close_test}
 use Rattle.sim_owed.specs.Fits.{running_is, uncrashed_server, fits_idle, fits_uncrashed, settled_fits, heal_runs, heal_stopped, construct_last, construct_next}
 use Rattle.sim_owed.specs.ServerLaws.{opens_after, opens_is}
 
@@ -142,7 +142,7 @@ flag_as s place slot runs l =
 
 module _ (b : List ℕ) (F : Capacity) (place slot : ℕ) (running : Bool) where
   pub seeking_start : Seeking b F place slot running place
-  seeking_start = record { same = λ s h ef. refl; upto = omega arith }
+  seeking_start = record { same = λ s h ef. refl }
 
   module _ (k : ℕ) (p : Seeking b F place slot running k) where
     module _ (r : Bool) (i : k < F.servers) (q : Reads b F r (runs_as k slot running)) where
@@ -160,7 +160,6 @@ module _ (b : List ℕ) (F : Capacity) (place slot : ℕ) (running : Bool) where
       pub seeking_turn : not r ≡ false → Seeking b F place slot running (k + 1)
       seeking_turn t = record {
         same = λ s h ef. p.same s h ef ∙ here s h ef ∙ ap (λ (u : Bool). pick u (stopped_from (k + 1) slot running s) k) (yes r t);
-        upto = omega arith;
       }
 
       pub seeking_found : not r ≡ true → Reads b F k (stopped_from place slot running)
@@ -168,14 +167,31 @@ module _ (b : List ℕ) (F : Capacity) (place slot : ℕ) (running : Bool) where
         to = λ s h ef. sym (p.same s h ef ∙ here s h ef ∙ ap (λ (u : Bool). pick u (stopped_from (k + 1) slot running s) k) (no r t));
       }
 
-    pub seeking_none : (r : ℕ) → place ≤ k → F.servers ≤ k → r ≡ max place F.servers → Reads b F r (stopped_from place slot running)
+    pub seeking_none : F.servers ≤ k → Reads b F k (stopped_from place slot running)
     unfolding stopped_from first_stopped
-    seeking_none r from l e = record {
+    seeking_none l = record {
       to = λ s h ef.
-          let last : r ≡ k = omega (arith, p.upto) in
           let n : s.config.servers - k ≡ 0 = omega (arith, count_is h ef, server_count s (area_fits h)) in
-          last ∙ sym (p.same s h ef ∙ ap (λ (m : ℕ). first_stopped (set (flags_of s) slot running) k m) n);
+          sym (p.same s h ef ∙ ap (λ (m : ℕ). first_stopped (set (flags_of s) slot running) k m) n);
     }
+
+-- the same, with the bound of the place, of which the code answers the last
+module _ (b : List ℕ) (F : Capacity) (place slot : ℕ) (running : Bool) where
+  pub sought_start : Sought b F place slot running place
+  sought_start = record { seeking = seeking_start b F place slot running; upto = omega arith }
+
+  module _ (k : ℕ) (p : Sought b F place slot running k) where
+    module _ (r : Bool) (i : k < F.servers) (q : Reads b F r (runs_as k slot running)) where
+      pub sought_turn : not r ≡ false → Sought b F place slot running (k + 1)
+      sought_turn t = record { seeking = seeking_turn b F place slot running k p.seeking r i q t; upto = omega arith }
+
+      pub sought_found : not r ≡ true → Reads b F k (stopped_from place slot running)
+      sought_found t = seeking_found b F place slot running k p.seeking r i q t
+
+    pub sought_none : (r : ℕ) → place ≤ k → F.servers ≤ k → r ≡ max place F.servers → Reads b F r (stopped_from place slot running)
+    sought_none r from l e =
+        let last : k ≡ r = omega (arith, p.upto) in
+        subst (λ (n : ℕ). Reads b F n (stopped_from place slot running)) last (seeking_none b F place slot running k p.seeking l)
 
 module _ (b : List ℕ) (F : Capacity) (place slot : ℕ) (running : Bool) (k : ℕ) (q : Reads b F k (stopped_from place slot running)) where
   pub heal_some : (r : Bool) → k < F.servers → Reads b F r (restart_test k) → Reads b F r (heal_test place slot running)

@@ -56,9 +56,13 @@ first_stopped flags place (suc left) = pick (get_or flags place false) (first_st
 unfoldable pub stopped_from : ℕ → ℕ → Bool → State → ℕ
 stopped_from place slot runs s = first_stopped (set (flags_of s) slot runs) place (s.config.servers - place)
 
--- The servers from one place up to another, at most the first or the end, run: the search from the first goes on from the second.
+-- The servers from one place up to another run: the search from the first goes on from the second.
 pub record Seeking (b : List ℕ) (F : Capacity) (place slot : ℕ) (runs : Bool) (k : ℕ) : Type 0 where
   pub same : (s : State) → Area b s → F ≡ capacity_of s → stopped_from place slot runs s ≡ stopped_from k slot runs s
+
+-- The same, with the second place at most the first or the end.
+pub record Sought (b : List ℕ) (F : Capacity) (place slot : ℕ) (runs : Bool) (k : ℕ) : Type 0 where
+  pub seeking : Seeking b F place slot runs k
   pub upto : k ≤ max place F.servers
 
 -- Whether the server at a place, if there is one, can restart.

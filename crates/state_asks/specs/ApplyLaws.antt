@@ -18,9 +18,7 @@ use Rattle.checks.specs.Checks.{Checker, report_if, on_apply}
 use Rattle.checks.specs.Asked.{counts_code, where_fits, append_if}
 use Rattle.checks.specs.AskedLaws.{where_coded}
 use Rattle.checks.specs.Reports.{leaders_if, entries_if}
-use Rattle.std.specs.declared.result.Result.{Result}
 use Rattle.laws.specs.Bools.{pick}
-use Rattle.units.specs.declared.refusal.Refusal.{Refusal}
 use Rattle.units.specs.declared.refusal.Refusal.TheVariants.{Room}
 use Rattle.model.specs.Fits.{checker_fits}
 use Rattle.checks_on_apply.specs.declared.ApplyAsked.{ApplyAsked}
@@ -95,7 +93,7 @@ module _ {b : List ℕ} {s : State} (h : Area b s) (k : ℕ) (i : k < s.config.s
 
 -- What the function has of an area of these counts when it asks.
 record Learnt (F : Capacity) (b : List ℕ) (k : ℕ) (index : LogIndex) (content : List ℕ) (expected n at w : ℕ) (counts : TableCounts)
-    (r : Result ApplyAsked Refusal) : Type 0 where
+    (r : ApplyAsked) : Type 0 where
   place : k < F.servers
   rows : Rows counts.applied F.limits.log_indexes (1 + words_for F.limits.payload) n
   begins : at ≡ applied_at F
@@ -113,7 +111,7 @@ record Learnt (F : Capacity) (b : List ℕ) (k : ℕ) (index : LogIndex) (conten
         content = content;
       }) r
 
-module _ {b : List ℕ} {k : ℕ} {index : LogIndex} {content : List ℕ} {expected n at w : ℕ} {counts : TableCounts} {r : Result ApplyAsked Refusal}
+module _ {b : List ℕ} {k : ℕ} {index : LogIndex} {content : List ℕ} {expected n at w : ℕ} {counts : TableCounts} {r : ApplyAsked}
     (f : index.0 < 2 ^ 64) {s : State} (h : Area b s)
     (q : Learnt (capacity_of s) b k index content expected n at w counts r) (ex : expected ≡ (server_at s k).next_apply)
     (ec : counts ≡ counts_of s) (x : Payload)
@@ -137,7 +135,7 @@ module _ {b : List ℕ} {k : ℕ} {index : LogIndex} {content : List ℕ} {expec
         index = index;
         expected = expected;
         content = content;
-      }) r q.asked.asked
+      }) r
       s.checker s.now (id_of k) x
   answered =
       let held : Held (applied s.limits.payload) (applied_words (capacity_of s)) n (lent_row at w b) s.checker.applied =
@@ -145,22 +143,21 @@ module _ {b : List ℕ} {k : ℕ} {index : LogIndex} {content : List ℕ} {expec
       (sym count_is) (applied_lent h at w q.begins q.words) in
       q.asked.to (applied_words (capacity_of s)) s.checker s.now (id_of k) x hx held (sym (ap (λ (t : TableCounts). t.total) ec))
 
-  told_does : after (server_at s k).next_apply ≡ apply_acts q.asked.asked index (server_at s k).next_apply s.checker s.now (id_of k) x
-  told_does = subst (λ (m : ℕ). after m ≡ apply_acts q.asked.asked index m s.checker s.now (id_of k) x) ex answered.does
+  told_does : after (server_at s k).next_apply ≡ apply_acts r index (server_at s k).next_apply s.checker s.now (id_of k) x
+  told_does = subst (λ (m : ℕ). after m ≡ apply_acts r index m s.checker s.now (id_of k) x) ex answered.does
 
-  told_is : r ≡ pick (checker_fits s.config s.limits (after (server_at s k).next_apply)) (Ok q.asked.asked) (Err Room)
+  told_room : r.room ≡ pick (checker_fits s.config s.limits (after (server_at s k).next_apply)) (Ok tt) (Err Room)
   unfolding checker_code
-  told_is =
-      let asked : ApplyAsked = q.asked.asked in
-      let acts : Checker = acted h k q.place index f x hx.good asked in
-      answered.is ∙ ap (λ (m : ℕ). where_fits (length (after m).applied) s.limits.log_indexes (after m).total asked) ex
-      ∙ ap (λ (d : Checker). where_fits (length d.applied) s.limits.log_indexes d.total asked) told_does
-      ∙ where_coded (length acts.applied) s.limits.log_indexes acts.total (checker_fits s.config s.limits acts) asked
-      (sym (acted_code h k q.place index f x hx.good asked))
-      ∙ ap (λ (d : Checker). pick (checker_fits s.config s.limits d) (Ok asked) (Err Room)) (sym told_does)
+  told_room =
+      let acts : Checker = acted h k q.place index f x hx.good r in
+      answered.room ∙ ap (λ (m : ℕ). where_fits (length (after m).applied) s.limits.log_indexes (after m).total tt) ex
+      ∙ ap (λ (d : Checker). where_fits (length d.applied) s.limits.log_indexes d.total tt) told_does
+      ∙ where_coded (length acts.applied) s.limits.log_indexes acts.total (checker_fits s.config s.limits acts) tt
+      (sym (acted_code h k q.place index f x hx.good r))
+      ∙ ap (λ (d : Checker). pick (checker_fits s.config s.limits d) (Ok tt) (Err Room)) (sym told_does)
 
 pub row_asked : {b : List ℕ} {F : Capacity} {k : ℕ} {index : LogIndex} {content : List ℕ} {expected n at w : ℕ}
-    {counts : TableCounts} {r : Result ApplyAsked Refusal} → index.0 < 2 ^ 64
+    {counts : TableCounts} {r : ApplyAsked} → index.0 < 2 ^ 64
     → k < F.servers → Reads b F expected (next_apply_of k) → Reads b F counts counts_of
     → Rows counts.applied F.limits.log_indexes (1 + words_for F.limits.payload) n
     → Begins b at (applied_at F) (applied_words F) → Counted w (applied_words F)
@@ -188,8 +185,7 @@ row_asked {b} {F} {k} {index} {content} {expected} {n} {at} {w} {counts} {r} f i
     record {
       to = λ x hx. record {
         to = λ s h e. record {
-          asked = q.asked;
-          is = told_is f h (here s e) (re.to s h e) (rc.to s h e) x (row x hx s e);
+          room = told_room f h (here s e) (re.to s h e) (rc.to s h e) x (row x hx s e);
           does = told_does f h (here s e) (re.to s h e) (rc.to s h e) x (row x hx s e);
         };
       };
@@ -198,7 +194,7 @@ row_asked {b} {F} {k} {index} {content} {expected} {n} {at} {w} {counts} {r} f i
 -- ---- payload_asked
 
 pub payload_asked : {b : List ℕ} {F : Capacity} {k : ℕ} {index : LogIndex} (kind : ℕ)
-    (src : List ℕ) {content content' : List ℕ} {r : Result ApplyAsked Refusal} → Inside b F → kind ≤ 1
+    (src : List ℕ) {content content' : List ℕ} {r : ApplyAsked} → Inside b F → kind ≤ 1
     → length src ≤ 256 * kind → length src ≤ F.limits.payload → Bytes src → length content ≡ 8 * (1 + words_for F.limits.payload)
     → Puts payload_marking (payload_of kind src) content content' → AsksRow b F k index content' r
     → Asks b F (ApplyTold k index (payload_of kind src) r)

@@ -13,8 +13,6 @@ use Rattle.storage.specs.Storage.{Write, written}
 use Rattle.checks.specs.declared.Mismatch.{Mismatch}
 use Rattle.checks.specs.Checks.{Checker, Led, Acknowledged, leader_key, on_apply, on_writes, on_status, log_matching_failure}
 use Rattle.checks.specs.Checks.{check_log_matching, highest_of, check_durability}
-use Rattle.std.specs.declared.result.Result.{Result}
-use Rattle.units.specs.declared.refusal.Refusal.{Refusal}
 use Rattle.units.specs.declared.refusal.Refusal.TheVariants.{Room}
 use Rattle.checks_on_apply.specs.declared.ApplyAsked.{ApplyAsked}
 use Rattle.checks_on_apply.specs.OnApply.{apply_acts}
@@ -24,6 +22,7 @@ use Rattle.checks_on_write.specs.OnWrite.{write_asked}
 use Rattle.checks_on_write.specs.OnWrites.{index_of}
 use Rattle.checks_on_status.specs.declared.StatusAsked.{StatusAsked}
 use Rattle.checks_on_status.specs.OnStatus.{status_acts}
+use Rattle.checks_log_matching.specs.declared.pairs.MatchingAsked.{MatchingAsked}
 use Rattle.checks_durability.specs.declared.DurabilityAsked.{DurabilityAsked}
 use Rattle.checks_durability.specs.declared.replies.Reply.{Reply}
 use Rattle.checks_durability.specs.Acknowledged.{acknowledged_from, is_applied}
@@ -70,14 +69,14 @@ pub record Asks (b : List ℕ) (F : Capacity) (told : State → Type 0) : Type 0
 unfoldable pub after_apply : ℕ → LogIndex → Payload → State → Checker
 after_apply k index x s = on_apply s.checker s.now (id_of k) index x (server_at s k).next_apply
 
--- The answer for a state: flags that say what the definition does, exactly where what it gives fits; else question 10 is answered no.
-pub record ApplyTold (k : ℕ) (index : LogIndex) (x : Payload) (r : Result ApplyAsked Refusal) (s : State) : Type 0 where
-  pub asked : ApplyAsked
-  pub is : r ≡ pick (checker_fits s.config s.limits (after_apply k index x s)) (Ok asked) (Err Room)
-  pub does : after_apply k index x s ≡ apply_acts asked index (server_at s k).next_apply s.checker s.now (id_of k) x
+-- The answer for a state: question 10 is answered yes exactly where what the definition gives fits, and flags say what it does, also where
+-- it does not fit.
+pub record ApplyTold (k : ℕ) (index : LogIndex) (x : Payload) (r : ApplyAsked) (s : State) : Type 0 where
+  pub room : r.room ≡ pick (checker_fits s.config s.limits (after_apply k index x s)) (Ok tt) (Err Room)
+  pub does : after_apply k index x s ≡ apply_acts r index (server_at s k).next_apply s.checker s.now (id_of k) x
 
 -- The same whatever payload the lent words hold.
-pub record AsksRow (b : List ℕ) (F : Capacity) (k : ℕ) (index : LogIndex) (content : List ℕ) (r : Result ApplyAsked Refusal) : Type 0 where
+pub record AsksRow (b : List ℕ) (F : Capacity) (k : ℕ) (index : LogIndex) (content : List ℕ) (r : ApplyAsked) : Type 0 where
   pub to : (x : Payload) → Holds (payload F.limits.payload) content x → Asks b F (ApplyTold k index x r)
 
 -- ---- a status
@@ -160,14 +159,14 @@ mismatch_between i j s = log_matching_failure (log_of i s) (log_of j s)
 unfoldable pub after_matching : State → Checker
 after_matching s = check_log_matching s.checker s.now (logs_from 0 s.servers)
 
--- The answer for a state: how many reports are due, exactly where what the definition gives fits; else question 10 is answered no.
-pub record MatchingTold (r : Result ℕ Refusal) (s : State) : Type 0 where
-  pub reports : ℕ
-  pub is : r ≡ pick (checker_fits s.config s.limits (after_matching s)) (Ok reports) (Err Room)
-  pub counted : (after_matching s).total ≡ s.checker.total + reports
+-- The answer for a state: question 10 is answered yes exactly where what the definition gives fits, and it is told how many reports are
+-- due, also where it does not fit.
+pub record MatchingTold (r : MatchingAsked) (s : State) : Type 0 where
+  pub room : r.room ≡ pick (checker_fits s.config s.limits (after_matching s)) (Ok tt) (Err Room)
+  pub reports : (after_matching s).total ≡ s.checker.total + r.reports
 
 -- The same where the total of violations is the state's.
-pub record MatchingGiven (total : ℕ) (r : Result ℕ Refusal) (s : State) : Type 0 where
+pub record MatchingGiven (total : ℕ) (r : MatchingAsked) (s : State) : Type 0 where
   pub to : total ≡ s.checker.total → MatchingTold r s
 
 -- ---- durability

@@ -1,6 +1,5 @@
 -- What the proofs of matching.rt cite. Assumes nothing.
 use Rattle.std.specs.Prelude.{◌≡◌, Bool, eqb, ltb, length, get_or, drop, Option, None, Some}
-use Rattle.std.specs.declared.result.Result.{Result}
 use Rattle.std.proofs.Math.Path.{refl, ap}
 use Rattle.std.proofs.Common.{sym, ap₂, subst, ◌∙◌, lt-ltb, eqb-true}
 use Rattle.std.proofs.Math.Bool.{true, false}
@@ -14,7 +13,6 @@ use Rattle.units.specs.Types.{Entry}
 use Rattle.units.specs.declared.NodeId.{NodeId}
 use Rattle.units.specs.declared.SimTime.{SimTime}
 use Rattle.units.specs.declared.LogIndex.{LogIndex}
-use Rattle.units.specs.declared.refusal.Refusal.{Refusal}
 use Rattle.words.specs.Sets.{length_part}
 use Rattle.layout.specs.UpTo.{is64}
 use Rattle.layout.specs.Tables.{Held}
@@ -30,6 +28,7 @@ use Rattle.checks.specs.Checks.{Checker, ServerLog, same_entry, shared_term, mis
 use Rattle.checks.specs.Checks.{log_matching_failure, report_mismatch, check_against, check_log_matching}
 use Rattle.checks.specs.Asked.{counts_code, where_fits}
 use Rattle.checks.specs.AskedLaws.{where_coded}
+use Rattle.checks_log_matching.specs.declared.pairs.MatchingAsked.{MatchingAsked}
 use Rattle.checks_log_matching.specs.Pairs.{Logs, log_bytes, server_logs, Between, AsksLogs}
 use Rattle.checks_log_matching.specs.Laws.{last_within}
 use Rattle.model.specs.State.{State, Server, new_server, server_at, id_of}
@@ -242,12 +241,12 @@ stride_room l more e = omega arith
 -- ---- matching_given, matching_asked, mismatch_of
 
 -- What the function has of an area of these counts when it asks.
-record Learnt (F : Capacity) (b : List ℕ) (total z q : ℕ) (r : Result ℕ Refusal) : Type 0 where
+record Learnt (F : Capacity) (b : List ℕ) (total z q : ℕ) (r : MatchingAsked) : Type 0 where
   stride : z ≡ block_words F
   ends : q ≡ queue_at F
   asked : AsksLogs (Logs F.limits.payload F.limits.log_indexes F.servers z 64 (take (8 * q - 4096) (drop 4096 b))) total r
 
-told : {b : List ℕ} {s : State} {total z q : ℕ} {r : Result ℕ Refusal} → Area b s → Learnt (capacity_of s) b total z q r
+told : {b : List ℕ} {s : State} {total z q : ℕ} {r : MatchingAsked} → Area b s → Learnt (capacity_of s) b total z q r
     → MatchingGiven total r s
 unfolding after_matching counts_code checker_code
 told {b} {s} {total} {z} {q} {r} h p = record {
@@ -257,16 +256,15 @@ told {b} {s} {total} {z} {q} {r} h p = record {
       ≡ check_log_matching s.checker s.now (logs_from 0 s.servers) =
       ap (check_log_matching s.checker s.now) (sym (logs_are 0 s.servers)) in
       record {
-        reports = p.asked.reports;
-        is = p.asked.is (logs_of s.servers) logs s.checker s.now (sym et) ∙ ap (λ (d : Checker). where_fits 0 0 d.total p.asked.reports) same
-            ∙ where_coded 0 0 (after_matching s).total (checker_fits s.config s.limits (after_matching s)) p.asked.reports
+        room = p.asked.room (logs_of s.servers) logs s.checker s.now (sym et) ∙ ap (λ (d : Checker). where_fits 0 0 d.total tt) same
+            ∙ where_coded 0 0 (after_matching s).total (checker_fits s.config s.limits (after_matching s)) tt
             (ap (λ (t : Bool). pick t 0 10) (true_and (ltb (after_matching s).total (2 ^ 64))) ∙ sym (reported_code h (matching_reported h)));
-        counted = ap (λ (d : Checker). d.total) (sym same) ∙ p.asked.counted (logs_of s.servers) logs s.checker s.now (sym et)
-            ∙ ap (λ (n : ℕ). n + p.asked.reports) et;
+        reports = ap (λ (d : Checker). d.total) (sym same) ∙ p.asked.counted (logs_of s.servers) logs s.checker s.now (sym et)
+            ∙ ap (λ (n : ℕ). n + r.reports) et;
       };
 }
 
-pub matching_given : {b : List ℕ} {F : Capacity} {total z q : ℕ} {r : Result ℕ Refusal} → Counted z (block_words F)
+pub matching_given : {b : List ℕ} {F : Capacity} {total z q : ℕ} {r : MatchingAsked} → Counted z (block_words F)
     → Begins b q (queue_at F) (queue_words F)
     → AsksLogs (Logs F.limits.payload F.limits.log_indexes F.servers z 64 (take (8 * q - 4096) (drop 4096 b))) total r
     → Asks b F (MatchingGiven total r)
@@ -274,7 +272,7 @@ matching_given {b} {F} {total} {z} {q} {r} cz pq a =
     let learnt : Learnt F b total z q r = record { stride = cz.is; ends = pq.is; asked = a } in
     record { to = λ s h e. told h (subst (λ (G : Capacity). Learnt G b total z q r) e learnt) }
 
-pub matching_asked : {b : List ℕ} {F : Capacity} {counts : TableCounts} {r : Result ℕ Refusal} → Reads b F counts counts_of
+pub matching_asked : {b : List ℕ} {F : Capacity} {counts : TableCounts} {r : MatchingAsked} → Reads b F counts counts_of
     → Asks b F (MatchingGiven counts.total r) → Asks b F (MatchingTold r)
 matching_asked rc q = record { to = λ s h e. (q.to s h e).to (ap (λ (x : TableCounts). x.total) (rc.to s h e)) }
 

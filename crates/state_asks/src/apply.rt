@@ -10,7 +10,6 @@ use checks_on_apply::ApplyAsked;
 use layout::marked;
 use state::{Capacity, sizes};
 use units::LogIndex;
-use units::refusal::Refusal;
 
 // The index that the server at a place is expected to apply next.
 pub fn next_apply_of(area: &[u8], f: Capacity, k: usize) -> u64
@@ -25,13 +24,7 @@ pub fn next_apply_of(area: &[u8], f: Capacity, k: usize) -> u64
 }
 
 // What a payload that the server at a place applied gives, lent in words.
-fn row_asked(
-    area: &[u8],
-    f: Capacity,
-    k: usize,
-    index: LogIndex,
-    content: &[u8],
-) -> Result<ApplyAsked, Refusal>
+fn row_asked(area: &[u8], f: Capacity, k: usize, index: LogIndex, content: &[u8]) -> ApplyAsked
     requires inside { Inside area.now f }
     requires k_lt_servers { k < f.servers }
     requires content_len { length content.now ≡ 8 * (1 + words_for f.limits.payload) }
@@ -66,7 +59,7 @@ fn payload_asked(
     kind: u64,
     src: &[u8],
     content: &mut [u8],
-) -> Result<ApplyAsked, Refusal>
+) -> ApplyAsked
     requires inside { Inside area.now f }
     requires k_lt_servers { k < f.servers }
     requires kind_bound { kind ≤ 1 }
@@ -87,7 +80,7 @@ pub fn apply_asked(
     index: LogIndex,
     kind: u64,
     src: &[u8],
-) -> Result<ApplyAsked, Refusal>
+) -> ApplyAsked
     requires inside { Inside area.now f }
     requires k_lt_servers { k < f.servers }
     requires kind_bound { kind ≤ 1 }

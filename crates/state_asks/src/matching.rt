@@ -6,11 +6,11 @@ ghost use Rattle.state_asks.specs.Asks.{Asks, mismatch_between, MatchingTold, Ma
 use crate::numbers;
 use checks::Mismatch;
 use checks_log_matching::pairs;
+use checks_log_matching::pairs::MatchingAsked;
 use state::{Capacity, sizes};
-use units::refusal::Refusal;
 
 // What every pair of logs gives, with the total of violations.
-fn matching_given(area: &[u8], f: Capacity, total: u64) -> Result<u64, Refusal>
+fn matching_given(area: &[u8], f: Capacity, total: u64) -> MatchingAsked
     requires { Inside area.now f }
     ensures { Asks area.now f (MatchingGiven total result) }
 {
@@ -29,7 +29,7 @@ fn matching_given(area: &[u8], f: Capacity, total: u64) -> Result<u64, Refusal>
 }
 
 // What every pair of logs gives to report.
-pub fn matching_asked(area: &[u8], f: Capacity) -> Result<u64, Refusal>
+pub fn matching_asked(area: &[u8], f: Capacity) -> MatchingAsked
     requires { Inside area.now f }
     ensures { Asks area.now f (MatchingTold result) }
 {

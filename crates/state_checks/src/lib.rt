@@ -1,7 +1,7 @@
 // What the checks write, over the whole area: a violation kept, an entry seen, a leader of a term, an applied payload.
 #![tactic(auto)]
 
-ghost use Rattle.std.specs.Prelude.{◌≡◌, true, ◌+◌, ◌*◌, ◌≤◌, ◌<◌, length};
+ghost use Rattle.std.specs.Prelude.{◌≡◌, true, ◌+◌, ◌*◌, ◌≤◌, ◌<◌, length, take};
 ghost use Rattle.units.specs.Types.{payload_of};
 ghost use Rattle.layout.specs.Tables.{Becomes, append};
 ghost use Rattle.layout.specs.Marked.{words_for};
@@ -29,12 +29,11 @@ fn count_of(area: &[u8], f: Capacity, j: usize) -> u64
     words::load(&area[664..728], j)
 }
 
-// Counts a violation that is due, and keeps it while fewer than 32 are kept; `detail` has the numbers of its text. Nothing is written where
-// the total has no 64 bits.
+// Counts a violation that is due, and keeps it while fewer than 32 are kept; the first five of `detail` are the numbers of its text.
+// Nothing is written where the total has no 64 bits.
 pub fn keep(area: &mut [u8], f: Capacity, due: bool, time: SimTime, check: Check, detail: &[u64])
     requires inside { Inside area.old f }
-    requires few { length detail.now ≤ 5 }
-    ensures { Changes area.old area.new f (reported_if due time check detail.now) }
+    ensures { Changes area.old area.new f (reported_if due time check (take 5 detail.now)) }
 {
     if !due {
         return;

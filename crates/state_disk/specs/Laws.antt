@@ -1,5 +1,6 @@
 -- What the proofs of lib.rt cite. Assumes nothing.
 use Rattle.std.specs.Prelude.{◌≡◌, Bool, ltb, eqb, length, get_or, set, drop, Option, None, Some, Ok, Err}
+use Rattle.std.specs.Option.{unwrap_or}
 use Rattle.std.proofs.Math.Path.{refl, sym, ap, ap₂, subst}
 use Rattle.std.proofs.Common.{◌∙◌, length-append}
 use Rattle.std.proofs.Math.Bool.{true, false}
@@ -9,6 +10,7 @@ use native.Mathlib.Omega.{arith}
 use Rattle.std.proofs.Math.ListN.{take}
 use borrow.Author.Tests.{le-leb, leb-true, eq-eqb}
 use Rattle.laws.specs.Bools.{◌and◌, pick, cases, every, and_left, and_true}
+use Rattle.laws.specs.Lists.{is_some}
 use Rattle.laws.proofs.BoolLaws.{every_append, every_both, allb_in, and_right, and_both}
 use Rattle.laws.specs.Decides.{false_true}
 use Rattle.units.specs.Types.{Payload}
@@ -358,6 +360,13 @@ module _ (b ys b₂ : List ℕ) (F : Capacity) (k : ℕ) (d : DiskPlace) (v : St
 
     pub synced_none : t.written ≡ None → SyncsAt b b₂ F k (record { wrote = false; bytes = 0 })
     synced_none q = synced_by (record { wrote = false; bytes = 0 }) (λ x g. synced_nothing x (sym q ∙ g))
+
+    pub synced_at_lem : SyncsAt b b₂ F k (record { wrote = is_some t.written; bytes = unwrap_or t.written 0 })
+    synced_at_lem = by t.written refl
+      where
+        by : (o : Option ℕ) → t.written ≡ o → SyncsAt b b₂ F k (record { wrote = is_some o; bytes = unwrap_or o 0 })
+        by None q = synced_none q
+        by (Some n) q = synced_some n q
 
   pub crashed_at_lem : (v' : StorageState) → CrashesIn F v v' (lent d.from d.to b) ys
       → StoresAt (back d.from d.to b ys) b₂ F k v'

@@ -7,3 +7,4 @@ pub mod Replay
 pub mod ReplayLaws
 pub mod Writes
 pub mod StoresLaws
+pub mod Facts

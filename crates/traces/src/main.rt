@@ -2,7 +2,7 @@
 // lent bytes that it must leave are compared. One line a file.
 #![tactic(auto)]
 
-ghost use Rattle.std.specs.Prelude.{◌≤◌, IfOk, length, vec_len};
+ghost use Rattle.std.specs.Prelude.{◌≡◌, ◌+◌, ◌^◌, ◌≤◌, ◌<◌, IfOk, length, vec_len};
 
 mod call; // the calls
 mod row; // a row's parts
@@ -153,6 +153,24 @@ struct Tally {
     first: Option<Differing>,
 }
 
+impl Tally {
+    // A tally of one more call, with its row's place.
+    fn tallied(self, place: u64, call: u64, same: bool) -> Tally
+        requires { (self.calls < 2 ^ 32) × (self.differ ≤ self.calls) }
+        ensures { (result.calls ≡ self.calls + 1) × (result.differ ≤ result.calls) }
+    {
+        let calls = self.calls + 1;
+        if same {
+            return Tally { calls, ..self };
+        }
+        Tally {
+            calls,
+            differ: self.differ + 1,
+            first: self.first.or(Some(Differing { place, call })),
+        }
+    }
+}
+
 // The number of a row's call, 0 where the row is shorter than a word.
 fn call_number(row: &[u8]) -> u64 {
     if row.len() < 8 {
@@ -164,28 +182,20 @@ fn call_number(row: &[u8]) -> u64 {
 // Makes the calls of a file, at most a million.
 fn replayed<F: Read>(file: &mut F, row: &mut Vec<u8>) -> io::Result<Tally> {
     let mut lent = Lent::new();
-    let mut differ = 0;
-    let mut first = None;
+    let mut tally = Tally {
+        calls: 0,
+        differ: 0,
+        first: None,
+    };
     for place in 0..1000000 {
         let n = read_row(file, row)?;
         if n == 0 {
-            return Ok(Tally {
-                calls: place,
-                differ,
-                first,
-            });
+            return Ok(tally);
         }
-        if !lent.turn(&row[0..n]) {
-            differ += 1;
-            let call = call_number(&row[0..n]);
-            first = first.or(Some(Differing { place, call }));
-        }
+        let same = lent.turn(&row[0..n]);
+        tally = tally.tallied(place, call_number(&row[0..n]), same);
     }
-    Ok(Tally {
-        calls: 1000000,
-        differ,
-        first,
-    })
+    Ok(tally)
 }
 
 // Writes what the replay of a file gave.

@@ -3,3 +3,4 @@ pub mod PayloadLaws
 pub mod Time
 pub mod Refusals
 pub mod RefusalLaws
+pub mod Facts

@@ -3,3 +3,4 @@ pub mod Sets
 pub mod Numbers
 pub mod Zero
 pub mod Lift
+pub mod Facts

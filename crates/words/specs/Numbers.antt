@@ -78,7 +78,7 @@ bytes_of_each (suc n) v (suc k) = bytes_of_each n (v / 256) k
 
 -- ---- std's bytes of a number, and the number of bytes
 
-le_append : (a b : List ℕ) → le (a ++ b) ≡ le a + 256 ^ length a * le b
+pub le_append : (a b : List ℕ) → le (a ++ b) ≡ le a + 256 ^ length a * le b
 unfolding le
 le_append [] b = omega (arith, ap (λ (p : ℕ). p * le b) (pow-zero 256), one-mul (le b))
 le_append (x ∷ a) b =

@@ -1,6 +1,6 @@
--- Made by tools/uniform from proofs.txt, not by hand: 1dd9893aed6f2a05
-use Rattle.sim_owed.specs.Closes.{Seeking}
+-- Made by tools/uniform from proofs.txt, not by hand: 065ec082e8569502
+use Rattle.sim_owed.specs.Closes.{Sought}
 use Rattle.sim_owed.proofs.closes.first_stopped.Given as goal
 
 abbrev pub invariant-loop-k : goal.invariant-loop-k
-invariant-loop-k l = Seeking l.area l.f l.place l.slot l.running l.k
+invariant-loop-k l = Sought l.area l.f l.place l.slot l.running l.k
