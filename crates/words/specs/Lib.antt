@@ -4,3 +4,4 @@ pub mod Numbers
 pub mod Zero
 pub mod Lift
 pub mod Facts
+pub mod Runs

@@ -87,7 +87,9 @@ pub fn copy_from(dst: &mut [u8], at: usize, src: &[u8])
     requires { at + length src.now ≤ length dst.old }
     ensures { dst.new ≡ sets dst.old at src.now }
 {
-    dst[at..at + src.len()].copy_from_slice(src);
+    for (k, byte) in src.iter().enumerate() {
+        dst[at + k] = *byte;
+    }
 }
 
 // Moves the bytes from `at` up to `end` to w places further on. What stands from at to at + w is as it was. So it also copies a part of a
@@ -96,7 +98,9 @@ pub fn open_gap(s: &mut [u8], at: usize, end: usize, w: usize)
     requires { (at ≤ end) × (end + w ≤ length s.old) }
     ensures { s.new ≡ sets s.old (at + w) (take (end - at) (drop at s.old)) }
 {
-    s.copy_within(at..end, at + w);
+    for k in (at..end).rev() {
+        s[k + w] = s[k];
+    }
 }
 
 // Moves the bytes from at + w up to `end` to `at`. What stands in the last w places before end is as it was.
@@ -104,7 +108,11 @@ pub fn close_gap(s: &mut [u8], at: usize, end: usize, w: usize)
     requires { (at + w ≤ end) × (end ≤ length s.old) }
     ensures { s.new ≡ sets s.old at (take (end - (at + w)) (drop (at + w) s.old)) }
 {
-    s.copy_within(at + w..end, at);
+    let from = at + w;
+    let n = end - from;
+    for k in 0..n {
+        s[at + k] = s[from + k];
+    }
 }
 
 // ---- tests
