@@ -79,7 +79,7 @@ module _ (time : SimTime) (check : Check) (detail : List ℕ) (kept : ℕ) (b : 
   }
 
   module _ (t : due ≡ true) where
-    keep_row : (n : ℕ) (b₁ b₂ b₃ : List ℕ) → 2048 ≤ length b → length detail ≤ 5 → kept < 32 → Fits w64 time.0 → Fit detail → n ≡ check_number check
+    pub keep_row : (n : ℕ) (b₁ b₂ b₃ : List ℕ) → 2048 ≤ length b → length detail ≤ 5 → kept < 32 → Fits w64 time.0 → Fit detail → n ≡ check_number check
         → b₁ ≡ sets b (8 * (kept * 8)) (bytes (time.0 ∷ n ∷ length detail ∷ [])) → b₂ ≡ sets b₁ (8 * (kept * 8 + 3)) (bytes detail)
         → b₃ ≡ sets b₂ (8 * (kept * 8 + 3 + length detail)) (replicate (8 * (kept * 8 + 8) - 8 * (kept * 8 + 3 + length detail)) 0)
         → Keeps due time check detail kept (kept + 1) b b₃
