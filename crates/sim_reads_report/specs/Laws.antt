@@ -1,5 +1,5 @@
 -- What the proofs of the reads of a run's report cite. Assumes nothing.
-use Rattle.std.specs.Prelude.{◌≡◌, Bool, false, not, ℕ, ◌^◌, ◌≤◌, ◌<◌, length, Option, None, Some}
+use Rattle.std.specs.Prelude.{◌≡◌, Bool, false, not, ℕ, ◌^◌, ◌≤◌, ◌<◌, length, get_or, Option, None, Some, [], ◌∷◌}
 use Rattle.std.proofs.Math.Path.{refl, sym, ap, ap₂}
 use Rattle.std.proofs.Common.{◌∙◌, arith}
 use Rattle.std.proofs.Math.Bool.{true}
@@ -50,6 +50,21 @@ pub violation_present : (o : Option Violation) (v : Violation) → o ≡ Some v
     → record { refusal = 0; present = 1; time = v.time.0; check = v.check; count = v.count; numbers = v.numbers } ≡ violation_given o
 unfolding violation_given
 violation_present o v e = ap violation_given (sym e)
+
+-- the same, its numbers one by one
+five : (l : List ℕ) → length l ≡ 5 → get_or l 0 0 ∷ get_or l 1 0 ∷ get_or l 2 0 ∷ get_or l 3 0 ∷ get_or l 4 0 ∷ [] ≡ l
+five [] h = absurd (omega arith)
+five (a ∷ []) h = absurd (omega arith)
+five (a ∷ b ∷ []) h = absurd (omega arith)
+five (a ∷ b ∷ c ∷ []) h = absurd (omega arith)
+five (a ∷ b ∷ c ∷ d ∷ []) h = absurd (omega arith)
+five (a ∷ b ∷ c ∷ d ∷ e ∷ []) h = refl
+five (a ∷ b ∷ c ∷ d ∷ e ∷ f ∷ l) h = absurd (omega arith)
+
+pub violation_each : (o : Option Violation) (v : Violation) → o ≡ Some v → length v.numbers ≡ 5
+    → record { refusal = 0; present = 1; time = v.time.0; check = v.check; count = v.count; numbers = get_or v.numbers 0 0 ∷ get_or v.numbers 1 0 ∷ get_or v.numbers 2 0 ∷ get_or v.numbers 3 0 ∷ get_or v.numbers 4 0 ∷ [] } ≡ violation_given o
+unfolding violation_given
+violation_each o v e l = ap (λ (n : List ℕ). record { refusal = 0; present = 1; time = v.time.0; check = v.check; count = v.count; numbers = n }) (five v.numbers l) ∙ ap violation_given (sym e)
 
 violation_same : (o : Option checks.Violation) → violation_given (records.violation_given o) ≡ violation_yes o
 unfolding violation_given records.violation_given

@@ -21,6 +21,7 @@ use Rattle.config.specs.declared.Limits.{Limits}
 use Rattle.std.specs.Prelude.{Result}
 use Rattle.std.specs.Result.{is_ok}
 use Rattle.units.specs.declared.refusal.Refusal.{Refusal}
+use Rattle.units.specs.Refusals.{answer_number}
 use Rattle.units.specs.RefusalLaws.{answered_zero}
 use Rattle.config.specs.Limits.{judge}
 use Rattle.config.specs.Laws.{limits_counts}
@@ -136,6 +137,10 @@ module _ (F : Capacity) (b : List ℕ) (h : Inside b F) (B : Bytes b) where
 pub accepted_ok_lem : (c : SimConfig) (l : Limits) (j : Result (Unit {0}) Refusal) (r : Bool) → j ≡ judge c l → r ≡ is_ok j → r ≡ accepted_ok c l
 unfolding accepted_ok
 accepted_ok_lem c l j r e m = m ∙ ap is_ok e ∙ sym (answered_zero (judge c l))
+
+pub accepted_number : (c : SimConfig) (l : Limits) (j : Result (Unit {0}) Refusal) (n : ℕ) → j ≡ judge c l → n ≡ answer_number j → eqb n 0 ≡ accepted_ok c l
+unfolding accepted_ok
+accepted_number c l j n e m = ap (λ (k : ℕ). eqb k 0) (m ∙ ap answer_number e)
 
 -- the header's nine regions: the numbers of the run and the counts of rows may be any
 pub header_ok : (F : Capacity) (b : List ℕ) (r₀ r₁ r₃ r₄ r₅ r₇ r₈ : Bool) → r₀ ≡ region_ok F b 0 → r₁ ≡ region_ok F b 1 → r₃ ≡ region_ok F b 3 → r₄ ≡ region_ok F b 4 → r₅ ≡ region_ok F b 5 → r₇ ≡ region_ok F b 7 → r₈ ≡ region_ok F b 8
